@@ -1,1 +1,5 @@
 pub mod Signs
+pub mod Lists
+pub mod Spelling
+pub mod Statements
+pub mod Modules

@@ -1,5 +1,5 @@
 -- Tokens by their place, and the signs of the operators with how tightly they bind.
-use Rattle.std.specs.Prelude.{ℕ, List, Option, Some, None, Bool, if◌then◌else◌, ◌≡◌, ◌||◌, codes, slice_get}
+use Rattle.std.specs.Prelude.{ℕ, List, Option, Some, None, Bool, false, if◌then◌else◌, ◌≡◌, ◌||◌, codes, slice_get}
 use Rattle.std.specs.Str.{bytes_eq}
 use Rattle.std.specs.Option.{option_map}
 use Rattle.vlog_tree.specs.declared.expr.Binary.{Binary}
@@ -26,20 +26,24 @@ IsSign ts i sign = kind_at ts i ≡ Some (k.Sign sign)
 abbrev pub IsWord : List Token → ℕ → List ℕ → Type 0
 IsWord ts i word = kind_at ts i ≡ Some (k.Word word)
 
--- the words of the grammar, which are no names
-unfoldable pub is_reserved : List ℕ → Bool
-is_reserved w =
+-- the words of the module grammar
+unfoldable pub is_keyword : List ℕ → Bool
+is_keyword w =
     bytes_eq w (codes "always") || bytes_eq w (codes "assign") || bytes_eq w (codes "begin") || bytes_eq w (codes "case") || bytes_eq w (codes "casez") || bytes_eq w (codes "default") ||
     bytes_eq w (codes "else") || bytes_eq w (codes "end") || bytes_eq w (codes "endcase") || bytes_eq w (codes "endmodule") || bytes_eq w (codes "if") || bytes_eq w (codes "input") ||
     bytes_eq w (codes "localparam") || bytes_eq w (codes "module") || bytes_eq w (codes "negedge") || bytes_eq w (codes "or") || bytes_eq w (codes "output") || bytes_eq w (codes "parameter") ||
-    bytes_eq w (codes "posedge") || bytes_eq w (codes "reg") || bytes_eq w (codes "signed") || bytes_eq w (codes "wire") || bytes_eq w (codes "$signed") || bytes_eq w (codes "$unsigned")
+    bytes_eq w (codes "posedge") || bytes_eq w (codes "reg") || bytes_eq w (codes "signed") || bytes_eq w (codes "wire")
 
--- the binary operators, with their signs
-unfoldable pub infix_of : List ℕ → Option Infix
-infix_of s =
+-- the words that are no names in a text of modules (`set` false) or of a set (`set` true)
+unfoldable pub is_reserved : Bool → List ℕ → Bool
+is_reserved set w = bytes_eq w (codes "$signed") || bytes_eq w (codes "$unsigned") || (if set then false else is_keyword w)
+
+-- the binary operators, with their signs; a set has neither `/` nor `%`
+unfoldable pub infix_of : Bool → List ℕ → Option Infix
+infix_of set s =
     if bytes_eq s (codes "*") then Some (x.Binary b.Mul) else (
-    if bytes_eq s (codes "/") then Some (x.Binary b.Div) else (
-    if bytes_eq s (codes "%") then Some (x.Binary b.Rem) else (
+    if bytes_eq s (codes "/") then (if set then None else Some (x.Binary b.Div)) else (
+    if bytes_eq s (codes "%") then (if set then None else Some (x.Binary b.Rem)) else (
     if bytes_eq s (codes "+") then Some (x.Binary b.Add) else (
     if bytes_eq s (codes "-") then Some (x.Binary b.Sub) else (
     if bytes_eq s (codes "<<") then Some (x.Binary b.Shl) else (
@@ -107,8 +111,8 @@ abbrev pub on_sign : {A : Type 0} → (List ℕ → Option A) → Option Kind �
 on_sign f (Some (k.Sign s)) = f s
 on_sign f _ = None
 
-abbrev pub infix_at : List Token → ℕ → Option Infix
-infix_at ts i = on_sign infix_of (kind_at ts i)
+abbrev pub infix_at : Bool → List Token → ℕ → Option Infix
+infix_at set ts i = on_sign (infix_of set) (kind_at ts i)
 
 abbrev pub unary_at : List Token → ℕ → Option Unary
 unary_at ts i = on_sign unary_of (kind_at ts i)

@@ -1,9 +1,10 @@
 ghost use Rattle.std.specs.Prelude.{◌≡◌};
 ghost use Rattle.std.specs.Str.{bytes_eq};
-ghost use Rattle.vlog_tree.specs.Signs.{infix_of, unary_of, cast_of, span_of, is_reserved, binary_level, infix_level};
+ghost use Rattle.vlog_tree.specs.Signs.{infix_of, unary_of, cast_of, span_of, is_keyword, is_reserved, binary_level, infix_level};
 
 use crate::expr::{Binary, Cast, Infix, Span, Unary};
 
+/// Whether two texts are one.
 pub fn is(sign: &[u8], text: &[u8]) -> bool
     ensures { result ≡ bytes_eq sign.now text.now }
 {
@@ -31,6 +32,7 @@ impl Binary {
 }
 
 impl Infix {
+    /// How tightly it binds: 1 for `?`, else the level of the binary operator.
     pub fn level(self) -> u8
         ensures { result ≡ infix_level self }
     {
@@ -40,17 +42,25 @@ impl Infix {
         }
     }
 
-    /// The operator that a sign is between two operands.
+    /// The operator that a sign is between two operands, in a text of modules or, where `set` is true, of a set: a set has neither `/` nor `%`.
     #[tactic(auto, unfolding(crate::specs::Signs::infix_of))]
-    pub fn of_sign(sign: &[u8]) -> Option<Infix>
-        ensures { result ≡ infix_of sign.now }
+    pub fn of_sign(set: bool, sign: &[u8]) -> Option<Infix>
+        ensures { result ≡ infix_of set sign.now }
     {
         if is(sign, b"*") {
             Some(Infix::Binary(Binary::Mul))
         } else if is(sign, b"/") {
-            Some(Infix::Binary(Binary::Div))
+            if set {
+                None
+            } else {
+                Some(Infix::Binary(Binary::Div))
+            }
         } else if is(sign, b"%") {
-            Some(Infix::Binary(Binary::Rem))
+            if set {
+                None
+            } else {
+                Some(Infix::Binary(Binary::Rem))
+            }
         } else if is(sign, b"+") {
             Some(Infix::Binary(Binary::Add))
         } else if is(sign, b"-") {
@@ -120,6 +130,7 @@ impl Unary {
 }
 
 impl Cast {
+    /// The cast that a word is.
     #[tactic(auto, unfolding(crate::specs::Signs::cast_of))]
     pub fn of_word(word: &[u8]) -> Option<Cast>
         ensures { result ≡ cast_of word.now }
@@ -135,6 +146,7 @@ impl Cast {
 }
 
 impl Span {
+    /// The kind of part-select that a sign between its two expressions says.
     #[tactic(auto, unfolding(crate::specs::Signs::span_of))]
     pub fn of_sign(sign: &[u8]) -> Option<Span>
         ensures { result ≡ span_of sign.now }
@@ -148,10 +160,10 @@ impl Span {
     }
 }
 
-/// Whether the grammar uses a word.
-#[tactic(auto, unfolding(crate::specs::Signs::is_reserved))]
-pub fn is_reserved(word: &[u8]) -> bool
-    ensures { result ≡ is_reserved word.now }
+/// Whether a word is one of the module grammar.
+#[tactic(auto, unfolding(crate::specs::Signs::is_keyword))]
+fn is_keyword(word: &[u8]) -> bool
+    ensures { result ≡ is_keyword word.now }
 {
     is(word, b"always")
         || is(word, b"assign")
@@ -175,6 +187,13 @@ pub fn is_reserved(word: &[u8]) -> bool
         || is(word, b"reg")
         || is(word, b"signed")
         || is(word, b"wire")
-        || is(word, b"$signed")
-        || is(word, b"$unsigned")
+}
+
+/// Whether a word is no name. In a text of modules these are the words of the grammar, `$signed` and `$unsigned`; in a set
+/// (`set` is true) `$signed` and `$unsigned` alone.
+#[tactic(auto, unfolding(crate::specs::Signs::is_reserved))]
+pub fn is_reserved(set: bool, word: &[u8]) -> bool
+    ensures { result ≡ is_reserved set word.now }
+{
+    is(word, b"$signed") || is(word, b"$unsigned") || (if set { false } else { is_keyword(word) })
 }
