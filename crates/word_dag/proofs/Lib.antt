@@ -12,3 +12,4 @@ pub mod Tracing
 pub mod Telling
 pub mod Texts
 pub mod Namings
+pub mod Sources

@@ -3,6 +3,7 @@ ghost use Rattle.std.specs.Prelude.{◌≡◌, ◌<◌, ◌==◌, [], length, ma
 ghost use Rattle.word_dag.specs.Nodes.{FitFrom, IsSmall, width_at, width_of};
 ghost use Rattle.word_dag.specs.Walks.{operands, renumbered, place_of, first_open, Each, MeansSame};
 ghost use Rattle.word_dag.specs.Given.{RootsAgree};
+ghost use Rattle.word_dag.specs.Adding.{IsDistinct, HasDistinctFrees};
 ghost use Rattle.word_dag.specs.Order.{taken_out};
 
 use crate::dag::Dag;
@@ -116,11 +117,13 @@ fn placed(alloc: Global, node: &Node, places: &[u64]) -> Result<Node, AllocError
 // The obligation of a node of these, which `extract` takes from a dag.
 fn walk(alloc: Global, dag: &[Node], root: u64) -> Result<Ob, AllocError>
     requires nodes { FitFrom [] dag.now }
+    requires distinct { IsDistinct dag.now }
     requires root_in { root < length dag.now }
     requires one_bit { width_at dag.now root ≡ 1 }
     ensures exact { IfOk result (λ ob. ob ≡ taken_out dag.now root) }
     ensures value { IfOk result (λ ob. MeansSame dag.now root ob.nodes ob.root) }
     ensures at_values { IfOk result (λ ob. RootsAgree dag.now root ob.nodes ob.root) }
+    ensures distinct { IfOk result (λ ob. HasDistinctFrees ob.nodes) }
 {
     let mut places = vec![in alloc; 0u64; dag.len()]?;
     let mut nodes = Vec::new(alloc);
@@ -150,6 +153,7 @@ pub fn extract(alloc: Global, dag: &Dag, root: u64) -> Result<Ob, AllocError>
     ensures exact { IfOk result (λ ob. ob ≡ taken_out dag.now root) }
     ensures value { IfOk result (λ ob. MeansSame dag.now root ob.nodes ob.root) }
     ensures at_values { IfOk result (λ ob. RootsAgree dag.now root ob.nodes ob.root) }
+    ensures distinct { IfOk result (λ ob. HasDistinctFrees ob.nodes) }
 {
     walk(alloc, dag.nodes(), root)
 }
