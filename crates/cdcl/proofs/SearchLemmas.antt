@@ -1,5 +1,5 @@
 use Rattle.std.specs.Prelude.{OnOk}
-use Rattle.std.proofs.Common.{Result, Ok, Err, ◌≡◌, ◌<◌, ◌-◌, ◌≤◌, ℕ, List, [], ◌∷◌, ◌++◌, map, take, Some, None, get_or, arith, sym, ◌∙◌, ap, subst, refl, length, Contains, inl, inr, All, append_assoc, length-take}
+use Rattle.std.proofs.Common.{Result, Ok, Err, ◌≡◌, ◌<◌, ◌-◌, ◌≤◌, ℕ, zero, suc, List, [], ◌∷◌, ◌++◌, map, take, Some, None, get_or, arith, sym, ◌∙◌, ap, subst, refl, length, Contains, inl, inr, All, append_assoc, length-take}
 use Rattle.std.specs.Option.{IfSome}
 use Rattle.std.proofs.lemmas.Bool.{cases_lt, cases_eq}
 use Rattle.std.proofs.lemmas.Option.{IfSome_then}
@@ -9,7 +9,7 @@ use Rattle.clause_check.specs.declared.literal.Lit.{Lit}
 use Rattle.clause_check.specs.declared.formula.Step.{Step}
 use Rattle.clause_check.specs.declared.formula.Cnf.{Cnf}
 use Rattle.clause_check.specs.Clauses.{negated}
-use Rattle.clause_check.specs.Derivations.{clause_at, clauses_of}
+use Rattle.clause_check.specs.Derivations.{Refutes, clause_at, clauses_of}
 use Rattle.cdcl.specs.declared.trail.Entry.{Entry}
 use Rattle.cdcl.specs.declared.learn.Learnt.{Learnt}
 use Rattle.cdcl.specs.Closed.{Avoids, IsMet, IsHonest, IsHonestStep}
@@ -232,3 +232,39 @@ search_at cnf vars vars' entries entries' starts starts' steps steps' v e s t se
 pub both_ok : {A E P Q R : Type 0} (r : Result A E) → OnOk r P → OnOk r Q → (P → Q → R) → OnOk r R
 both_ok (Ok x) p q f = f p q
 both_ok (Err e) p q f = tt
+
+-- the trail before the first choice
+module _ (cnf : Cnf) (vars : ℕ) (entries : List Entry) (starts : List ℕ) (steps : List Step) (s : IsSearch cnf vars entries starts steps) (some : 0 < length starts) where
+  abbrev root : ℕ
+  root = get_or starts 0 0
+
+  forced_below : (p : ℕ) → p < root → Contains starts p → ⊥
+  forced_below p lt c =
+      let at : get_or starts c.0 0 ≡ p = get_or_default starts c.0 0 p c.1 ∙ c.2 in
+      elim (cases_eq 0 c.0) [
+        | inl e ↦ let same = ap (λ k. get_or starts k 0) e in omega arith
+        | inr ne ↦ let r = s.rising 0 c.0 (omega arith) c.1 in omega arith
+      ]
+
+  pub search_restart : IsTrail vars (take root entries) → IsSearch cnf vars (take root entries) [] steps
+  search_restart trail =
+      record {
+        vars_are = s.vars_are;
+        trail = trail;
+        honest = s.honest;
+        reasons = reasons_take (clauses_of cnf.clauses.items steps) entries root s.reasons;
+        chosen = λ p d lt none.
+            let below : p < root = omega (arith, length-take root entries) in
+            absurd (forced_below p below (s.chosen p d (omega (arith, length-take root entries)) (ap (λ (x : Entry). x.reason) (sym (get_or-take root entries p d below)) ∙ none)));
+        rising = λ i j lt inside. absurd (omega (arith, inside));
+        within = λ i inside. absurd (omega (arith, inside));
+        closed = λ i inside. absurd (omega (arith, inside));
+      }
+
+-- the hints of a step name clauses
+pub hints_known : (cs : List (List Lit)) (known : List Lit) (hints : List ℕ) → Refutes cs known hints → (k : ℕ) (d : ℕ) → k < length hints → get_or hints k d < length cs
+hints_known cs known [] r k d lt = absurd r
+hints_known cs known (h ∷ []) r zero d lt = r.0
+hints_known cs known (h ∷ []) r (suc k) d lt = absurd (omega (arith, lt))
+hints_known cs known (h ∷ g ∷ hs) r zero d lt = r.0
+hints_known cs known (h ∷ g ∷ hs) r (suc k) d lt = hints_known cs ((r.1).0 ∷ known) (g ∷ hs) (r.1).2 k d (omega (arith, lt))

@@ -34,6 +34,13 @@ pub record Chooses (cnf : Cnf) (old new : Search) : Type 0 where
   pub lit : Lit
   pub entries : new.trail.entries ≡ old.trail.entries ++ record { lit = lit; reason = None } ∷ []
 
+-- the trail as it was before the first choice
+pub record Restarts (cnf : Cnf) (old new : Search) : Type 0 where
+  pub stands : Stands cnf new
+  pub steps : new.steps ≡ old.steps
+  pub starts : new.starts.items ≡ []
+  pub entries : new.trail.entries ≡ take (slice_index_or old.starts.items 0 0) old.trail.entries
+
 -- one more step, and the trail as it was where the level after the bound began, with the learnt literal
 pub record Jumps (cnf : Cnf) (old new : Search) (l : Learnt) : Type 0 where
   pub stands : Stands cnf new

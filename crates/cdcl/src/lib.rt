@@ -5,6 +5,7 @@ mod conflict;
 mod learn;
 mod lists;
 mod order;
+mod restarts;
 mod search;
 mod solver;
 #[cfg(test)]

@@ -1,10 +1,20 @@
-use Rattle.std.proofs.Common.{◌-◌, length, subst, sym}
+use Rattle.std.proofs.Common.{ℕ, get_or, map, ◌<◌, ◌-◌, length, subst, sym}
 use Rattle.std.proofs.lemmas.Result.{on_ok_weaker}
 use Rattle.clause_check.specs.Derivations.{clause_at, clauses_of}
+use Rattle.clause_check.specs.Clauses.{negated}
+use Rattle.cdcl.proofs.SearchLemmas.{hints_known}
 use Rattle.cdcl.specs.Turns.{IsPart}
 use Rattle.cdcl.specs.Watching.{IsKept}
 use Rattle.cdcl.proofs.BeginLemmas.{part_jump, learnt_is, learnt_second, learnt_kept, learns_from}
 use Rattle.cdcl.proofs.solver.Solver.learn.Goals as goal
+
+pub bump_clauses-requires-clause-known : goal.bump_clauses-requires-clause-known
+bump_clauses-requires-clause-known c =
+    let s = c.args.self.now.search in let l = c.in_ok-learnt.learnt in
+    let implied = ((c.in_ok-learnt.ensures).2).honest.implied.implied in
+    subst (λ hs. (k : ℕ) (d : ℕ) → k < length hs → get_or hs k d < length (clauses_of c.args.cnf.now.clauses.items c.as_slice.result.now)) (sym c.as_slice-2.ensures.value)
+    (subst (λ ss. (k : ℕ) (d : ℕ) → k < length l.step.hints.items → get_or l.step.hints.items k d < length (clauses_of c.args.cnf.now.clauses.items ss)) (sym c.as_slice.ensures.value)
+    (hints_known (clauses_of c.args.cnf.now.clauses.items s.steps.items) (map negated l.step.clause) l.step.hints.items implied))
 
 pub watch-requires-clause-part : goal.watch-requires-clause-part
 watch-requires-clause-part c =
