@@ -1,4 +1,4 @@
-use Rattle.std.proofs.Common.{◌≡◌, ◌≢◌, ◌<◌, ◌+◌, ℕ, Bool, true, false, List, [], ◌∷◌, take, set, None, get_or, arith, sym, ◌∙◌, ap, subst, refl, length, inl, inr, Contains, length-take}
+use Rattle.std.proofs.Common.{◌⊎◌, ◌≤◌, ◌≡◌, ◌≢◌, ◌<◌, ◌+◌, ℕ, Bool, true, false, List, [], ◌∷◌, take, set, None, get_or, arith, sym, ◌∙◌, ap, subst, refl, length, inl, inr, Contains, length-take}
 use Rattle.std.proofs.lemmas.Bool.{cases_eq, cases_order}
 use Rattle.std.proofs.lemmas.List.{get_or-set_same, get_or-set_other, get_or_default, get_or-take}
 use Rattle.clause_check.specs.declared.literal.Lit.{Lit}
@@ -8,7 +8,7 @@ use Rattle.clause_check.proofs.Members.{contains_cons_cases, contains_here, cont
 use Rattle.clause_check.proofs.RefuteLemmas.{cases_lit, refutes_unit}
 use Rattle.cdcl.specs.declared.trail.Entry.{Entry}
 use Rattle.cdcl.specs.Trails.{lits_of, IsTrail, IsPlaceOf, IsAssigned}
-use Rattle.cdcl.specs.Marking.{IsForcedBy, IsSeen, Marks, Explains}
+use Rattle.cdcl.specs.Marking.{IsForcedBy, IsSeen, Marks, Explains, ExplainsFrom, IsAllowed}
 use Rattle.cdcl.proofs.TrailLemmas.{contains_at, place_of_lit}
 
 -- the place of a literal of a trail's front
@@ -126,3 +126,69 @@ module _ (clauses : List (List Lit)) (entries : List Entry) (vars : ℕ) (t : Is
   pub explains_after : (hints : List ℕ) → Explains clauses entries (p + 1) seen hints → Explains clauses entries p after (reason ∷ hints)
   explains_after hints e k sub sup =
       (refutes_unit clauses k reason hints lit forced.known (forces hints k sub sup)).1 (e (lit ∷ k) (sub_more hints k sub sup) (sup_more hints k sub sup))
+
+  -- a marked place is one that was seen, or is not past p
+  marked_cases : (q : ℕ) → IsSeen marked q → IsSeen seen q ⊎ (q ≤ p)
+  marked_cases q s = elim (marks.only q s) [
+    | inl old ↦ inl old
+    | inr m ↦
+        let at = m.2 in
+        elim (cases_lit m.0 lit) [
+          | inl e ↦ let same : q ≡ p = same_place vars entries t q p z at.within within (at.is z ∙ ap (λ (l : Lit). l.var) e) in inr (omega arith)
+          | inr other ↦
+              let o = other_of m.0 m.1 other in
+              let same : q ≡ o.0 = same_place vars entries t q o.0 z at.within o.2 (at.is z ∙ sym (ap (λ (l : Lit). l.var) (o.3 z))) in
+              inr (omega (arith, o.1))
+        ]
+  ]
+
+  gone : IsSeen after p → ⊥
+  gone s = let bad : false ≡ true = sym (get_or-set_same marked p false false (omega arith)) ∙ s in cc
+
+  module _ (k : List Lit) (sub : (m : Lit) → Contains k m → IsAllowed entries p after m) (sup : (q : ℕ) (d : Entry) → IsSeen after q → Contains k (get_or entries q d).lit) where
+    no_literal : (m : Lit) → m.var ≡ lit.var → Contains k m → ⊥
+    no_literal m e h =
+        let o = sub m h in
+        let same : o.0 ≡ p = same_place vars entries t o.0 p z o.1 within (ap (λ (l : Lit). l.var) (o.3 z) ∙ e) in
+        elim o.2 [ inl lt ↦ omega arith | inr s ↦ gone (subst (IsSeen after) same s) ]
+
+    forces_below : Forces k (clause_at clauses reason) lit
+    forces_below =
+        record {
+          among = forced.among;
+          not_true = λ h. no_literal lit refl h;
+          not_false = λ h. no_literal (negated lit) refl h;
+          others = λ m h ne.
+              let o = other_of m h ne in
+              let apart : o.0 ≢ p = omega (arith, o.1) in
+              let at : IsPlaceOf entries m.var o.0 = record { within = o.2; is = λ d. ap (λ (l : Lit). l.var) (o.3 d) } in
+              subst (Contains k) (o.3 z) (sup o.0 z (seen_still o.0 apart (marks.marked m o.0 h at)));
+        }
+
+    allowed_more : (m : Lit) → Contains (lit ∷ k) m → IsAllowed entries (p + 1) seen m
+    allowed_more m h = elim (contains_cons_cases lit k m h) [
+      | inl c ↦
+          let o = sub m c in
+          let found : (o.0 < p + 1) ⊎ IsSeen seen o.0 = elim o.2 [
+            | inl lt ↦ inl (omega arith)
+            | inr s ↦ elim (marked_cases o.0 (not_at o.0 (λ e. gone (subst (IsSeen after) e s)) s)) [ inl old ↦ inr old | inr le ↦ inl (omega arith) ]
+          ] in
+          (o.0, o.1, found, o.3)
+      | inr e ↦ (p, within, inl (omega arith), λ d. ap (λ (x : Entry). x.lit) (get_or_default entries p d z within) ∙ e)
+    ]
+
+    sup_below : (q : ℕ) (d : Entry) → IsSeen seen q → Contains (lit ∷ k) (get_or entries q d).lit
+    sup_below q d s = elim (cases_eq q p) [
+      | inl e ↦ subst (λ (x : Entry). Contains (lit ∷ k) x.lit) (get_or_default entries p z d within ∙ ap (λ r. get_or entries r d) (sym e)) (contains_here lit k)
+      | inr ne ↦ contains_there lit k (get_or entries q d).lit (sup q d (seen_still q ne (marks.kept q s)))
+    ]
+
+  pub explains_below : (hints : List ℕ) → ExplainsFrom clauses entries (p + 1) seen hints → ExplainsFrom clauses entries p after (reason ∷ hints)
+  explains_below hints e k sub sup =
+      (refutes_unit clauses k reason hints lit forced.known (forces_below k sub sup)).1 (e (lit ∷ k) (allowed_more k sub sup) (sup_below k sub sup))
+
+  pub cut_below : (start cut : ℕ) → p < start → start ≤ cut → IsSeen seen cut → IsSeen after cut
+  cut_below start cut lt le s = seen_still cut (omega arith) (marks.kept cut s)
+
+  pub alone_below : (start cut : ℕ) → p < start → ((q : ℕ) → IsSeen seen q → start ≤ q → q ≡ cut) → (q : ℕ) → IsSeen after q → start ≤ q → q ≡ cut
+  alone_below start cut lt alone q s le = elim (marked_cases q (not_at q (omega arith) s)) [ inl old ↦ alone q old le | inr late ↦ absurd (omega arith) ]

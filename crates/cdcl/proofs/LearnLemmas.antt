@@ -15,7 +15,7 @@ use Rattle.cdcl.specs.declared.conflict.Conflict.{Conflict}
 use Rattle.cdcl.specs.Closed.{Avoids, IsMet, IsNewAt}
 use Rattle.cdcl.specs.Trails.{lits_of, IsTrail, IsPlaceOf}
 use Rattle.cdcl.specs.Marking.{IsSeen, IsLearnt, open_count}
-use Rattle.cdcl.specs.Conflicts.{IsCut}
+use Rattle.cdcl.specs.Conflicts.{IsReduced}
 use Rattle.cdcl.specs.Search.{IsConflict, IsLesson}
 use Rattle.cdcl.proofs.TrailLemmas.{avoids_from_vars, place_of_lit, contains_at}
 use Rattle.cdcl.proofs.FollowLemmas.{place_in_take, take_contains, same_place}
@@ -126,7 +126,7 @@ pending_from_closed clauses vars entries t start number closed c seen marked =
           some_count (drop start seen) (p.0 - start) (in_level start seen p.0 late (marked l p.0 h.first at))
     ]
 
-module _ (cnf : Cnf) (steps : List Step) (vars : ℕ) (entries : List Entry) (t : IsTrail vars entries) (same_vars : vars ≡ cnf.vars) (start : ℕ) (closed : All (IsMet (lits_of (take start entries))) (clauses_of cnf.clauses.items steps)) (c : Conflict) (cut : ℕ) (is : IsCut (clauses_of cnf.clauses.items steps) entries start c cut) (z : Entry) (step : Step) (bound : ℕ) (learnt : IsLearnt entries start cut c.seen.items step.clause bound) (hints : step.hints.items ≡ reverse c.hints.items) where
+module _ (cnf : Cnf) (steps : List Step) (vars : ℕ) (entries : List Entry) (t : IsTrail vars entries) (same_vars : vars ≡ cnf.vars) (start : ℕ) (closed : All (IsMet (lits_of (take start entries))) (clauses_of cnf.clauses.items steps)) (c : Conflict) (cut : ℕ) (is : IsReduced (clauses_of cnf.clauses.items steps) entries start cut 0 c) (z : Entry) (step : Step) (bound : ℕ) (learnt : IsLearnt entries start cut c.seen.items step.clause bound) (hints : step.hints.items ≡ reverse c.hints.items) where
   abbrev lit : Lit
   lit = negated (get_or entries cut z).lit
 
@@ -149,14 +149,14 @@ module _ (cnf : Cnf) (steps : List Step) (vars : ℕ) (entries : List Entry) (t 
         in_range = λ k d lt. var_in_range (get_or step.clause k d) (Contains-get_or step.clause k d lt);
         implied =
             subst (λ hs. Refutes clauses (map negated step.clause) hs) (sym hints)
-            (is.followed.explains (map negated step.clause)
+            (is.explains (map negated step.clause)
             (λ m h.
             let x = map_from negated step.clause lit m h in
             let o = learnt.only x.0 x.1 in
-            let e : (get_or entries o.0 z).lit ≡ m = sym (negated-negated (get_or entries o.0 z).lit) ∙ (ap negated (sym (o.2 z)) ∙ x.2) in
             let w = only_within x.0 x.1 in
-            subst (Contains (lits_of (take (cut + 1) entries))) e (take_contains entries (cut + 1) o.0 z w (omega (arith, is.within))))
-            (λ q d lt s.
+            let there : IsSeen c.seen.items o.0 = elim o.1 [ inl e ↦ subst (IsSeen c.seen.items) (sym e) is.seen | inr f ↦ f.1 ] in
+            (o.0, omega (arith, w, is.within), inr there, λ d. sym (negated-negated (get_or entries o.0 d).lit) ∙ (ap negated (sym (o.2 d)) ∙ x.2)))
+            (λ q d s.
             let among : Contains step.clause (negated (get_or entries q d).lit) = elim (cases_lt q start) [
               | inl early ↦ learnt.rest q d early s
               | inr late ↦ subst (λ r. Contains step.clause (negated (get_or entries r d).lit)) (sym (is.alone q s late)) (learnt.head d)

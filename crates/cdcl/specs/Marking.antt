@@ -36,6 +36,17 @@ Explains clauses entries p seen hints =
     → ((q : ℕ) (d : Entry) → q < p → IsSeen seen q → Contains known (slice_index_or entries q d).lit)
     → Refutes clauses known hints
 
+-- the literal stands before p, or at a seen place
+abbrev pub IsAllowed : List Entry → ℕ → List Bool → Lit → Type 0
+IsAllowed entries p seen m = (q : ℕ) × (q < length entries) × ((q < p) ⊎ IsSeen seen q) × ((d : Entry) → (slice_index_or entries q d).lit ≡ m)
+
+-- Any literals before p or at seen places, with all those at seen places among them, are refuted by the hints.
+abbrev pub ExplainsFrom : List (List Lit) → List Entry → ℕ → List Bool → List ℕ → Type 0
+ExplainsFrom clauses entries p seen hints =
+    (known : List Lit) → ((m : Lit) → Contains known m → IsAllowed entries p seen m)
+    → ((q : ℕ) (d : Entry) → IsSeen seen q → Contains known (slice_index_or entries q d).lit)
+    → Refutes clauses known hints
+
 -- each literal past this place was forced
 abbrev pub IsForcedPast : List Entry → ℕ → Type 0
 IsForcedPast entries start = (p : ℕ) (d : Entry) → start < p → p < length entries → (slice_index_or entries p d).reason ≡ None → ⊥

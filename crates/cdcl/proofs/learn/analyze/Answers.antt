@@ -22,7 +22,7 @@ follow_to_cut-requires-clause-pending c =
 pub returns : goal.returns
 returns c =
     let entries = c.args.trail.now.entries in
-    let conflict = c.follow_to_cut.new.self in
+    let conflict = c.reduce.new.self in
     let cut = c.in_ok-cut.cut in
     let hints : c.reverse.new.self.items ≡ reverse conflict.hints.items = c.reverse.ensures.items ∙ ap (λ (v : Vec ℕ Global). reverse v.items) c.into_hints-hints.ensures in
     let lit : c.negated-lit.result ≡ negated (get_or entries cut z).lit = c.negated-lit.ensures ∙ ap (λ es. negated (get_or es cut z).lit) c.entries.ensures.entries in
@@ -30,4 +30,4 @@ returns c =
     let learnt : IsLearnt entries c.args.start cut conflict.seen.items step.clause c.in_ok-clause.bound =
     subst (λ s. IsLearnt entries c.args.start cut s step.clause c.in_ok-clause.bound) c.as_slice.ensures.value c.in_ok-clause.ensures in
     subst (λ (l : Lit). IsLesson c.args.cnf.now c.args.steps.now entries c.args.start (record { step = step; lit = l; bound = c.in_ok-clause.bound })) (sym lit)
-    (lesson c.args.cnf.now c.args.steps.now c.args.trail.now.vars entries c.requires.trail c.requires.vars c.args.start c.requires.closed conflict cut c.in_ok-cut.ensures z step c.in_ok-clause.bound learnt hints)
+    (lesson c.args.cnf.now c.args.steps.now c.args.trail.now.vars entries c.requires.trail c.requires.vars c.args.start c.requires.closed conflict cut c.in_ok-reduce.ensures z step c.in_ok-clause.bound learnt hints)
