@@ -1,0 +1,15 @@
+pub mod Numbers
+pub mod Runs
+pub mod Adders
+pub mod Rows
+pub mod Equals
+pub mod Moves
+pub mod Products
+pub mod Comparisons
+pub mod Wires
+pub mod Nets
+pub mod Tseitin
+pub mod Exists
+pub mod Loops
+pub mod InRange
+pub mod Tidying

@@ -1,0 +1,61 @@
+//! Clauses with each literal once.
+ghost use Rattle.std.specs.Prelude.{◌≡◌, IfOk};
+ghost use Rattle.bit_circuits.specs.Literals.{plus, minus, same_lit, has_lit, tidy};
+
+use clause_check::{Clause, Lit};
+use std::alloc::{AllocError, Global};
+
+/// The literal that is true where the variable is.
+pub fn positive(var: u64) -> Lit
+    ensures { result ≡ plus var }
+{
+    Lit {
+        var,
+        negative: false,
+    }
+}
+
+/// The literal that is true where the variable is false.
+pub fn negative(var: u64) -> Lit
+    ensures { result ≡ minus var }
+{
+    Lit {
+        var,
+        negative: true,
+    }
+}
+
+fn is_same(a: Lit, b: Lit) -> bool
+    ensures { result ≡ same_lit a b }
+{
+    a.var == b.var && a.negative == b.negative
+}
+
+fn has(lits: &[Lit], lit: Lit) -> bool
+    ensures { result ≡ has_lit lits.now lit }
+{
+    for l in lits {
+        if is_same(*l, lit) {
+            return true;
+        }
+    }
+    false
+}
+
+/// The clause of these literals, each once and in the order of their first places, or none where a literal stands beside its
+/// negation, so that the clause holds in any case. It is refused for want of memory alone.
+pub fn tidy_clause(alloc: Global, lits: &[Lit]) -> Result<Option<Clause>, AllocError>
+    ensures { IfOk result (λ o. o ≡ tidy lits.now) }
+{
+    let mut kept = Vec::new(alloc);
+    for i in 0..lits.len() {
+        let lit = lits[i];
+        if has(&kept, lit.negated()) {
+            return Ok(None);
+        }
+        if !has(&kept, lit) {
+            kept.push(lit)?;
+        }
+    }
+    Ok(Some(Clause::new(kept)))
+}

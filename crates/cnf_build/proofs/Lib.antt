@@ -1,0 +1,14 @@
+pub mod Ops
+pub mod Nodes
+pub mod Root
+pub mod Sound
+pub mod Choice
+pub mod Joined
+pub mod ClauseLoop
+pub mod Tops
+pub mod Table
+pub mod BitLoops
+pub mod LowerLoop
+pub mod BitLists
+pub mod Carrying
+pub mod Bridging

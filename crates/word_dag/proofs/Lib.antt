@@ -1,0 +1,15 @@
+pub mod Operands
+pub mod Widths
+pub mod Filling
+pub mod NodeValues
+pub mod Walking
+pub mod IndexKeys
+pub mod SameNodes
+pub mod Finding
+pub mod Constants
+pub mod Valued
+pub mod Tracing
+pub mod Telling
+pub mod Texts
+pub mod Namings
+pub mod Sources

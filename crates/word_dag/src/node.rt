@@ -1,0 +1,71 @@
+//! One node: a word by itself, or an operation on earlier nodes.
+use outside::Text;
+use word_core::Word;
+
+/// An operation on two words, as `word_core::Word` has it. `Shl`, `Shr` and `Sar` take a second word of any width, `Ult`, `Slt`
+/// and `Eq` give one bit, and all others have operands of the node's width; `Concat` has the first word's bits above the second's.
+#[derive(Clone, Copy, PartialEq, Eq, Debug)]
+pub enum Op {
+    Add,
+    Sub,
+    Mul,
+    And,
+    Or,
+    Xor,
+    Shl,
+    Shr,
+    Sar,
+    Ult,
+    Slt,
+    Eq,
+    Concat,
+}
+
+/// A node: a word of `width` bits. `a`, `b` and `c` are numbers of earlier nodes.
+#[derive(Drop)]
+pub enum Node {
+    /// A free word: an input or a first register value in one trace (`side` 0 or 1) at one cycle, negative in reset cycles.
+    Free {
+        name: Text,
+        width: u8,
+        side: u8,
+        cycle: i16,
+    },
+    /// A constant.
+    Const(Word),
+    /// An operation on two words.
+    Two {
+        op: Op,
+        width: u8,
+        a: u64,
+        b: u64,
+    },
+    /// Each bit turned.
+    Not {
+        width: u8,
+        a: u64,
+    },
+    /// The bits of `a` from `lo` on.
+    Slice {
+        width: u8,
+        a: u64,
+        lo: u8,
+    },
+    /// The word with zeros above it.
+    Zext {
+        width: u8,
+        a: u64,
+    },
+    /// The word with copies of its top bit above it.
+    Sext {
+        width: u8,
+        a: u64,
+    },
+    /// The choice: `a` where the bit `c` is 1, else `b`.
+    Mux {
+        width: u8,
+        c: u64,
+        a: u64,
+        b: u64,
+    },
+}
