@@ -10,7 +10,8 @@ use Rattle.vlog_tree.specs.declared.expr.Expr.{Expr, Row_of-Expr, end_of-Expr, m
 use Rattle.vlog_tree.specs.declared.expr.Expr.TheVariants as e
 use Rattle.vlog_tree.specs.Signs.{IsSign, infix_at, infix_level, binary_level, is_reserved, cast_of, cast_at, span_at, on_word}
 use Rattle.vlog_tree.specs.Spelling.{level, height, heights, IsIdentifier, IsName, NoSuffix, Spells, SpellsList, SpellsMore}
-use Rattle.vlog_spell.proofs.Names.{NoPath, bracket_no_path, one_name as same_name, name_begins}
+use Rattle.vlog_spell.specs.Growing.{NoPath}
+use Rattle.vlog_spell.proofs.Names.{bracket_no_path, one_name as same_name, name_begins}
 use Rattle.vlog_spell.proofs.Rows.{list_of, concat_is, repeat_is}
 use Rattle.vlog_spell.proofs.Tokens.{First, number, word, paren, brace, unary, nothing, first_at, Stops, stops_paren, stops_bracket, stops_brace, stops_comma, stops_colon, infix_no_suffix, binary_low, binary_high, stops_open_brace, stops_span, no_span, cast_reserved, two_signs}
 use Rattle.vlog_spell.proofs.Forms.{height_pos, length_of, left_end, BinaryForm, ChoiceForm, form, binary_of, choice_of, select_of, part_of, cast_tree, paren_of, unary_tree, CastForm, NamedForm, RepeatForm, ConcatForm, Begun, begun}

@@ -6,3 +6,9 @@ pub mod Forms
 pub mod Compare
 pub mod Reading
 pub mod Made
+pub mod Parts
+pub mod Lvals
+pub mod Declarations
+pub mod PortItems
+pub mod Statements
+pub mod Modules

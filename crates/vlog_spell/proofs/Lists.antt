@@ -1,42 +1,34 @@
 -- Lists with separators between, whatever their parts are: P i x j says that the tokens from i up to j read as x, and are the only ones that do.
 use Rattle.std.proofs.Common.{ℕ, ◌+◌, ◌≡◌, ◌≤◌, max, ◌⊎◌, inl, inr, List, [], ◌∷◌, ◌++◌, refl, sym, ap, subst, ◌∙◌, append_assoc, arith}
 use Rattle.vlog_tree.specs.Lists.{More, Separated, Sequence, Maybe, highest}
+use Rattle.vlog_spell.specs.Growing.{ReadsMore, ReadsList}
 use Rattle.std.specs.Prelude.{Option, Some, None}
 
 module _ {A : Type 0} (h : A → ℕ) (sep : ℕ → Type 0) (P : ℕ → A → ℕ → Type 0)
     (unique : (i : ℕ) (a : A) (j : ℕ) (b : A) (k : ℕ) → P i a j → P i b k → (a ≡ b) × (j ≡ k)) where
-  -- a list that no separator follows
-  abbrev pub ReadsMore : ℕ → List A → ℕ → Type 0
-  ReadsMore i [] j = (i ≡ j) × (sep i → ⊥)
-  ReadsMore i (x ∷ xs) j = (m : ℕ) × sep i × P (i + 1) x m × ReadsMore m xs j
-
-  abbrev pub ReadsList : ℕ → List A → ℕ → Type 0
-  ReadsList i [] j = ⊥
-  ReadsList i (x ∷ xs) j = (m : ℕ) × P i x m × ReadsMore m xs j
-
-  pub more_reads : (xs : List A) (i j : ℕ) → More sep P i xs j → (sep j → ⊥) → ReadsMore i xs j
+  pub more_reads : (xs : List A) (i j : ℕ) → More sep P i xs j → (sep j → ⊥) → ReadsMore sep P i xs j
   more_reads [] i j p last = (p, λ s. last (subst sep p s))
   more_reads (x ∷ xs) i j p last = (p.0, p.1, p.2, more_reads xs p.0 j p.3 last)
 
-  pub reads_more : (xs : List A) (i j : ℕ) → ReadsMore i xs j → More sep P i xs j
+  pub reads_more : (xs : List A) (i j : ℕ) → ReadsMore sep P i xs j → More sep P i xs j
   reads_more [] i j p = p.0
   reads_more (x ∷ xs) i j p = (p.0, p.1, p.2, reads_more xs p.0 j p.3)
 
-  pub one_more : (xs ys : List A) (i j k : ℕ) → ReadsMore i xs j → ReadsMore i ys k → (xs ≡ ys) × (j ≡ k)
+  pub one_more : (xs ys : List A) (i j k : ℕ) → ReadsMore sep P i xs j → ReadsMore sep P i ys k → (xs ≡ ys) × (j ≡ k)
   one_more [] [] i j k p q = (refl, sym p.0 ∙ q.0)
   one_more [] (y ∷ ys) i j k p q = absurd (p.1 q.1)
   one_more (x ∷ xs) [] i j k p q = absurd (q.1 p.1)
   one_more (x ∷ xs) (y ∷ ys) i j k p q =
       let u : (x ≡ y) × (p.0 ≡ q.0) = unique (i + 1) x p.0 y q.0 p.2 q.2 in
-      let r : (xs ≡ ys) × (j ≡ k) = one_more xs ys p.0 j k p.3 (subst (λ z. ReadsMore z ys k) (sym u.1) q.3) in
+      let r : (xs ≡ ys) × (j ≡ k) = one_more xs ys p.0 j k p.3 (subst (λ z. ReadsMore sep P z ys k) (sym u.1) q.3) in
       ((λ z. u.0 z ∷ r.0 z), r.1)
 
-  pub one_list : (xs ys : List A) (i j k : ℕ) → ReadsList i xs j → ReadsList i ys k → (xs ≡ ys) × (j ≡ k)
+  pub one_list : (xs ys : List A) (i j k : ℕ) → ReadsList sep P i xs j → ReadsList sep P i ys k → (xs ≡ ys) × (j ≡ k)
   one_list [] ys i j k p q = absurd p
   one_list (x ∷ xs) [] i j k p q = absurd q
   one_list (x ∷ xs) (y ∷ ys) i j k p q =
       let u : (x ≡ y) × (p.0 ≡ q.0) = unique i x p.0 y q.0 p.1 q.1 in
-      let r : (xs ≡ ys) × (j ≡ k) = one_more xs ys p.0 j k p.2 (subst (λ z. ReadsMore z ys k) (sym u.1) q.2) in
+      let r : (xs ≡ ys) × (j ≡ k) = one_more xs ys p.0 j k p.2 (subst (λ z. ReadsMore sep P z ys k) (sym u.1) q.2) in
       ((λ z. u.0 z ∷ r.0 z), r.1)
 
   pub highest-append : (xs ys : List A) → highest h (xs ++ ys) ≡ max (highest h xs) (highest h ys)
@@ -49,38 +41,38 @@ module _ {A : Type 0} (h : A → ℕ) (sep : ℕ → Type 0) (P : ℕ → A → 
 
   -- what is read of a list so far
   pub record Started (i : ℕ) (items : List A) (end : ℕ) : Type 0 where
-    pub whole : (xs : List A) (j : ℕ) → ReadsMore end xs j → ReadsList i (items ++ xs) j
-    pub only : (ys : List A) (j : ℕ) → ReadsList i ys j → (xs : List A) × ReadsMore end xs j × (ys ≡ items ++ xs)
+    pub whole : (xs : List A) (j : ℕ) → ReadsMore sep P end xs j → ReadsList sep P i (items ++ xs) j
+    pub only : (ys : List A) (j : ℕ) → ReadsList sep P i ys j → (xs : List A) × ReadsMore sep P end xs j × (ys ≡ items ++ xs)
 
   pub starts : (i : ℕ) (a : A) (end : ℕ) → P i a end → Started i (a ∷ []) end
   starts i a end p = record { whole = λ xs j q. (end, p, q); only = only }
     where
-      only : (ys : List A) (j : ℕ) → ReadsList i ys j → (xs : List A) × ReadsMore end xs j × (ys ≡ (a ∷ []) ++ xs)
+      only : (ys : List A) (j : ℕ) → ReadsList sep P i ys j → (xs : List A) × ReadsMore sep P end xs j × (ys ≡ (a ∷ []) ++ xs)
       only [] j q = absurd q
       only (y ∷ ys) j q =
-          let u : (y ≡ a) × (q.0 ≡ end) = unique i y q.0 a end q.1 p in (ys, subst (λ z. ReadsMore z ys j) u.1 q.2, ap (λ z. z ∷ ys) u.0)
+          let u : (y ≡ a) × (q.0 ≡ end) = unique i y q.0 a end q.1 p in (ys, subst (λ z. ReadsMore sep P z ys j) u.1 q.2, ap (λ z. z ∷ ys) u.0)
 
-  pub stops : (i : ℕ) (items : List A) (end : ℕ) → Started i items end → (sep end → ⊥) → ReadsList i items end
-  stops i items end s last = subst (λ z. ReadsList i z end) (append_nil items) (s.whole [] end (refl, last))
+  pub stops : (i : ℕ) (items : List A) (end : ℕ) → Started i items end → (sep end → ⊥) → ReadsList sep P i items end
+  stops i items end s last = subst (λ z. ReadsList sep P i z end) (append_nil items) (s.whole [] end (refl, last))
 
   pub grows : (i : ℕ) (items : List A) (end : ℕ) → Started i items end → sep end → (a : A) (at : ℕ) → P (end + 1) a at → Started i (items ++ a ∷ []) at
   grows i items end s comma a at p = record {
-    whole = λ xs j q. subst (λ z. ReadsList i z j) (sym (append_assoc items (a ∷ []) xs)) (s.whole (a ∷ xs) j (at, comma, p, q));
+    whole = λ xs j q. subst (λ z. ReadsList sep P i z j) (sym (append_assoc items (a ∷ []) xs)) (s.whole (a ∷ xs) j (at, comma, p, q));
     only = λ ys j q. let o = s.only ys j q in next ys j o.0 o.1 o.2;
   }
     where
-      next : (ys : List A) (j : ℕ) (xs : List A) → ReadsMore end xs j → ys ≡ items ++ xs → (xs : List A) × ReadsMore at xs j × (ys ≡ (items ++ a ∷ []) ++ xs)
+      next : (ys : List A) (j : ℕ) (xs : List A) → ReadsMore sep P end xs j → ys ≡ items ++ xs → (xs : List A) × ReadsMore sep P at xs j × (ys ≡ (items ++ a ∷ []) ++ xs)
       next ys j [] q e = absurd (q.1 comma)
       next ys j (x ∷ xs) q e =
           let u : (x ≡ a) × (q.0 ≡ at) = unique (end + 1) x q.0 a at q.2 p in
-          (xs, subst (λ z. ReadsMore z xs j) u.1 q.3, e ∙ (ap (λ z. items ++ z ∷ xs) u.0 ∙ sym (append_assoc items (a ∷ []) xs)))
+          (xs, subst (λ z. ReadsMore sep P z xs j) u.1 q.3, e ∙ (ap (λ z. items ++ z ∷ xs) u.0 ∙ sym (append_assoc items (a ∷ []) xs)))
 
   -- after a separator each list has one more part there
-  pub another : (i : ℕ) (items : List A) (end : ℕ) → Started i items end → sep end → (ys : List A) (j : ℕ) → ReadsList i ys j
+  pub another : (i : ℕ) (items : List A) (end : ℕ) → Started i items end → sep end → (ys : List A) (j : ℕ) → ReadsList sep P i ys j
       → (a : A) × (k : ℕ) × P (end + 1) a k × (h a ≤ highest h ys)
   another i items end s comma ys j q = let o = s.only ys j q in by o.0 o.1 o.2
     where
-      by : (xs : List A) → ReadsMore end xs j → ys ≡ items ++ xs → (a : A) × (k : ℕ) × P (end + 1) a k × (h a ≤ highest h ys)
+      by : (xs : List A) → ReadsMore sep P end xs j → ys ≡ items ++ xs → (a : A) × (k : ℕ) × P (end + 1) a k × (h a ≤ highest h ys)
       by [] q e = absurd (q.1 comma)
       by (x ∷ xs) q e = (x, q.0, q.2, omega (arith, ap (highest h) e, highest-append items (x ∷ xs)))
 

@@ -9,12 +9,8 @@ use Rattle.vlog_tree.specs.Signs.{IsSign}
 use Rattle.vlog_tree.specs.Lists.{More, Separated}
 use Rattle.vlog_tree.specs.Spelling.{IsIdentifier, IsNamed, Dot, dotted, IsPath, IsOffset, IsName}
 use Rattle.vlog_spell.proofs.Tokens.{two_signs, kind_within}
-use Rattle.vlog_spell.proofs.Lists.{ReadsList, more_reads, one_list}
-
--- no dot and no `@` stands at a place
-pub record NoPath (ts : List Token) (j : ℕ) : Type 0 where
-  pub no_dot : IsSign ts j (codes ".") → ⊥
-  pub no_at : IsSign ts j (codes "@") → ⊥
+use Rattle.vlog_spell.specs.Growing.{ReadsList, NoPath}
+use Rattle.vlog_spell.proofs.Lists.{more_reads, one_list}
 
 pub bracket_no_path : (ts : List Token) (j : ℕ) → IsSign ts j (codes "[") → NoPath ts j
 bracket_no_path ts j h = record { no_dot = two_signs ts j (codes "[") (codes ".") refl h; no_at = two_signs ts j (codes "[") (codes "@") refl h }
@@ -26,8 +22,8 @@ pub one_named : (set : Bool) (ts : List Token) (i : ℕ) (v : List ℕ) (j : ℕ
 one_named set ts i v j w m p q = (one_identifier set ts i v w p.0 q.0, p.1 ∙ sym q.1)
 
 module _ (ts : List Token) where
-  as_read : (words : List (List ℕ)) (i j : ℕ) → Separated (Dot ts) (IsNamed true ts) i words j → (Dot ts j → ⊥)
-      → ReadsList length (Dot ts) (IsNamed true ts) (one_named true ts) i words j
+  pub as_read : (words : List (List ℕ)) (i j : ℕ) → Separated (Dot ts) (IsNamed true ts) i words j → (Dot ts j → ⊥)
+      → ReadsList (Dot ts) (IsNamed true ts) i words j
   as_read [] i j p last = absurd p
   as_read (w ∷ rest) i j p last = (p.0, p.1, more_reads length (Dot ts) (IsNamed true ts) (one_named true ts) rest p.0 j p.2 last)
 
@@ -38,11 +34,11 @@ module _ (ts : List Token) where
       (p.joined ∙ (ap dotted r.0 ∙ sym q.joined), r.1)
 
   -- no dot follows the path of a name
-  offset_no_dot : (i o j : ℕ) → IsOffset ts i o j → NoPath ts j → Dot ts i → ⊥
+  pub offset_no_dot : (i o j : ℕ) → IsOffset ts i o j → NoPath ts j → Dot ts i → ⊥
   offset_no_dot i o j (inl p) free h = free.no_dot (subst (Dot ts) (sym p.1) h)
   offset_no_dot i o j (inr p) free h = two_signs ts i (codes "@") (codes ".") refl p.sign h
 
-  one_offset : (i o j o' m : ℕ) → IsOffset ts i o j → NoPath ts j → IsOffset ts i o' m → NoPath ts m → (o ≡ o') × (j ≡ m)
+  pub one_offset : (i o j o' m : ℕ) → IsOffset ts i o j → NoPath ts j → IsOffset ts i o' m → NoPath ts m → (o ≡ o') × (j ≡ m)
   one_offset i o j o' m (inl p) free (inl q) free' = (p.0 ∙ sym q.0, p.1 ∙ sym q.1)
   one_offset i o j o' m (inl p) free (inr q) free' = absurd (free.no_at (subst (λ z. IsSign ts z (codes "@")) (sym p.1) q.sign))
   one_offset i o j o' m (inr p) free (inl q) free' = absurd (free'.no_at (subst (λ z. IsSign ts z (codes "@")) (sym q.1) p.sign))

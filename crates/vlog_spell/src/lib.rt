@@ -3,4 +3,4 @@
 
 mod law;
 
-pub use law::one_tree;
+pub use law::{one_module_list, one_tree};
