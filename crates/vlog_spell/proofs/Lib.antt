@@ -1,0 +1,14 @@
+pub mod Tokens
+pub mod Lists
+pub mod Rows
+pub mod Names
+pub mod Forms
+pub mod Compare
+pub mod Reading
+pub mod Made
+pub mod Parts
+pub mod Lvals
+pub mod Declarations
+pub mod PortItems
+pub mod Statements
+pub mod Modules
