@@ -1,1 +1,3 @@
 pub mod Signs
+pub mod Valuation
+pub mod Value
