@@ -23,6 +23,12 @@ abbrev pub entry_at : List Entry → List ℕ → ℕ → Option Entry
 entry_at [] x j = None
 entry_at (e ∷ es) x j = if nat_eq e.offset j && bytes_eq e.name x then Some e else entry_at es x j
 
+-- the entries with these values in place of those of the first
+abbrev pub written : List Entry → List ℕ → List Entry
+written [] xs = []
+written (e ∷ es) [] = e ∷ es
+written (e ∷ es) (x ∷ xs) = record e { value = x } ∷ written es xs
+
 -- what an entry says of its name
 abbrev pub meant : Entry → Constant
 meant e = record { width = e.width; low = e.low; signed = e.signed; value = e.value }

@@ -1,6 +1,6 @@
 // What names stand for.
 
-ghost use Rattle.std.specs.Prelude.{◌≡◌, ◌<◌, ◌++◌, ◌^◌, [], ◌∷◌, OnOk, OnErr, IfSome, IfNone, Some, None, length};
+ghost use Rattle.std.specs.Prelude.{◌≡◌, ◌<◌, ◌++◌, ◌≤◌, [], ◌∷◌, OnOk, OnErr, IfSome, IfNone, Some, None, length};
 
 use outside::Text;
 use std::alloc::{AllocError, Global};
@@ -37,4 +37,53 @@ impl Model for Valuation {
     ghost view = { λ v. v.entries.items };
 
     ghost invariant = { λ v. AllFit v.entries.items };
+}
+
+impl Valuation {
+    ghost use Rattle.vlog_tree.specs.Valuation.{entry_at, written, AllFit, EntryFits};
+
+    /// A valuation of no names.
+    pub fn new(alloc: Global) -> Valuation
+        ensures { result ≡ [] }
+    {
+        Valuation {
+            entries: Vec::new(alloc),
+        }
+    }
+
+    /// Adds an entry at the end.
+    pub fn push(&mut self, entry: Entry) -> Result<(), AllocError>
+        requires { EntryFits entry }
+        ensures ok { OnOk result (self.new ≡ self.old ++ entry ∷ []) }
+        ensures err { OnErr result (self.new ≡ self.old) }
+    {
+        self.entries.push(entry)?;
+        Ok(())
+    }
+
+    /// The first entry of this name and offset.
+    pub fn find(&self, name: &[u8], offset: u32) -> Option<&Entry>
+        ensures found { IfSome result (λ e. entry_at self.now name.now offset ≡ Some e.now) }
+        ensures none { IfNone result (entry_at self.now name.now offset ≡ None) }
+        ensures fits { IfSome result (λ e. EntryFits e.now) }
+    {
+        let entries = self.entries.as_slice();
+        for entry in entries {
+            if entry.offset == offset && entry.name.bytes() == name {
+                return Some(entry);
+            }
+        }
+        None
+    }
+
+    /// Writes these values in place of those of the first entries, each at its entry's length.
+    pub fn write(&mut self, values: &[u64])
+        requires few { length values.now ≤ length self.old }
+        requires fit { AllFit (written self.old values.now) }
+        ensures { self.new ≡ written self.old values.now }
+    {
+        for i in 0..values.len() {
+            self.entries[i].value = values[i];
+        }
+    }
 }
