@@ -3,3 +3,5 @@ pub mod Lists
 pub mod Spelling
 pub mod Statements
 pub mod Modules
+pub mod Valuation
+pub mod Value

@@ -7,6 +7,7 @@ mod module;
 mod signs;
 mod stmt;
 mod token;
+mod valuation;
 
 pub use expr::{Binary, Cast, Constant, Expr, Infix, Name, Span, Unary};
 pub use item::{
@@ -16,3 +17,4 @@ pub use module::{HeaderParameter, HeaderPort, Module, Ports};
 pub use signs::{is, is_reserved};
 pub use stmt::{CaseItem, CaseKind, Edge, Events, Labels, Lval, Stmt};
 pub use token::{Kind, Number, Token};
+pub use valuation::{Entry, Valuation};

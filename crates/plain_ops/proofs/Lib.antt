@@ -1,0 +1,13 @@
+pub mod Words
+pub mod Agree
+pub mod Items
+pub mod Sound
+pub mod TableLemmas
+pub mod Runs
+pub mod Operators
+pub mod Forms
+pub mod Bits
+pub mod Blocks
+pub mod Written
+pub mod Shapes
+pub mod Trace

@@ -1,0 +1,9 @@
+pub mod Names
+pub mod Design
+pub mod Cycle
+pub mod Holds
+pub mod Lines
+pub mod Table
+pub mod Plain
+pub mod Suited
+pub mod Numbers

@@ -1,0 +1,11 @@
+//! Deciding the design lines of a plain set on a plain module by a truth table.
+#![tactic(auto)]
+
+mod cycle;
+mod expr;
+mod report;
+mod step;
+mod theorem;
+mod view;
+
+pub use report::{Answer, Line, Verdict};
