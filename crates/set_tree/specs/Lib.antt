@@ -1,1 +1,11 @@
 pub mod Spelling
+pub mod Meaning
+pub mod Formulas
+pub mod Parts
+pub mod Traces
+pub mod Lines
+pub mod Runs
+pub mod Report
+pub mod Structure
+pub mod Paths
+pub mod Met
