@@ -1,0 +1,16 @@
+//! A solver that answers with evidence.
+#![tactic(auto)]
+
+mod conflict;
+mod learn;
+mod lists;
+mod order;
+mod restarts;
+mod search;
+mod solver;
+#[cfg(test)]
+mod tests;
+mod trail;
+mod watches;
+
+pub use solver::{End, solve};

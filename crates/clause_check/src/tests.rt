@@ -1,0 +1,76 @@
+use crate::{Clause, Cnf, Lit, Marks, Step, accept, holds};
+use std::alloc::{AllocError, Global};
+use std::test::Fail;
+
+/// The literal of a number that isn't 0: variable 0 is 1, and its negation -1.
+fn literal(number: i64) -> Lit {
+    Lit {
+        var: number.unsigned_abs().saturating_sub(1),
+        negative: number < 0,
+    }
+}
+
+fn clause(alloc: Global, numbers: &[i64]) -> Result<Option<Clause>, AllocError> {
+    Clause::of(alloc, numbers.iter().map(|n| literal(*n)).collect(alloc)?)
+}
+
+fn push(alloc: Global, clauses: &mut Vec<Clause>, numbers: &[i64]) -> Result<(), AllocError> {
+    if let Some(clause) = clause(alloc, numbers)? {
+        clauses.push(clause)?;
+    }
+    Ok(())
+}
+
+/// That a bit and its negation are both 1.
+fn contradiction(alloc: Global) -> Result<Option<Cnf>, AllocError> {
+    let mut clauses = Vec::new(alloc);
+    push(alloc, &mut clauses, &[1])?;
+    push(alloc, &mut clauses, &[-3, 2])?;
+    push(alloc, &mut clauses, &[-3, -2])?;
+    push(alloc, &mut clauses, &[3])?;
+    Ok(Cnf::of(3, clauses))
+}
+
+/// Whether a step with the empty clause and these hints refutes the formula.
+fn accepts(alloc: Global, cnf: &Cnf, hints: &[u64]) -> Result<bool, AllocError> {
+    let mut marks = Marks::new(alloc, cnf.vars)?;
+    let mut steps = Vec::new(alloc);
+    if let Some(clause) = clause(alloc, &[])? {
+        let hints = hints.to_vec(alloc)?;
+        steps.push(Step { clause, hints })?;
+    }
+    Ok(accept(cnf, steps.as_slice(), &mut marks))
+}
+
+#[test]
+fn accepts_hints_in_the_order_of_propagation(rt: HostRuntime) -> Result<(), Fail> {
+    let alloc = rt.alloc();
+    let cnf = contradiction(alloc)?.expect(&rt, "a formula");
+    assert!(rt; accepts(alloc, &cnf, &[3, 1, 2])?);
+    assert!(rt; !accepts(alloc, &cnf, &[1, 3, 2])?);
+    assert!(rt; !accepts(alloc, &cnf, &[])?);
+    Ok(())
+}
+
+#[test]
+fn takes_clauses_and_formulas_alone(rt: HostRuntime) -> Result<(), Fail> {
+    let alloc = rt.alloc();
+    assert!(rt; clause(alloc, &[3, -1, 2])?.is_some());
+    assert!(rt; clause(alloc, &[3, -1, 2, 1])?.is_none());
+    let mut clauses = Vec::new(alloc);
+    push(alloc, &mut clauses, &[1, -3])?;
+    assert!(rt; Cnf::of(2, clauses).is_none());
+    Ok(())
+}
+
+#[test]
+fn holds_where_each_clause_has_a_true_literal(rt: HostRuntime) -> Result<(), Fail> {
+    let alloc = rt.alloc();
+    let mut clauses = Vec::new(alloc);
+    push(alloc, &mut clauses, &[1, -2])?;
+    let cnf = Cnf::of(2, clauses).expect(&rt, "a formula");
+    assert!(rt; holds(&cnf, &[false, false]));
+    assert!(rt; !holds(&cnf, &[false, true]));
+    assert!(rt; !holds(&cnf, &[false]));
+    Ok(())
+}
