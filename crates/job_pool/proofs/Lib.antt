@@ -1,2 +1,6 @@
-pub mod Moves
-pub mod Sums
+mod All
+mod Decided
+mod Moves
+mod Rows
+mod Steps
+mod Sums

@@ -1,2 +1,4 @@
+pub mod Evidence
+pub mod Jobs
 pub mod Rule
 pub mod Seats

@@ -1,9 +1,13 @@
-//! Numbers that threads draw from one shared word, each number once.
+//! Obligations decided by workers in threads of their own, which draw the numbers of their jobs from one shared word.
 #![tactic(auto)]
 
+mod order;
 mod rule;
+mod run;
 #[cfg(test)]
 mod tests;
 mod tickets;
+mod work;
 
+pub use run::{Ran, run_jobs};
 pub use tickets::{Seat, Tickets};

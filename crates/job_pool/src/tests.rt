@@ -1,5 +1,134 @@
-use crate::Tickets;
+use crate::{Tickets, run_jobs};
+use cdcl::End;
+use outside::{Gate, QuietGate};
+use std::alloc::{AllocError, Global};
+use std::sync::atomic::Ordering::SeqCst;
+use std::sync::atomic::{AtomicBool, AtomicU64};
 use std::test::Fail;
+use std::thread::yield_now;
+use word_core::Word;
+use word_dag::{Node, Ob};
+
+const TURNS: u64 = 100_000_000;
+
+// An obligation whose root is this constant.
+fn constant(alloc: Global, one: bool) -> Result<Ob, AllocError> {
+    let word = if one {
+        Word::new(1, 1)
+    } else {
+        Word::new(1, 0)
+    };
+    let mut nodes = Vec::new(alloc);
+    nodes.push(Node::Const(word))?;
+    Ok(Ob::new(nodes, 0))
+}
+
+fn constants(alloc: Global, ones: &[bool]) -> Result<Vec<Ob>, AllocError> {
+    let mut obs = Vec::new(alloc);
+    for one in ones {
+        obs.push(constant(alloc, *one)?)?;
+    }
+    Ok(obs)
+}
+
+// One job's side of a meeting: a flag, the count of entries, and whether the other's flag was seen.
+#[derive(Drop)]
+struct Side {
+    flag: AtomicBool,
+    entries: AtomicU64,
+    saw: AtomicBool,
+}
+
+impl Side {
+    fn new() -> Side {
+        Side {
+            flag: AtomicBool::new(false),
+            entries: AtomicU64::new(0),
+            saw: AtomicBool::new(false),
+        }
+    }
+
+    // Raises this side's flag and looks for the other's, a bounded number of turns. Between two looks it lets other threads run.
+    fn meet(&self, other: &Side) {
+        self.entries.fetch_add(1, SeqCst);
+        self.flag.store(true, SeqCst);
+        for _ in 0..TURNS {
+            if other.flag.load(SeqCst) {
+                self.saw.store(true, SeqCst);
+                break;
+            }
+            yield_now();
+        }
+    }
+}
+
+// Jobs 0 and 1 look for each other.
+#[derive(Drop)]
+struct Meeting {
+    first: Side,
+    second: Side,
+}
+
+impl Gate for Meeting {
+    fn enter(&self, job: u64) {
+        match job {
+            0 => self.first.meet(&self.second),
+            1 => self.second.meet(&self.first),
+            _ => {}
+        }
+    }
+}
+
+#[test]
+fn two_workers_are_at_work_at_once(rt: HostRuntime) -> Result<(), Fail> {
+    let obs = constants(rt.alloc(), &[true, false])?;
+    assert_eq!(rt; obs.len(), 2);
+    let meeting = Meeting {
+        first: Side::new(),
+        second: Side::new(),
+    };
+    let ran = run_jobs(&rt, rt.alloc(), &obs, 9, 2, &meeting)?;
+    assert!(rt; ran.draws.as_slice() == [0, 1, 2, 3].as_slice());
+    assert!(rt;
+        meeting.first.entries.load(SeqCst) == 1 && meeting.second.entries.load(SeqCst) == 1
+    );
+    assert!(rt; meeting.first.saw.load(SeqCst) && meeting.second.saw.load(SeqCst));
+    Ok(())
+}
+
+#[test]
+fn ends_stand_in_the_order_of_the_jobs(rt: HostRuntime) -> Result<(), Fail> {
+    let ones = [true, false, false, true, false];
+    let obs = constants(rt.alloc(), &ones)?;
+    for workers in [1, 2, 16, 64] {
+        assert_eq!(rt; obs.len(), 5);
+        let ran = run_jobs(&rt, rt.alloc(), &obs, 9, workers, &QuietGate)?;
+        assert_eq!(rt; ran.draws.len(), 5 + workers as usize);
+        assert_eq!(rt; ran.ends.len(), 5);
+        for (one, end) in ones.iter().zip(&ran.ends) {
+            match end {
+                End::Unsat(_) => assert!(rt; !*one),
+                End::Sat(_) => assert!(rt; *one),
+                End::Spent(_) => panic!(rt; "nothing is spent"),
+            }
+        }
+    }
+    Ok(())
+}
+
+#[test]
+fn one_job_is_drawn_past_by_each_worker(rt: HostRuntime) -> Result<(), Fail> {
+    let obs = constants(rt.alloc(), &[false])?;
+    assert_eq!(rt; obs.len(), 1);
+    let ran = run_jobs(&rt, rt.alloc(), &obs, 1, 16, &QuietGate)?;
+    let mut next = 0;
+    for number in &ran.draws {
+        assert_eq!(rt; *number, next);
+        next = number.saturating_add(1);
+    }
+    assert_eq!(rt; next, 17);
+    Ok(())
+}
 
 // Two seats draw one number each, and the closed word says that these are 0 and 1.
 #[test]
