@@ -2,6 +2,7 @@
 #![tactic(auto)]
 
 mod conflict;
+mod laws;
 mod learn;
 mod lists;
 mod order;
@@ -13,4 +14,5 @@ mod tests;
 mod trail;
 mod watches;
 
+pub use laws::supersets_are_not_new;
 pub use solver::{End, solve};
