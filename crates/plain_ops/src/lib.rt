@@ -5,6 +5,7 @@ mod cycle;
 mod expr;
 mod report;
 mod step;
+mod table;
 mod theorem;
 mod view;
 
