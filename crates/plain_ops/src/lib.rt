@@ -2,6 +2,7 @@
 #![tactic(auto)]
 
 mod cycle;
+mod decide;
 mod expr;
 mod report;
 mod step;
