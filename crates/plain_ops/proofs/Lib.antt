@@ -11,3 +11,5 @@ pub mod Blocks
 pub mod Written
 pub mod Shapes
 pub mod Trace
+pub mod Verdicts
+pub mod Reports

@@ -7,3 +7,4 @@ pub mod Table
 pub mod Plain
 pub mod Suited
 pub mod Numbers
+pub mod Report

@@ -2,9 +2,11 @@
 #![tactic(auto)]
 
 mod cycle;
+mod decide;
 mod expr;
 mod report;
 mod step;
+mod table;
 mod theorem;
 mod view;
 
