@@ -6,7 +6,7 @@ use Rattle.vlog_tree.specs.declared.expr.Expr.{Expr}
 use Rattle.vlog_tree.specs.declared.expr.Span.{Span}
 use Rattle.vlog_tree.specs.Signs.{kind_at, IsSign, IsWord, span_at, is_reserved, is_keyword}
 use Rattle.vlog_tree.specs.Spelling.{IsIdentifier, IsNamed, Spells}
-use Rattle.vlog_spell.proofs.Tokens.{ stops_bracket, stops_span, no_span, two_signs, two_words}
+use Rattle.vlog_spell.proofs.Tokens.{stops_bracket, stops_span, no_span, two_signs, two_words}
 use Rattle.vlog_spell.proofs.Names.{one_identifier, one_named}
 use Rattle.vlog_tree.specs.Lists.{More, Separated, Comma, InParens}
 use Rattle.vlog_tree.specs.Statements.{SpellsLval, SpellsLvals, SpellsMoreLvals, SpellsEdge, edge_word, OrComma, SpellsEvents}

@@ -100,13 +100,17 @@ unary_of u.ReduceXnor a = alone a (λ n x. nat_eq (count_ones x % 2) 0)
 -- both operands have the length and the sign of the expression, which is signed only if both are
 abbrev pub in_context : Operand → Operand → (ℕ → Bool → ℕ → ℕ → ℕ) → Operand
 in_context a b f = record {
-  width = max a.width b.width; signed = a.signed && b.signed;
-  value = λ L s. f L s (a.value L s) (b.value L s); defined = λ L s. a.defined L s && b.defined L s }
+  width = max a.width b.width;
+  signed = a.signed && b.signed;
+  value = λ L s. f L s (a.value L s) (b.value L s);
+  defined = λ L s. a.defined L s && b.defined L s;
+}
 
 -- the same, where the second operand is a divisor
 abbrev pub divided : Operand → Operand → (ℤ → ℤ → ℤ) → Operand
 divided a b f = record (in_context a b (λ n s x y. cut n (f (integer s n x) (integer s n y)))) {
-  defined = λ L s. a.defined L s && b.defined L s && not (nat_eq (b.value L s) 0) }
+  defined = λ L s. a.defined L s && b.defined L s && not (nat_eq (b.value L s) 0);
+}
 
 -- both operands have the longer one's length and are signed only if both are; the result is one bit
 abbrev pub compared : Operand → Operand → (ℤ → ℤ → Bool) → Operand
@@ -129,8 +133,11 @@ both_alone a b f = plain 1 (bit (f (not (nat_eq (own a) 0)) (not (nat_eq (own b)
 -- the left operand has the length and the sign of the expression; the right one is taken by itself, as an unsigned number
 abbrev pub shifted : Operand → Operand → (ℕ → Bool → ℕ → ℕ → ℕ) → Operand
 shifted a b f = record {
-  width = a.width; signed = a.signed;
-  value = λ L s. f L s (a.value L s) (min (own b) L); defined = λ L s. a.defined L s && own_defined b }
+  width = a.width;
+  signed = a.signed;
+  value = λ L s. f L s (a.value L s) (min (own b) L);
+  defined = λ L s. a.defined L s && own_defined b;
+}
 
 abbrev pub binary_of : Binary → Operand → Operand → Operand
 binary_of b.Mul a c = in_context a c (λ n s x y. x * y % 2 ^ n)
@@ -158,9 +165,11 @@ binary_of b.LogicalOr a c = both_alone a c (λ x y. x || y)
 -- `c ? a : b`
 abbrev pub choice_of : Operand → Operand → Operand → Operand
 choice_of c a b = record {
-  width = max a.width b.width; signed = a.signed && b.signed;
+  width = max a.width b.width;
+  signed = a.signed && b.signed;
   value = λ L s. if nat_eq (own c) 0 then b.value L s else a.value L s;
-  defined = λ L s. own_defined c && a.defined L s && b.defined L s }
+  defined = λ L s. own_defined c && a.defined L s && b.defined L s;
+}
 
 -- `$signed(a)` and `$unsigned(a)`
 abbrev pub cast_sign : Cast → Bool
@@ -217,8 +226,8 @@ part_of k span a b =
 abbrev pub word_of : List Entry → Name → Operand → Operand
 word_of v x a =
     plain (named v x).width
-        (if nat_lt (own a) (depth_of v x) then (named v (word_name x (own a))).value % 2 ^ (named v x).width else 0)
-        (own_defined a)
+    (if nat_lt (own a) (depth_of v x) then (named v (word_name x (own a))).value % 2 ^ (named v x).width else 0)
+    (own_defined a)
 
 -- ---- expressions
 
