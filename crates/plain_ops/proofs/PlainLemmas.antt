@@ -1,10 +1,11 @@
 -- From tests to facts.
-use Rattle.std.proofs.Common.{◌≡◌, ℕ, ◌≤◌, ◌&&◌, not, Bool, true, false, List, [], ◌∷◌, Option, Some, None, length, ap, sym, ◌∙◌, refl, ⊎_elim}
+use Rattle.std.proofs.Common.{◌≡◌, ℕ, ◌≤◌, ◌&&◌, not, Bool, true, false, List, [], ◌∷◌, Option, Some, None, length, arith, ap, sym, ◌∙◌, refl, ⊎_elim}
 use Rattle.std.specs.Prelude.{is_none, nat_le, nat_eq}
 use Rattle.std.specs.List.{list_all}
 use Rattle.std.specs.Str.{bytes_eq}
 use Rattle.std.proofs.lemmas.Bool.{leb-true, eqb-true}
 use Rattle.set_tree.specs.declared.set.Rule.{Rule}
+use Rattle.vlog_tree.specs.declared.stmt.Stmt.{Stmt}
 use Rattle.plain_ops.specs.declared.view.Signal.{Signal}
 use Rattle.plain_ops.specs.Names.{Name}
 use Rattle.plain_ops.specs.Design.{Design}
@@ -52,3 +53,15 @@ bit_input m x h = input_of (signal_at m.signals x) h
 
 pub wide_at : (ss : List Signal) → are_wide ss ≡ true → (x : Name) (s : Signal) → signal_at ss x ≡ Some s → (1 ≤ s.width) × (s.width ≤ 64)
 wide_at ss h x s is = in_range s.width (test_at (λ s. is_length s.width) ss h x s is)
+
+pub assigned_at : (body : Stmt) (ss : List Signal) → are_assigned body ss ≡ true → (x : Name) (s : Signal) → signal_at ss x ≡ Some s → is_input s.kind ≡ false → assigns body s.name ≡ true
+assigned_at body ss h x s is state = must (assigns body s.name) (is_input s.kind) (test_at (λ s. same_bool (assigns body s.name) (not (is_input s.kind))) ss h x s is) state
+  where
+    must : (a i : Bool) → same_bool a (not i) ≡ true → i ≡ false → a ≡ true
+    must true i h f = refl
+    must false true h f = cc
+    must false false h f = cc
+
+pub no_rules : (rs : List Rule) → nat_eq (length rs) 0 ≡ true → rs ≡ []
+no_rules [] h = refl
+no_rules (r ∷ rs) h = let e : length (r ∷ rs) ≡ 0 = eqb-true (length (r ∷ rs)) 0 h in absurd (omega arith)
