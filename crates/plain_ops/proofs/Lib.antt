@@ -13,3 +13,4 @@ pub mod Shapes
 pub mod Trace
 pub mod Verdicts
 pub mod Reports
+pub mod PlainLemmas
