@@ -23,6 +23,19 @@ use Rattle.set_tree.specs.declared.text.RuleText.{RuleText}
 use Rattle.set_tree.specs.declared.text.SetText.{SetText}
 use Rattle.set_tree.specs.declared.text.Until.{Until}
 
+abbrev pub role_word : Role → List ℕ
+role_word role.Input = codes "input"
+role_word role.Output = codes "output"
+role_word role.State = codes "state"
+
+abbrev pub rule_word : RuleKind → List ℕ
+rule_word rule.Constraint = codes "constraint"
+rule_word rule.Invariant = codes "invariant"
+
+abbrev pub level_word : Bool → List ℕ
+level_word true = codes "high"
+level_word false = codes "low"
+
 module _ (ts : List Token) where
   -- decimal digits alone
   abbrev pub IsDigits : ℕ → ℕ → ℕ → Type 0
@@ -43,11 +56,6 @@ module _ (ts : List Token) where
   abbrev pub SpellsDomain : ℕ → Expr → ℕ → Type 0
   SpellsDomain i x j = IsWord ts i (codes "when") × Spells true ts (i + 1) x j
 
-  abbrev pub role_word : Role → List ℕ
-  role_word role.Input = codes "input"
-  role_word role.Output = codes "output"
-  role_word role.State = codes "state"
-
   -- an output alone may have a domain
   abbrev pub SpellsDomainOf : Role → ℕ → Option Expr → ℕ → Type 0
   SpellsDomainOf role.Output i x j = Maybe SpellsDomain i x j
@@ -58,10 +66,6 @@ module _ (ts : List Token) where
   SpellsDeclaration i x j =
       (a b c d : ℕ) × IsWord ts i (role_word x.role) × SpellsSigned (i + 1) x.signed a × Maybe SpellsBits a x.bits b
       × IsPath ts b x.name c × SpellsDomainOf x.role c x.domain d × IsSign ts d (codes ";") × (j ≡ d + 1)
-
-  abbrev pub rule_word : RuleKind → List ℕ
-  rule_word rule.Constraint = codes "constraint"
-  rule_word rule.Invariant = codes "invariant"
 
   abbrev pub SpellsRule : ℕ → RuleText → ℕ → Type 0
   SpellsRule i x j =
@@ -115,10 +119,6 @@ module _ (ts : List Token) where
 
   abbrev pub SpellsOperation : ℕ → PropertyText → ℕ → Type 0
   SpellsOperation i x j = IsWord ts i (codes "operation") × IsNamed true ts (i + 1) x.name (i + 2) × SpellsProperty (i + 2) x j
-
-  abbrev pub level_word : Bool → List ℕ
-  level_word true = codes "high"
-  level_word false = codes "low"
 
   -- `word name;`
   abbrev pub SpellsNamed : List ℕ → ℕ → List ℕ → ℕ → Type 0
