@@ -102,14 +102,17 @@ module _ (ts : List Token) where
       (a b c : ℕ) × SpellsHand i hand a × Sequence SpellsCover a covers b
       × Clause (codes "next") (Separated (Comma ts) (IsNamed true ts)) b next c × IsSign ts c (codes "}") × (j ≡ c + 1)
 
+  -- the length, the window, the assumption and the commitment
+  abbrev pub SpellsConditions : ℕ → LengthText → Option ℕ → List Expr → List Expr → ℕ → Type 0
+  SpellsConditions i length window assume commit j =
+      (a b c : ℕ) × Clause (codes "length") SpellsLength i length a × Maybe (Clause (codes "window") IsDigits) a window b
+      × Sequence (Clause (codes "assume") (Spells true ts)) b assume c × Sequence (Clause (codes "commit") (Spells true ts)) c commit j
+
   -- from the opening brace on
   abbrev pub SpellsProperty : ℕ → PropertyText → ℕ → Type 0
   SpellsProperty i x j =
-      (a b c d : ℕ) × IsSign ts i (codes "{") × Clause (codes "length") SpellsLength (i + 1) x.length a
-      × Maybe (Clause (codes "window") IsDigits) a x.window b
-      × Sequence (Clause (codes "assume") (Spells true ts)) b x.assume c
-      × Sequence (Clause (codes "commit") (Spells true ts)) c x.commit d
-      × SpellsTail d x.hand x.covers x.next j
+      (m : ℕ) × IsSign ts i (codes "{") × SpellsConditions (i + 1) x.length x.window x.assume x.commit m
+      × SpellsTail m x.hand x.covers x.next j
 
   -- the reset property has a fixed length and assumes nothing
   abbrev pub SpellsReset : ℕ → PropertyText → ℕ → Type 0
