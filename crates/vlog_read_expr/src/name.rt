@@ -44,8 +44,9 @@ pub fn identifier(alloc: Global, set: bool, tokens: &[Token], at: usize) -> Resu
     }
 }
 
-/// Identifiers with dots between, as many as stand there.
-fn read_path(alloc: Global, tokens: &[Token], at: usize) -> Result<Path, ReadFault>
+/// The path at a place of a set: identifiers with dots between, as many as stand there. Syntax: no identifier stands there, or
+/// none after a dot.
+pub fn read_path(alloc: Global, tokens: &[Token], at: usize) -> Result<Path, ReadFault>
     ensures { PathAnswers tokens.now at result }
 {
     let mut text = identifier(alloc, true, tokens, at)?;
