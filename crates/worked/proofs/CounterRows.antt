@@ -1,10 +1,12 @@
-use Rattle.std.proofs.Common.{◌≡◌, true, false, [], ◌∷◌, refl, arith}
+use Rattle.std.proofs.Common.{◌≡◌, ℕ, nat_eq, true, false, [], ◌∷◌, refl, arith}
 use Rattle.std.proofs.lemmas.List.Elements.{All-from_recursion}
+use Rattle.std.proofs.lemmas.Bool.{eq-eqb}
 use Rattle.set_tree.specs.Formulas.{meaning_of}
-use Rattle.set_tree.specs.Lines.{ViolatesSplit}
+use Rattle.set_tree.specs.Lines.{ViolatesSplit, ViolatesHand, ViolatesDetermine}
 use Rattle.set_tree.specs.Runs.{ViolatesOperation}
 use Rattle.set_tree.specs.Traces.{IsRow}
-use Rattle.worked.specs.Counter.{CounterCycle, counter_design, counter_names, counter_set, step_alone, unsized_step}
+use Rattle.worked.specs.Counter.{CounterCycle, counter_design, counter_names, counter_set, hold_without_hand, q, step_alone, unsized_step}
+use Rattle.worked.specs.Terms.{cover_to}
 use Rattle.worked.proofs.Free.{free_window}
 
 -- `split reset` and `split step` without `hold`: en is 0 where the successor starts
@@ -47,3 +49,55 @@ step_from_three = record {
 
 pub sized_step_from_three : ¬ ViolatesOperation counter_design (meaning_of counter_set) counter_set 1 (record { rst = false; en = true; q = 3 } ∷ record { rst = false; en = false; q = 0 } ∷ [])
 sized_step_from_three v = let e : true ≡ false = v.broken in cc
+
+-- `hand hold step` and `determine hold` where `hold` hands nothing over: q differs from the start on
+
+pub hand_hold_step : ViolatesHand (meaning_of hold_without_hand) hold_without_hand 2 1 1 ((0 ∷ 0 ∷ []) ∷ (1 ∷ 0 ∷ []) ∷ (0 ∷ 1 ∷ []) ∷ []) ((0 ∷ 1 ∷ []) ∷ (1 ∷ 1 ∷ []) ∷ (0 ∷ 2 ∷ []) ∷ [])
+hand_hold_step = record {
+  pair = record {
+    pair = record {
+      first = free_window (meaning_of hold_without_hand) hold_without_hand 2 ((0 ∷ 0 ∷ []) ∷ (1 ∷ 0 ∷ []) ∷ (0 ∷ 1 ∷ []) ∷ []) refl refl (All-from_recursion (IsRow counter_names) ((0 ∷ 0 ∷ []) ∷ (1 ∷ 0 ∷ []) ∷ (0 ∷ 1 ∷ []) ∷ []) ((omega arith, (omega arith, tt)), ((omega arith, (omega arith, tt)), ((omega arith, (omega arith, tt)), tt))));
+      second = free_window (meaning_of hold_without_hand) hold_without_hand 2 ((0 ∷ 1 ∷ []) ∷ (1 ∷ 1 ∷ []) ∷ (0 ∷ 2 ∷ []) ∷ []) refl refl (All-from_recursion (IsRow counter_names) ((0 ∷ 1 ∷ []) ∷ (1 ∷ 1 ∷ []) ∷ (0 ∷ 2 ∷ []) ∷ []) ((omega arith, (omega arith, tt)), ((omega arith, (omega arith, tt)), ((omega arith, (omega arith, tt)), tt))));
+      inputs = refl;
+      first_starts = record { assumes = refl; commits = refl };
+      second_starts = record { assumes = refl; commits = refl };
+      hands = λ k x at. absurd (omega arith);
+    };
+    first_ends = refl;
+    second_ends = refl;
+  };
+  first_goes_on = record { assumes = refl; commits = refl };
+  second_goes_on = record { assumes = refl; commits = refl };
+  differ = λ same. let e : 0 ≡ 1 = same 0 (q 0) (omega arith) in omega arith;
+}
+
+pub determine_hold : ViolatesDetermine (meaning_of hold_without_hand) hold_without_hand 2 1 (cover_to 1 1 2) 1 ((0 ∷ 0 ∷ []) ∷ (0 ∷ 0 ∷ []) ∷ []) ((0 ∷ 1 ∷ []) ∷ (0 ∷ 1 ∷ []) ∷ [])
+determine_hold = record {
+  pair = record {
+    pair = record {
+      first = free_window (meaning_of hold_without_hand) hold_without_hand 1 ((0 ∷ 0 ∷ []) ∷ (0 ∷ 0 ∷ []) ∷ []) refl refl (All-from_recursion (IsRow counter_names) ((0 ∷ 0 ∷ []) ∷ (0 ∷ 0 ∷ []) ∷ []) ((omega arith, (omega arith, tt)), ((omega arith, (omega arith, tt)), tt)));
+      second = free_window (meaning_of hold_without_hand) hold_without_hand 1 ((0 ∷ 1 ∷ []) ∷ (0 ∷ 1 ∷ []) ∷ []) refl refl (All-from_recursion (IsRow counter_names) ((0 ∷ 1 ∷ []) ∷ (0 ∷ 1 ∷ []) ∷ []) ((omega arith, (omega arith, tt)), ((omega arith, (omega arith, tt)), tt)));
+      inputs = refl;
+      first_starts = record { assumes = refl; commits = refl };
+      second_starts = record { assumes = refl; commits = refl };
+      hands = λ k x at. absurd (omega arith);
+    };
+    first_ends = refl;
+    second_ends = refl;
+  };
+  covers = (0, omega arith, refl);
+  begun = omega arith;
+  not_ended = omega arith;
+  differ = λ same. let e : 0 ≡ 1 = same.values refl in omega arith;
+}
+
+-- where `hold` hands q over, the windows don't hand over the same
+
+apart : (a b : ℕ) → a ≡ b → nat_eq a b ≡ false → ⊥
+apart a b same differ = let e = eq-eqb a b same in cc
+
+pub hold_hands_over : ¬ ViolatesHand (meaning_of counter_set) counter_set 2 1 1 ((0 ∷ 0 ∷ []) ∷ (1 ∷ 0 ∷ []) ∷ (0 ∷ 1 ∷ []) ∷ []) ((0 ∷ 1 ∷ []) ∷ (1 ∷ 1 ∷ []) ∷ (0 ∷ 2 ∷ []) ∷ [])
+hold_hands_over v = apart 0 1 (v.pair.pair.hands 0 (q 0) (omega arith)) refl
+
+pub hold_is_determined : ¬ ViolatesDetermine (meaning_of counter_set) counter_set 2 1 (cover_to 1 1 2) 1 ((0 ∷ 0 ∷ []) ∷ (0 ∷ 0 ∷ []) ∷ []) ((0 ∷ 1 ∷ []) ∷ (0 ∷ 1 ∷ []) ∷ [])
+hold_is_determined v = apart 0 1 (v.pair.pair.hands 0 (q 0) (omega arith)) refl

@@ -1,2 +1,6 @@
 pub mod Terms
 pub mod Counter
+pub mod Flip
+pub mod Pipe
+pub mod Hop
+pub mod Waiter

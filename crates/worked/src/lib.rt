@@ -3,4 +3,8 @@
 
 mod rows;
 
-pub use rows::{step_alone_is_not_split, unsized_numbers_have_32_bits};
+pub use rows::{
+    answers_must_be_constrained_to_come, domains_may_hold_in_one_trace, hold_without_hand_is_open,
+    step_alone_is_not_split, true_invariants_may_not_be_inductive, unhanded_states_leave_a_choice,
+    unsized_numbers_have_32_bits,
+};
