@@ -4,3 +4,4 @@ pub mod Flip
 pub mod Pipe
 pub mod Hop
 pub mod Waiter
+pub mod Needed

@@ -1,5 +1,5 @@
-use Rattle.worked.proofs.rows.true_invariants_may_not_be_inductive.Goals as goal
-use Rattle.worked.proofs.HopRows.{step_four, four_is_kept}
+use Rattle.worked.proofs.flaws.true_invariants_may_not_be_inductive.Goals as goal
+use Rattle.worked.proofs.HopFlaws.{step_four, four_is_kept}
 
 pub returns-clause-four : goal.returns-clause-four
 returns-clause-four c = step_four

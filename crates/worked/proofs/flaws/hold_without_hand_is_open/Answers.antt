@@ -1,5 +1,5 @@
-use Rattle.worked.proofs.rows.hold_without_hand_is_open.Goals as goal
-use Rattle.worked.proofs.CounterRows.{hand_hold_step, determine_hold, hold_hands_over, hold_is_determined}
+use Rattle.worked.proofs.flaws.hold_without_hand_is_open.Goals as goal
+use Rattle.worked.proofs.CounterFlaws.{hand_hold_step, determine_hold, hold_hands_over, hold_is_determined}
 
 pub returns-clause-hand : goal.returns-clause-hand
 returns-clause-hand c = hand_hold_step

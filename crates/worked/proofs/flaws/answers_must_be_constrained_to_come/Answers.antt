@@ -1,5 +1,5 @@
-use Rattle.worked.proofs.rows.answers_must_be_constrained_to_come.Goals as goal
-use Rattle.worked.proofs.WaiterRows.{end_serve, comes_soon, serve_ends}
+use Rattle.worked.proofs.flaws.answers_must_be_constrained_to_come.Goals as goal
+use Rattle.worked.proofs.WaiterFlaws.{end_serve, comes_soon, serve_ends}
 
 pub returns-clause-end : goal.returns-clause-end
 returns-clause-end c = end_serve

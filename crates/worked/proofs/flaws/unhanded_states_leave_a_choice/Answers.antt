@@ -1,5 +1,5 @@
-use Rattle.worked.proofs.rows.unhanded_states_leave_a_choice.Goals as goal
-use Rattle.worked.proofs.FlipRows.{choose_reset_on, choose_on_off, reset_on_is_chosen, on_off_is_chosen}
+use Rattle.worked.proofs.flaws.unhanded_states_leave_a_choice.Goals as goal
+use Rattle.worked.proofs.FlipFlaws.{choose_reset_on, choose_on_off, reset_on_is_chosen, on_off_is_chosen}
 
 pub returns-clause-reset_on : goal.returns-clause-reset_on
 returns-clause-reset_on c = choose_reset_on

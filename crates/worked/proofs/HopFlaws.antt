@@ -1,9 +1,9 @@
-use Rattle.std.proofs.Common.{◌≡◌, true, false, ℕ, [], ◌∷◌, refl, arith}
+use Rattle.std.proofs.Common.{◌≡◌, true, false, [], ◌∷◌, refl, arith}
 use Rattle.std.proofs.lemmas.List.Elements.{All-contains, All-from_recursion}
 use Rattle.std.specs.List.{Contains}
 use Rattle.set_tree.specs.declared.set.Rule.{Rule}
 use Rattle.set_tree.specs.Formulas.{meaning_of}
-use Rattle.set_tree.specs.Meaning.{Row, holds}
+use Rattle.set_tree.specs.Meaning.{holds}
 use Rattle.set_tree.specs.Runs.{ViolatesStep}
 use Rattle.set_tree.specs.Traces.{IsRow}
 use Rattle.worked.specs.Hop.{HopCycle, four, hop_design, hop_four, hop_names, hop_three_four, three}

@@ -1,6 +1,6 @@
 use Rattle.std.proofs.Common.{refl}
-use Rattle.worked.proofs.rows.unsized_numbers_have_32_bits.Goals as goal
-use Rattle.worked.proofs.CounterRows.{step_from_three, sized_step_from_three}
+use Rattle.worked.proofs.flaws.unsized_numbers_have_32_bits.Goals as goal
+use Rattle.worked.proofs.CounterFlaws.{step_from_three, sized_step_from_three}
 
 pub returns-clause-length : goal.returns-clause-length
 returns-clause-length c = refl

@@ -1,13 +1,12 @@
-use Rattle.std.proofs.Common.{◌≡◌, ℕ, nat_eq, true, false, [], ◌∷◌, refl, arith}
+use Rattle.std.proofs.Common.{◌≡◌, true, false, [], ◌∷◌, refl, arith}
 use Rattle.std.proofs.lemmas.List.Elements.{All-from_recursion}
-use Rattle.std.proofs.lemmas.Bool.{eq-eqb}
 use Rattle.set_tree.specs.Formulas.{meaning_of}
 use Rattle.set_tree.specs.Lines.{ViolatesSplit, ViolatesHand, ViolatesDetermine}
 use Rattle.set_tree.specs.Runs.{ViolatesOperation}
 use Rattle.set_tree.specs.Traces.{IsRow}
 use Rattle.worked.specs.Counter.{CounterCycle, counter_design, counter_names, counter_set, hold_without_hand, q, step_alone, unsized_step}
 use Rattle.worked.specs.Terms.{cover_to}
-use Rattle.worked.proofs.Free.{free_window}
+use Rattle.worked.proofs.Free.{apart, free_window}
 
 -- `split reset` and `split step` without `hold`: en is 0 where the successor starts
 
@@ -92,9 +91,6 @@ determine_hold = record {
 }
 
 -- where `hold` hands q over, the windows don't hand over the same
-
-apart : (a b : ℕ) → a ≡ b → nat_eq a b ≡ false → ⊥
-apart a b same differ = let e = eq-eqb a b same in cc
 
 pub hold_hands_over : ¬ ViolatesHand (meaning_of counter_set) counter_set 2 1 1 ((0 ∷ 0 ∷ []) ∷ (1 ∷ 0 ∷ []) ∷ (0 ∷ 1 ∷ []) ∷ []) ((0 ∷ 1 ∷ []) ∷ (1 ∷ 1 ∷ []) ∷ (0 ∷ 2 ∷ []) ∷ [])
 hold_hands_over v = apart 0 1 (v.pair.pair.hands 0 (q 0) (omega arith)) refl

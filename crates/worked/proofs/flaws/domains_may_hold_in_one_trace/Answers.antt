@@ -1,5 +1,5 @@
-use Rattle.worked.proofs.rows.domains_may_hold_in_one_trace.Goals as goal
-use Rattle.worked.proofs.PipeRows.{determine_reset, determine_move, reset_is_determined, move_is_determined}
+use Rattle.worked.proofs.flaws.domains_may_hold_in_one_trace.Goals as goal
+use Rattle.worked.proofs.PipeFlaws.{determine_reset, determine_move, reset_is_determined, move_is_determined}
 
 pub returns-clause-reset : goal.returns-clause-reset
 returns-clause-reset c = determine_reset

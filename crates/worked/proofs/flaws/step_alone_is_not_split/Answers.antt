@@ -1,5 +1,5 @@
-use Rattle.worked.proofs.rows.step_alone_is_not_split.Goals as goal
-use Rattle.worked.proofs.CounterRows.{split_reset, split_step, reset_is_split, step_is_split}
+use Rattle.worked.proofs.flaws.step_alone_is_not_split.Goals as goal
+use Rattle.worked.proofs.CounterFlaws.{split_reset, split_step, reset_is_split, step_is_split}
 
 pub returns-clause-reset : goal.returns-clause-reset
 returns-clause-reset c = split_reset
