@@ -1,0 +1,13 @@
+pub mod Free
+pub mod CounterFlaws
+pub mod FlipFlaws
+pub mod PipeFlaws
+pub mod HopFlaws
+pub mod WaiterFlaws
+pub mod Bits
+pub mod Pairs
+pub mod Unhanded
+pub mod Untimed
+pub mod Unfixed
+pub mod Uncovered
+pub mod AlwaysLow

@@ -1,0 +1,7 @@
+pub mod Terms
+pub mod Counter
+pub mod Flip
+pub mod Pipe
+pub mod Hop
+pub mod Waiter
+pub mod Needed

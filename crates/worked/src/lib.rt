@@ -1,0 +1,16 @@
+//! Worked sets of properties: which windows and segments violate their lines, and what completeness needs. Each fact is the
+//! contract of a function that does nothing.
+#![tactic(auto)]
+
+mod flaws;
+mod needed;
+
+pub use flaws::{
+    answers_must_be_constrained_to_come, domains_may_hold_in_one_trace, hold_without_hand_is_open,
+    step_alone_is_not_split, true_invariants_may_not_be_inductive, unhanded_states_leave_a_choice,
+    unsized_numbers_have_32_bits,
+};
+pub use needed::{
+    fixed_resets_are_needed, hand_lines_are_needed, meeting_covers_are_needed,
+    same_end_lines_are_needed, windows_must_fit,
+};
