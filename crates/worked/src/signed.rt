@@ -17,7 +17,11 @@ use set_tree::Line;
 pub fn counter_is_signed_off()
     ensures sound { IsSound (meaning_of counter_set) counter_set }
     ensures design { design_lines counter_set ≡ Line.Reset ∷ Line.Operation 1 ∷ Line.Operation 2 ∷ [] }
-    ensures set { set_lines counter_set ≡ Line.Split 0 ∷ Line.Split 1 ∷ Line.Split 2 ∷ Line.Choose 0 1 ∷ Line.Choose 0 2 ∷ Line.Choose 1 1 ∷ Line.Choose 1 2 ∷ Line.Choose 2 1 ∷ Line.Choose 2 2 ∷ Line.Hand 0 1 ∷ Line.Hand 0 2 ∷ Line.Hand 1 1 ∷ Line.Hand 1 2 ∷ Line.Hand 2 1 ∷ Line.Hand 2 2 ∷ Line.Determine 0 ∷ Line.Determine 1 ∷ Line.Determine 2 ∷ [] }
+    ensures set { set_lines counter_set ≡
+        Line.Split 0 ∷ Line.Split 1 ∷ Line.Split 2
+        ∷ Line.Choose 0 1 ∷ Line.Choose 0 2 ∷ Line.Choose 1 1 ∷ Line.Choose 1 2 ∷ Line.Choose 2 1 ∷ Line.Choose 2 2
+        ∷ Line.Hand 0 1 ∷ Line.Hand 0 2 ∷ Line.Hand 1 1 ∷ Line.Hand 1 2 ∷ Line.Hand 2 1 ∷ Line.Hand 2 2
+        ∷ Line.Determine 0 ∷ Line.Determine 1 ∷ Line.Determine 2 ∷ [] }
     ensures signed_off { IsSignedOff counter_design (meaning_of counter_set) counter_set }
 {}
 
