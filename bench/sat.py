@@ -11,9 +11,9 @@ import os
 import random
 import resource
 import shlex
+import signal
 import subprocess
 import sys
-import time
 
 
 def pigeons(pigeons, holes):
@@ -164,11 +164,12 @@ def run(command, path, limit):
     words = shlex.split(command.replace("{}", path))
     before = resource.getrusage(resource.RUSAGE_CHILDREN)
     with open("/dev/null" if named else path) as text:
-        process = subprocess.Popen(["/usr/bin/time", "-f", "%M"] + words, stdin=text, stdout=subprocess.PIPE, stderr=subprocess.PIPE)
+        words = ["/usr/bin/time", "-f", "%M"] + words
+        process = subprocess.Popen(words, stdin=text, stdout=subprocess.PIPE, stderr=subprocess.PIPE, start_new_session=True)
         try:
             out, err = process.communicate(timeout=limit)
         except subprocess.TimeoutExpired:
-            subprocess.run(["pkill", "-P", str(process.pid)])
+            os.killpg(process.pid, signal.SIGKILL)
             out, err = process.communicate()
     after = resource.getrusage(resource.RUSAGE_CHILDREN)
     words = [w for w in out.decode(errors="replace").split() if "SATISFIABLE" in w]

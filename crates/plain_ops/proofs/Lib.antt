@@ -13,4 +13,6 @@ pub mod Shapes
 pub mod Trace
 pub mod Verdicts
 pub mod Reports
+pub mod Designs
 pub mod PlainLemmas
+pub mod Suits

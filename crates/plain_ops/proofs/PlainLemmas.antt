@@ -1,9 +1,11 @@
 -- From tests to facts.
-use Rattle.std.proofs.Common.{◌≡◌, ℕ, ◌≤◌, ◌&&◌, not, Bool, true, false, List, [], ◌∷◌, Option, Some, None, length, arith, ap, sym, ◌∙◌, refl, ⊎_elim}
+use Rattle.std.proofs.Common.{◌≡◌, ℕ, ◌+◌, ◌<◌, ◌^◌, ◌≤◌, drop, get_or, ◌&&◌, not, Bool, true, false, List, [], ◌∷◌, Option, Some, None, length, arith, ap, sym, ◌∙◌, refl, ⊎_elim}
 use Rattle.std.specs.Prelude.{is_none, nat_le, nat_eq}
 use Rattle.std.specs.List.{list_all}
 use Rattle.std.specs.Str.{bytes_eq}
 use Rattle.std.proofs.lemmas.Bool.{leb-true, eqb-true}
+use Rattle.std.proofs.lemmas.List.{drop_more}
+use Rattle.std.proofs.lemmas.Nat.{pow_pos}
 use Rattle.set_tree.specs.declared.set.Rule.{Rule}
 use Rattle.vlog_tree.specs.declared.stmt.Stmt.{Stmt}
 use Rattle.plain_ops.specs.declared.view.Signal.{Signal}
@@ -24,6 +26,15 @@ nothing (Some a) h = cc
 
 pub in_range : (n : ℕ) → is_length n ≡ true → (1 ≤ n) × (n ≤ 64)
 in_range n h = let two = both (nat_le 1 n) (nat_le n 64) h in (leb-true 1 n two.0, leb-true n 64 two.1)
+
+pub positive : (n : ℕ) → 0 < 2 ^ n
+positive n = pow_pos n
+
+-- what passes for each that is left passes for the first of them
+pub test_left : (f : Signal → Bool) (ss : List Signal) (i : ℕ) (s : Signal) → i < length ss → s ≡ get_or ss i s → list_all f (drop i ss) ≡ true → f s ≡ true
+test_left f ss i s lt is h =
+    let all : list_all f (get_or ss i s ∷ drop (i + 1) ss) ≡ true = rw (drop_more ss i s lt) at h in
+    ap f is ∙ (both (f (get_or ss i s)) (list_all f (drop (i + 1) ss)) all).0
 
 -- what passes for each of a list passes for the one that a name declares
 pub test_at : (f : Signal → Bool) (ss : List Signal) → list_all f ss ≡ true → (x : Name) (s : Signal) → signal_at ss x ≡ Some s → f s ≡ true

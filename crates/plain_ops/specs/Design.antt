@@ -1,5 +1,5 @@
 -- The signals, the clock and the clocked block of a plain module.
-use Rattle.std.specs.Prelude.{◌≡◌, ℕ, ◌+◌, ◌&&◌, nat_eq, Bool, true, false, List, [], ◌∷◌, ◌++◌, Option, Some, None, if◌then◌else◌}
+use Rattle.std.specs.Prelude.{◌≡◌, ℕ, ◌+◌, ◌&&◌, nat_eq, nat_lt, Bool, true, false, List, [], ◌∷◌, ◌++◌, Option, Some, None, is_some, if◌then◌else◌}
 use Rattle.std.specs.Option.{option_map}
 use Rattle.vlog_tree.specs.declared.expr.Expr.{Expr}
 use Rattle.vlog_tree.specs.declared.expr.Expr.TheVariants as e
@@ -31,14 +31,20 @@ pub record Design : Type 0 where
   pub clock : Name
   pub body : Stmt
 
--- the length that `[m:0]` gives, both written by decimal digits alone; one bit without a range
-abbrev pub bits_of : Expr → Expr → Option ℕ
-bits_of (e.Number m) (e.Number n) = if m.plain && n.plain && nat_eq n.value 0 then Some (m.value + 1) else None
-bits_of a b = None
+-- a number that is written by decimal digits alone
+abbrev pub plain_value : Expr → Option ℕ
+plain_value (e.Number n) = if n.plain then Some n.value else None
+plain_value a = None
 
+-- the length that `[high:0]` gives, up to 64
+abbrev pub bits_of : Option ℕ → Option ℕ → Option ℕ
+bits_of (Some h) (Some l) = if nat_eq l 0 && nat_lt h 64 then Some (h + 1) else None
+bits_of o p = None
+
+-- one bit without a range
 abbrev pub width_in : Option Range → Option ℕ
 width_in None = Some 1
-width_in (Some r) = bits_of r.high r.low
+width_in (Some r) = bits_of (plain_value r.high) (plain_value r.low)
 
 -- the length of an unsigned declaration
 abbrev pub shape_width : Shape → Option ℕ
@@ -61,14 +67,64 @@ abbrev pub port_signal : HeaderPort → Option Signal
 port_signal (h.Group kind shape x) = signal_of (port_kind kind) x (shape_width shape)
 port_signal (h.Again x) = None
 
+-- the signal of `name`, unless it has words
+abbrev pub register_signal : Option ℕ → Register → Option Signal
+register_signal width r = without_words r.words (signal_of (Some Reg) r.name width)
+  where
+    without_words : Option Range → Option Signal → Option Signal
+    without_words None o = o
+    without_words (Some w) o = None
+
+-- the one register of an item
+abbrev pub one_register : Option ℕ → List Register → Option Signal
+one_register width [] = None
+one_register width (r ∷ []) = register_signal width r
+one_register width (r ∷ q ∷ rs) = None
+
 -- the signal of `reg [range] name;`
 abbrev pub reg_signal : Item → Option Signal
-reg_signal (i.Registers shape (r ∷ [])) = one_word r.words (signal_of (Some Reg) r.name (shape_width shape))
-  where
-    one_word : Option Range → Option Signal → Option Signal
-    one_word None o = o
-    one_word (Some w) o = None
+reg_signal (i.Registers shape rs) = one_register (shape_width shape) rs
 reg_signal item = None
+
+-- the clock of `@(posedge clock)`
+abbrev pub one_edge : List Edge → Option Name
+one_edge [] = None
+one_edge (edge ∷ []) = if edge.rising then Some edge.name else None
+one_edge (edge ∷ other ∷ edges) = None
+
+abbrev pub clock_of : Events → Option Name
+clock_of v.All = None
+clock_of (v.Edges edges) = one_edge edges
+clock_of (v.Names xs) = None
+
+-- a clock and a statement, and no signal yet
+abbrev pub clocked : Name → Stmt → Design
+clocked x body = record { signals = []; clock = x; body = body }
+
+abbrev pub clocked_by : Option Name → Stmt → Option Design
+clocked_by None body = None
+clocked_by (Some x) body = Some (clocked x body)
+
+-- what `always @(posedge clock) stmt` gives
+abbrev pub block_of : Item → Option Design
+block_of (i.Always events body) = clocked_by (clock_of events) body
+block_of item = None
+
+-- these signals before those of a design
+abbrev pub with_signals : List Signal → Option Design → Option Design
+with_signals ss None = None
+with_signals ss (Some m) = Some (record { signals = ss ++ m.signals; clock = m.clock; body = m.body })
+
+-- the clocked block stands last, and each item before it is a signal
+abbrev pub item_first : Option Design → Option Signal → List Item → Option Design → Option Design
+item_first (Some m) o [] d = Some m
+item_first (Some m) o (item ∷ rest) d = None
+item_first None (Some s) rest d = with_signals (s ∷ []) d
+item_first None None rest d = None
+
+abbrev pub items_design : List Item → Option Design
+items_design [] = None
+items_design (item ∷ rest) = item_first (block_of item) (reg_signal item) rest (items_design rest)
 
 -- what a function gives for each of a list, where it gives something for all
 abbrev pub with_first : {B : Type 0} → Option B → Option (List B) → Option (List B)
@@ -78,3 +134,17 @@ with_first o os = None
 abbrev pub for_all : {A B : Type 0} → (A → Option B) → List A → Option (List B)
 for_all f [] = Some []
 for_all f (a ∷ rest) = with_first (f a) (for_all f rest)
+
+-- the signals of the ports of a header
+abbrev pub port_signals : Option Ports → Option (List Signal)
+port_signals None = None
+port_signals (Some (p.Names xs)) = None
+port_signals (Some (p.Groups ports)) = for_all port_signal ports
+
+abbrev pub ports_first : Option (List Signal) → Option Design → Option Design
+ports_first None d = None
+ports_first (Some ss) d = with_signals ss d
+
+-- a module without a parameter list, with the ports in its header, `reg` items, and then one clocked block
+abbrev pub design_of : Module → Option Design
+design_of m = if is_some m.parameters then None else ports_first (port_signals m.ports) (items_design m.items)

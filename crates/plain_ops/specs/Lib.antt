@@ -8,3 +8,4 @@ pub mod Plain
 pub mod Suited
 pub mod Numbers
 pub mod Report
+pub mod Answers

@@ -123,11 +123,13 @@ same_bool false b = not b
 abbrev pub are_assigned : Stmt → List Signal → Bool
 are_assigned body ss = list_all (λ s. same_bool (assigns body s.name) (not (is_input s.kind))) ss
 
--- the clock is a 1-bit input, each name is declared once, lengths are from 1 to 64, all signals but the inputs are assigned,
+-- the clock is a 1-bit input, each name is declared once, lengths are from 1 to 64, all signals but the inputs are assigned
+abbrev pub is_declared : Design → Bool
+is_declared m = is_bit_input (signal_at m.signals m.clock) && (are_distinct m.signals && (are_wide m.signals && are_assigned m.body m.signals))
+
 -- and expressions read the signals but the clock
 abbrev pub is_plain : Design → Bool
-is_plain m =
-    is_bit_input (signal_at m.signals m.clock) && (are_distinct m.signals && (are_wide m.signals && (are_assigned m.body m.signals && is_simple_stmt (valuation m zeros) m.body)))
+is_plain m = is_declared m && is_simple_stmt (valuation m zeros) m.body
 
 -- ---- sets
 
@@ -155,40 +157,48 @@ are_distinct_operations [] = true
 are_distinct_operations (p ∷ ps) = not (bytes_eq p.name (codes "reset")) && (not (operation_at ps p.name) && are_distinct_operations ps)
 
 -- a cover names an output
+abbrev pub is_output_role : Role → Bool
+is_output_role r.Input = false
+is_output_role r.Output = true
+is_output_role r.State = false
+
 abbrev pub is_output : Option Declared → Bool
 is_output None = false
 is_output (Some n) = is_output_role n.role
-  where
-    is_output_role : Role → Bool
-    is_output_role r.Input = false
-    is_output_role r.Output = true
-    is_output_role r.State = false
 
--- a property of so many cycles, which is also its window, whose expressions read the declared names up to that offset
-abbrev pub is_plain_property : List Declared → ℕ → Property → Bool
-is_plain_property ns n p =
-    (nat_eq p.length.low n && (nat_eq p.length.high n && (is_none p.length.until && nat_eq p.window n)))
-    && (all_simple (rows ns (λ _. zeros) (suc n)) p.assume && (all_simple (rows ns (λ _. zeros) (suc n)) p.commit && (all_simple (rows ns (λ _. zeros) (suc n)) p.hand
-    && list_all (λ c. is_output (slice_get ns c.output)) p.covers)))
+-- a property of so many cycles, which is also its window
+abbrev pub is_long : ℕ → Property → Bool
+is_long n p = nat_eq p.length.low n && (nat_eq p.length.high n && (is_none p.length.until && nat_eq p.window n))
 
--- reset is active at 1, nothing is constrained, names are plain and each declared once, reset has length 0 and each operation 1
+-- whose expressions read what stands in a valuation, and whose covers name outputs
+abbrev pub is_plain_property : List Declared → List Entry → ℕ → Property → Bool
+is_plain_property ns v n p =
+    is_long n p && (all_simple v p.assume && (all_simple v p.commit && (all_simple v p.hand && list_all (λ c. is_output (slice_get ns c.output)) p.covers)))
+
+-- reset is active at 1, nothing is constrained, names are plain and each declared once, and so are the operations' names
+abbrev pub are_plain_declarations : Set → Bool
+are_plain_declarations set =
+    (set.high && (nat_eq (length set.constraints) 0 && nat_eq (length set.invariants) 0))
+    && (are_distinct_names set.names && (list_all is_plain_name set.names && are_distinct_operations set.operations))
+
+-- reset has length 0 and each operation 1, and they read the declared names at the offsets up to it
 abbrev pub is_plain_set : Set → Bool
 is_plain_set set =
-    (set.high && (nat_eq (length set.constraints) 0 && nat_eq (length set.invariants) 0))
-    && ((are_distinct_names set.names && list_all is_plain_name set.names) && (is_plain_property set.names 0 set.first
-    && (are_distinct_operations set.operations && list_all (is_plain_property set.names 1) set.operations)))
+    are_plain_declarations set
+    && (is_plain_property set.names (rows set.names (λ _. zeros) 1) 0 set.first
+    && list_all (is_plain_property set.names (rows set.names (λ _. zeros) 2) 1) set.operations)
 
 -- ---- fits
+
+abbrev pub is_output_kind : Kind → Bool
+is_output_kind Input = false
+is_output_kind Output = true
+is_output_kind Register = false
 
 -- what a declared name is in the module: an input but the clock and the reset, an output, or a register
 abbrev pub is_of_role : Design → Set → Role → Signal → Bool
 is_of_role m set r.Input s = is_free m set s
 is_of_role m set r.Output s = is_output_kind s.kind
-  where
-    is_output_kind : Kind → Bool
-    is_output_kind Input = false
-    is_output_kind Output = true
-    is_output_kind Register = false
 is_of_role m set r.State s = not (is_input s.kind)
 
 -- a declared name is a signal of its length and role
@@ -200,8 +210,12 @@ is_named m set n (Some s) = nat_eq s.width n.width && is_of_role m set n.role s
 abbrev pub is_covered : Design → Set → Signal → Bool
 is_covered m set s = not (is_free m set s) || is_some (name_at set.names s.name)
 
--- the block is the module, the clock its clock, reset another 1-bit input, the names are signals, and all inputs are named
-abbrev pub fits : Name → Design → Set → Bool
-fits name m set =
-    (bytes_eq set.block name && (bytes_eq set.clock m.clock && (not (bytes_eq set.reset m.clock) && is_bit_input (signal_at m.signals set.reset))))
+-- the clock is the module's, reset another 1-bit input, the names are signals, and all inputs are named
+abbrev pub suits : Design → Set → Bool
+suits m set =
+    (bytes_eq set.clock m.clock && (not (bytes_eq set.reset m.clock) && is_bit_input (signal_at m.signals set.reset)))
     && (list_all (λ n. is_named m set n (signal_at m.signals n.name)) set.names && list_all (is_covered m set) m.signals)
+
+-- and the block is the module
+abbrev pub fits : Name → Design → Set → Bool
+fits name m set = bytes_eq set.block name && suits m set

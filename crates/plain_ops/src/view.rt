@@ -41,6 +41,17 @@ impl<'a> Model for Design<'a> {
 impl<'a> Design<'a> {
     ghost use Rattle.std.specs.Prelude.{◌≡◌};
 
+    /// A design of these signals.
+    pub fn new(signals: Vec<Signal>, clock: &'a Text, body: &'a Stmt) -> Design<'a>
+        ensures { result ≡ record { signals = signals.items; clock = clock.now; body = body.now } }
+    {
+        Design {
+            signals,
+            clock,
+            body,
+        }
+    }
+
     pub fn signals(&self) -> &[Signal]
         ensures { result.now ≡ self.now.signals }
     {

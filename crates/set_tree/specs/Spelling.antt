@@ -23,6 +23,19 @@ use Rattle.set_tree.specs.declared.text.RuleText.{RuleText}
 use Rattle.set_tree.specs.declared.text.SetText.{SetText}
 use Rattle.set_tree.specs.declared.text.Until.{Until}
 
+abbrev pub role_word : Role → List ℕ
+role_word role.Input = codes "input"
+role_word role.Output = codes "output"
+role_word role.State = codes "state"
+
+abbrev pub rule_word : RuleKind → List ℕ
+rule_word rule.Constraint = codes "constraint"
+rule_word rule.Invariant = codes "invariant"
+
+abbrev pub level_word : Bool → List ℕ
+level_word true = codes "high"
+level_word false = codes "low"
+
 module _ (ts : List Token) where
   -- decimal digits alone
   abbrev pub IsDigits : ℕ → ℕ → ℕ → Type 0
@@ -43,11 +56,6 @@ module _ (ts : List Token) where
   abbrev pub SpellsDomain : ℕ → Expr → ℕ → Type 0
   SpellsDomain i x j = IsWord ts i (codes "when") × Spells true ts (i + 1) x j
 
-  abbrev pub role_word : Role → List ℕ
-  role_word role.Input = codes "input"
-  role_word role.Output = codes "output"
-  role_word role.State = codes "state"
-
   -- an output alone may have a domain
   abbrev pub SpellsDomainOf : Role → ℕ → Option Expr → ℕ → Type 0
   SpellsDomainOf role.Output i x j = Maybe SpellsDomain i x j
@@ -58,10 +66,6 @@ module _ (ts : List Token) where
   SpellsDeclaration i x j =
       (a b c d : ℕ) × IsWord ts i (role_word x.role) × SpellsSigned (i + 1) x.signed a × Maybe SpellsBits a x.bits b
       × IsPath ts b x.name c × SpellsDomainOf x.role c x.domain d × IsSign ts d (codes ";") × (j ≡ d + 1)
-
-  abbrev pub rule_word : RuleKind → List ℕ
-  rule_word rule.Constraint = codes "constraint"
-  rule_word rule.Invariant = codes "invariant"
 
   abbrev pub SpellsRule : ℕ → RuleText → ℕ → Type 0
   SpellsRule i x j =
@@ -98,14 +102,17 @@ module _ (ts : List Token) where
       (a b c : ℕ) × SpellsHand i hand a × Sequence SpellsCover a covers b
       × Clause (codes "next") (Separated (Comma ts) (IsNamed true ts)) b next c × IsSign ts c (codes "}") × (j ≡ c + 1)
 
+  -- the length, the window, the assumption and the commitment
+  abbrev pub SpellsConditions : ℕ → LengthText → Option ℕ → List Expr → List Expr → ℕ → Type 0
+  SpellsConditions i length window assume commit j =
+      (a b c : ℕ) × Clause (codes "length") SpellsLength i length a × Maybe (Clause (codes "window") IsDigits) a window b
+      × Sequence (Clause (codes "assume") (Spells true ts)) b assume c × Sequence (Clause (codes "commit") (Spells true ts)) c commit j
+
   -- from the opening brace on
   abbrev pub SpellsProperty : ℕ → PropertyText → ℕ → Type 0
   SpellsProperty i x j =
-      (a b c d : ℕ) × IsSign ts i (codes "{") × Clause (codes "length") SpellsLength (i + 1) x.length a
-      × Maybe (Clause (codes "window") IsDigits) a x.window b
-      × Sequence (Clause (codes "assume") (Spells true ts)) b x.assume c
-      × Sequence (Clause (codes "commit") (Spells true ts)) c x.commit d
-      × SpellsTail d x.hand x.covers x.next j
+      (m : ℕ) × IsSign ts i (codes "{") × SpellsConditions (i + 1) x.length x.window x.assume x.commit m
+      × SpellsTail m x.hand x.covers x.next j
 
   -- the reset property has a fixed length and assumes nothing
   abbrev pub SpellsReset : ℕ → PropertyText → ℕ → Type 0
@@ -115,10 +122,6 @@ module _ (ts : List Token) where
 
   abbrev pub SpellsOperation : ℕ → PropertyText → ℕ → Type 0
   SpellsOperation i x j = IsWord ts i (codes "operation") × IsNamed true ts (i + 1) x.name (i + 2) × SpellsProperty (i + 2) x j
-
-  abbrev pub level_word : Bool → List ℕ
-  level_word true = codes "high"
-  level_word false = codes "low"
 
   -- `word name;`
   abbrev pub SpellsNamed : List ℕ → ℕ → List ℕ → ℕ → Type 0

@@ -1,5 +1,6 @@
-ghost use Rattle.std.specs.Prelude.{◌≡◌};
+ghost use Rattle.std.specs.Prelude.{◌≡◌, [], ◌∷◌, ◌++◌, OnOk, OnErr};
 
+use std::alloc::{AllocError, Global};
 use std::marker::Model;
 
 /// A `Vec` that contracts see as the list of its elements, and that hands it back.
@@ -20,11 +21,13 @@ impl<T> Model for Rows<T> {
 }
 
 impl<T> Rows<T> {
-    /// The rows of these elements.
-    pub fn from_vec(rows: Vec<T>) -> Rows<T>
-        ensures { result ≡ rows.items }
+    /// No rows.
+    pub fn new(alloc: Global) -> Rows<T>
+        ensures { result ≡ [] }
     {
-        Rows { rows }
+        Rows {
+            rows: Vec::new(alloc),
+        }
     }
 
     /// The elements, with their memory.
@@ -40,5 +43,16 @@ impl<T> Rows<T> {
         ensures { result.now ≡ self.now }
     {
         self.rows.as_slice()
+    }
+}
+
+impl<T: Drop> Rows<T> {
+    /// Adds an element at the end. Refused only for want of memory.
+    pub fn push(&mut self, element: T) -> Result<(), AllocError>
+        ensures ok { OnOk result (self.new ≡ self.old ++ element ∷ []) }
+        ensures err { OnErr result (self.new ≡ self.old) }
+    {
+        self.rows.push(element)?;
+        Ok(())
     }
 }

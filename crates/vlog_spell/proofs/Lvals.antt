@@ -58,7 +58,7 @@ module _ (ts : List Token) where
   form i (l.Part n w a b) j p = part n w a b refl p
   form i (l.Concat' q row) j p = concat (list_of row) p.0 (concat_is q row) p.1 (as_list row (i + 1) p.0 p.2) p.3 p.4
 
-  no_brace : (i : ℕ) (n : List ℕ) → IsIdentifier false ts i n → IsSign ts i (codes "{") → ⊥
+  pub no_brace : (i : ℕ) (n : List ℕ) → IsIdentifier false ts i n → IsSign ts i (codes "{") → ⊥
   no_brace i n p h = let q = p.stands in cc
 
   abbrev pub One : Lval → Type 0

@@ -14,3 +14,8 @@ loop-place-preserved c =
     let clauses = clauses_of c.args.cnf.now.clauses.items c.args.steps.now in
     let next : c.loop-place.place ≡ p + 1 = omega arith in
     reduced_past clauses c.args.trail.now.entries c.args.start c.args.cut p s (subst (λ n. IsReduced clauses c.args.trail.now.entries c.args.start c.args.cut n s) next c.loop-place.invariant)
+
+pub returns : goal.returns
+returns c =
+    let at : c.loop-place.place ≡ 0 = omega arith in
+    subst (λ n. IsReduced (clauses_of c.args.cnf.now.clauses.items c.args.steps.now) c.args.trail.now.entries c.args.start c.args.cut n c.loop-place.self) at c.loop-place.invariant

@@ -1,0 +1,5 @@
+pub mod Steps
+pub mod Operands
+pub mod ListSteps
+pub mod SignTests
+pub mod NameSteps

@@ -1,0 +1,2 @@
+pub mod LvalSteps
+pub mod StmtSteps

@@ -1,0 +1,34 @@
+use Rattle.std.proofs.Common.{◌≡◌, ◌<◌, ◌≤◌, ℕ, ◌+◌, List, [], ◌∷◌, ◌++◌, length, arith, rules, refl, sym, ◌∙◌, ap, subst}
+use Rattle.vlog_spell.proofs.Tokens.{kind_within}
+use Rattle.vlog_read_expr.proofs.SignTests.{yes_by, no_by}
+use Rattle.vlog_read_stmt.proofs.LvalSteps.{lval_span, concat_spelt, list_begins, list_ends, list_grows}
+use Rattle.vlog_read_stmt.proofs.lval.+lval.Goals as goal
+
+pub concat-after-requires : goal.concat-after-requires
+concat-after-requires t c = kind_within _ _ _ c.requires.here
+
+pub concat-after-requires-2 : goal.concat-after-requires-2
+concat-after-requires-2 t c = kind_within _ _ _ (yes_by _ c.is_sign.ensures c.if-not-is_sign.false)
+
+pub concat-returns : goal.concat-returns
+concat-returns t c =
+    concat_spelt _ _ _ c.requires.positive c.requires.here _ (rw c.after.ensures at c.in_ok-parts.ensures) (yes_by _ c.is_sign.ensures c.if-not-is_sign.false) _ refl c.after-2.ensures refl
+
+pub list-loop-alloc-init : goal.list-loop-alloc-init
+list-loop-alloc-init t c =
+    let q : c.push.new.self ≡ c.in_ok-first.first.tree ∷ [] = c.in_ok-push.ensures.ok ∙ ap (λ z. z ++ c.in_ok-first.first.tree ∷ []) c.new-items.ensures in
+    list_begins _ _ _ _ c.in_ok-first.ensures _ q
+
+pub list-after-requires : goal.list-after-requires
+list-after-requires t c = kind_within _ _ _ (yes_by _ c.is_sign.ensures c.loop-alloc-test.true)
+
+pub list-loop-alloc-smaller : goal.list-loop-alloc-smaller
+list-loop-alloc-smaller t c =
+    let u = lval_span c.args.tokens.now c.after.result c.in_ok-item.item.tree c.in_ok-item.item.end c.in_ok-item.ensures.reads.spelt in omega (arith, u.0, u.1, c.after.ensures)
+
+pub list-loop-alloc-preserved : goal.list-loop-alloc-preserved
+list-loop-alloc-preserved t c =
+    list_grows _ _ _ _ _ _ c.loop-alloc.invariant (yes_by _ c.is_sign.ensures c.loop-alloc-test.true) _ (rw c.after.ensures at c.in_ok-item.ensures) _ c.in_ok-push-2.ensures.ok _ c.max-height.ensures
+
+pub list-returns : goal.list-returns
+list-returns t c = list_ends _ _ _ _ _ _ c.loop-alloc.invariant (no_by _ c.is_sign.ensures c.loop-alloc-test.false) _ refl refl refl

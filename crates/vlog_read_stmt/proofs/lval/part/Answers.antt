@@ -1,0 +1,17 @@
+use Rattle.std.proofs.Common.{◌≡◌, ℕ, ◌+◌, arith, rules, refl, sym, ◌∙◌, ap}
+use Rattle.vlog_spell.proofs.Tokens.{kind_within}
+use Rattle.vlog_spell.proofs.Forms.{span_within}
+use Rattle.vlog_read_expr.proofs.SignTests.{yes_by, no_by}
+use Rattle.vlog_read_stmt.proofs.LvalSteps.{part_spelt}
+use Rattle.vlog_read_stmt.proofs.lval.part.Goals as goal
+
+pub after-requires : goal.after-requires
+after-requires c = span_within _ _ _ c.requires.sign
+
+pub after-requires-2 : goal.after-requires-2
+after-requires-2 c = kind_within _ _ _ (yes_by _ c.is_sign.ensures c.if-not-is_sign.false)
+
+pub returns : goal.returns
+returns c =
+    part_spelt _ _ _ c.requires.positive _ c.requires.here c.requires.open _ c.requires.read _ c.requires.sign _ (rw c.after.ensures at c.in_ok-other.ensures)
+    (yes_by _ c.is_sign.ensures c.if-not-is_sign.false) _ refl c.after-2.ensures (omega (arith, c.max.ensures))

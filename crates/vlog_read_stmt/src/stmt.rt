@@ -1,0 +1,279 @@
+//! Statements, by their first token.
+ghost use Rattle.std.specs.Prelude.{◌≡◌, ◌≤◌, ◌<◌, ◌+◌, ◌-◌, length, Some, codes, false};
+ghost use Rattle.vlog_tree.specs.Signs.{IsSign, IsWord};
+ghost use Rattle.vlog_read_stmt.specs.Answers.{AnswersStmt, AnswersSeq, AnswersHeader, AnswersValue, AnswersBlockName, IsLval, IsHeader, IsStmt};
+
+use crate::lval::{ParsedLval, read_lval};
+use outside::Text;
+use sqlite_items::{Boxed, Items};
+use std::alloc::Global;
+use vlog_lex::ReadFault;
+use vlog_read_expr::{Parsed, after, identifier, is_sign, is_word, read_tree};
+use vlog_tree::{Stmt, Token};
+
+/// A statement, its height, and the place after it.
+#[derive(Drop)]
+pub struct ParsedStmt {
+    pub tree: Stmt,
+    pub height: usize,
+    pub end: usize,
+}
+
+/// Statements one after another, the greatest height among them, and the place after them.
+#[derive(Drop)]
+pub struct ParsedSeq {
+    pub items: Items<Stmt>,
+    pub height: usize,
+    pub end: usize,
+}
+
+/// The name of a block where it has one, and the place after it.
+#[derive(Drop)]
+pub struct BlockName {
+    pub name: Option<Text>,
+    pub end: usize,
+}
+
+/// The statement at a place, no higher than `depth`.
+#[cycle(stmt)]
+pub fn read_stmt(
+    alloc: Global,
+    tokens: &[Token],
+    at: usize,
+    depth: usize,
+) -> Result<ParsedStmt, ReadFault>
+    requires low { depth ≤ 500 }
+    ensures { AnswersStmt tokens.now at depth result }
+{
+    if tokens.len() <= at {
+        return Err(ReadFault::Syntax(at));
+    }
+    if depth == 0 {
+        return Err(ReadFault::Deep);
+    }
+    if is_sign(tokens, at, b";") {
+        Ok(ParsedStmt {
+            tree: Stmt::Empty,
+            height: 1,
+            end: after(tokens, at),
+        })
+    } else if is_word(tokens, at, b"begin") {
+        block(alloc, tokens, at, depth)
+    } else if is_word(tokens, at, b"if") {
+        conditional(alloc, tokens, at, depth)
+    } else {
+        assignment(alloc, tokens, at, depth)
+    }
+}
+
+/// `:` and a name, or nothing.
+fn block_name(alloc: Global, tokens: &[Token], at: usize) -> Result<BlockName, ReadFault>
+    ensures { AnswersBlockName tokens.now at result }
+{
+    if !is_sign(tokens, at, b":") {
+        return Ok(BlockName {
+            name: None,
+            end: at,
+        });
+    }
+    let colon = after(tokens, at);
+    let name = identifier(alloc, false, tokens, colon)?;
+    Ok(BlockName {
+        name: Some(name),
+        end: after(tokens, colon),
+    })
+}
+
+#[cycle(stmt)]
+fn block(alloc: Global, tokens: &[Token], at: usize, depth: usize) -> Result<ParsedStmt, ReadFault>
+    requires here { IsWord tokens.now at (codes "begin") }
+    requires positive { 0 < depth }
+    requires low { depth ≤ 500 }
+    ensures { AnswersStmt tokens.now at depth result }
+{
+    let label = block_name(alloc, tokens, after(tokens, at))?;
+    let parts = sequence(alloc, tokens, label.end, depth - 1)?;
+    Ok(ParsedStmt {
+        tree: Stmt::Block(label.name, parts.items),
+        height: parts.height + 1,
+        end: after(tokens, parts.end),
+    })
+}
+
+/// Statements up to an `end`.
+#[cycle(stmt)]
+fn sequence(
+    alloc: Global,
+    tokens: &[Token],
+    at: usize,
+    depth: usize,
+) -> Result<ParsedSeq, ReadFault>
+    requires low { depth ≤ 500 }
+    ensures { AnswersSeq tokens.now at depth result }
+{
+    let mut items = Items::new(alloc);
+    let mut height = 0usize;
+    let mut end = at;
+    while !is_word(tokens, end, b"end") {
+        let item = read_stmt(alloc, tokens, end, depth)?;
+        items.push(item.tree)?;
+        height = height.max(item.height);
+        end = item.end;
+    }
+    Ok(ParsedSeq { items, height, end })
+}
+
+/// After a word, an expression in parentheses; the place answered is that after the closing one.
+fn header(alloc: Global, tokens: &[Token], at: usize, depth: usize) -> Result<Parsed, ReadFault>
+    requires within { at < length tokens.now }
+    requires low { depth ≤ 500 }
+    ensures { AnswersHeader tokens.now at depth result }
+{
+    let open = after(tokens, at);
+    if !is_sign(tokens, open, b"(") {
+        return Err(ReadFault::Syntax(open));
+    }
+    let inner = read_tree(alloc, false, tokens, after(tokens, open), depth)?;
+    if !is_sign(tokens, inner.end, b")") {
+        return Err(ReadFault::Syntax(inner.end));
+    }
+    Ok(Parsed {
+        tree: inner.tree,
+        height: inner.height,
+        end: after(tokens, inner.end),
+    })
+}
+
+#[cycle(stmt)]
+fn conditional(
+    alloc: Global,
+    tokens: &[Token],
+    at: usize,
+    depth: usize,
+) -> Result<ParsedStmt, ReadFault>
+    requires here { IsWord tokens.now at (codes "if") }
+    requires positive { 0 < depth }
+    requires low { depth ≤ 500 }
+    ensures { AnswersStmt tokens.now at depth result }
+{
+    let condition = header(alloc, tokens, at, depth - 1)?;
+    let yes = read_stmt(alloc, tokens, condition.end, depth - 1)?;
+    if is_word(tokens, yes.end, b"else") {
+        return with_else(alloc, tokens, at, condition, yes, depth);
+    }
+    Ok(ParsedStmt {
+        tree: Stmt::If(condition.tree, Boxed::new(alloc, yes.tree)?),
+        height: condition.height.max(yes.height) + 1,
+        end: yes.end,
+    })
+}
+
+/// The `else` of an `if` whose first part is read.
+#[cycle(stmt)]
+fn with_else(
+    alloc: Global,
+    tokens: &[Token],
+    at: usize,
+    condition: Parsed,
+    yes: ParsedStmt,
+    depth: usize,
+) -> Result<ParsedStmt, ReadFault>
+    requires here { IsWord tokens.now at (codes "if") }
+    requires condition { IsHeader tokens.now at (depth - 1) condition }
+    requires yes { IsStmt tokens.now condition.end (depth - 1) yes }
+    requires word { IsWord tokens.now yes.end (codes "else") }
+    requires positive { 0 < depth }
+    requires low { depth ≤ 500 }
+    ensures { AnswersStmt tokens.now at depth result }
+{
+    let no = read_stmt(alloc, tokens, after(tokens, yes.end), depth - 1)?;
+    let height = condition.height.max(yes.height.max(no.height)) + 1;
+    let tree = Stmt::IfElse(
+        condition.tree,
+        Boxed::new(alloc, yes.tree)?,
+        Boxed::new(alloc, no.tree)?,
+    );
+    Ok(ParsedStmt {
+        tree,
+        height,
+        end: no.end,
+    })
+}
+
+/// An expression and its semicolon; the place answered is that after it.
+fn value(alloc: Global, tokens: &[Token], at: usize, depth: usize) -> Result<Parsed, ReadFault>
+    requires low { depth ≤ 500 }
+    ensures { AnswersValue tokens.now at depth result }
+{
+    let value = read_tree(alloc, false, tokens, at, depth)?;
+    if !is_sign(tokens, value.end, b";") {
+        return Err(ReadFault::Syntax(value.end));
+    }
+    Ok(Parsed {
+        tree: value.tree,
+        height: value.height,
+        end: after(tokens, value.end),
+    })
+}
+
+fn assignment(
+    alloc: Global,
+    tokens: &[Token],
+    at: usize,
+    depth: usize,
+) -> Result<ParsedStmt, ReadFault>
+    requires positive { 0 < depth }
+    requires low { depth ≤ 500 }
+    ensures { AnswersStmt tokens.now at depth result }
+{
+    let left = read_lval(alloc, tokens, at, depth - 1)?;
+    if is_sign(tokens, left.end, b"<=") {
+        nonblocking(alloc, tokens, at, left, depth)
+    } else if is_sign(tokens, left.end, b"=") {
+        blocking(alloc, tokens, at, left, depth)
+    } else {
+        Err(ReadFault::Syntax(left.end))
+    }
+}
+
+fn nonblocking(
+    alloc: Global,
+    tokens: &[Token],
+    at: usize,
+    left: ParsedLval,
+    depth: usize,
+) -> Result<ParsedStmt, ReadFault>
+    requires left { IsLval tokens.now at (depth - 1) left }
+    requires sign { IsSign tokens.now left.end (codes "<=") }
+    requires positive { 0 < depth }
+    requires low { depth ≤ 500 }
+    ensures { AnswersStmt tokens.now at depth result }
+{
+    let right = value(alloc, tokens, after(tokens, left.end), depth - 1)?;
+    Ok(ParsedStmt {
+        tree: Stmt::Nonblocking(left.tree, right.tree),
+        height: left.height.max(right.height) + 1,
+        end: right.end,
+    })
+}
+
+fn blocking(
+    alloc: Global,
+    tokens: &[Token],
+    at: usize,
+    left: ParsedLval,
+    depth: usize,
+) -> Result<ParsedStmt, ReadFault>
+    requires left { IsLval tokens.now at (depth - 1) left }
+    requires sign { IsSign tokens.now left.end (codes "=") }
+    requires positive { 0 < depth }
+    requires low { depth ≤ 500 }
+    ensures { AnswersStmt tokens.now at depth result }
+{
+    let right = value(alloc, tokens, after(tokens, left.end), depth - 1)?;
+    Ok(ParsedStmt {
+        tree: Stmt::Blocking(left.tree, right.tree),
+        height: left.height.max(right.height) + 1,
+        end: right.end,
+    })
+}
