@@ -1,17 +1,17 @@
 -- Rows of two names of one bit, and what formulas over them say.
-use Rattle.std.proofs.Common.{◌≡◌, ℕ, zero, suc, ◌<◌, Bool, cond, Some, None, true, false, not, nat_eq, ◌&&◌, ◌||◌, ◌⊎◌, inl, inr, List, [], ◌∷◌, length, refl, sym, ◌∙◌, ap, subst, arith}
+use Rattle.std.proofs.Common.{◌≡◌, ℕ, zero, suc, ◌<◌, Bool, cond, Some, None, true, false, not, nat_eq, ◌&&◌, ◌||◌, ◌⊎◌, inl, inr, List, [], ◌∷◌, length, refl, sym, ◌∙◌, ap, subst, arith, codes}
 use Rattle.std.proofs.lemmas.Bool.{eqb-true}
 use Rattle.std.specs.List.{All}
 use Rattle.vlog_tree.specs.Value.{bit}
+use Rattle.set_tree.specs.declared.set.Role.TheVariants.{Output, State}
 use Rattle.set_tree.specs.Meaning.{Row}
 use Rattle.set_tree.specs.Traces.{IsRow}
 use Rattle.worked.specs.Needed.{bits}
+use Rattle.worked.specs.Terms.{declared}
+use Rattle.worked.proofs.Free.{row_of_two}
 
 row_of_bits : (row : Row) → IsRow bits row → (a b : ℕ) × (row ≡ a ∷ b ∷ [])
-row_of_bits [] r = absurd r
-row_of_bits (a ∷ []) r = absurd r.1
-row_of_bits (a ∷ b ∷ []) r = (a, b, refl)
-row_of_bits (a ∷ b ∷ c ∷ row) r = absurd r.1.1
+row_of_bits = row_of_two (declared (codes "o") Output 1) (declared (codes "s") State 1)
 
 one_row : (rows : List Row) → All (IsRow bits) rows → length rows ≡ 1 → (a b : ℕ) × (rows ≡ (a ∷ b ∷ []) ∷ [])
 one_row [] trace size = absurd (omega arith)

@@ -4,7 +4,8 @@ use Rattle.set_tree.specs.Formulas.{meaning_of}
 use Rattle.set_tree.specs.Lines.{ViolatesSplit, ViolatesHand, ViolatesDetermine}
 use Rattle.set_tree.specs.Runs.{ViolatesOperation}
 use Rattle.set_tree.specs.Traces.{IsRow}
-use Rattle.worked.specs.Counter.{CounterCycle, counter_design, counter_names, counter_set, hold_without_hand, q, step_alone, unsized_step}
+use Rattle.worked.specs.declared.counter.CounterCycle.{CounterCycle}
+use Rattle.worked.specs.Counter.{counter_design, counter_names, counter_set, hold_without_hand, q, step_alone, unsized_step}
 use Rattle.worked.specs.Terms.{cover_to}
 use Rattle.worked.proofs.Free.{apart, free_window}
 

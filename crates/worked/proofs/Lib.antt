@@ -11,3 +11,5 @@ pub mod Untimed
 pub mod Unfixed
 pub mod Uncovered
 pub mod AlwaysLow
+pub mod CounterSet
+pub mod CounterRuns

@@ -15,13 +15,15 @@
 --     cover q from 1 to 2; next step, hold; }
 --   operation hold { length 1; assume !en@0; commit q@1 == q@0; hand q@0;
 --     cover q from 1 to 2; next step, hold; }
-use Rattle.std.specs.Prelude.{◌≡◌, ℕ, ◌+◌, ◌%◌, Bool, true, cond, List, [], ◌∷◌, codes}
+use Rattle.std.specs.Prelude.{◌≡◌, ℕ, true, cond, List, [], ◌∷◌, codes}
 use Rattle.vlog_tree.specs.declared.expr.Expr.{Expr}
 use Rattle.set_tree.specs.declared.set.Name.{Name}
 use Rattle.set_tree.specs.declared.set.Property.{Property}
 use Rattle.set_tree.specs.declared.set.Role.TheVariants.{Input, Output}
 use Rattle.set_tree.specs.declared.set.Set.{Set}
 use Rattle.set_tree.specs.Runs.{Design, design_of}
+use Rattle.worked.specs.declared.counter.CounterCycle.{CounterCycle}
+use Rattle.worked.specs.NextQ.{next_q}
 use Rattle.worked.specs.Terms.{name_at, sized, unsized, negated, equals, plus, declared, fixed, cover_to}
 
 abbrev pub en : ℕ → Expr
@@ -65,16 +67,6 @@ step_alone = counter_with (counter_reset (1 ∷ [])) (step_by (sized 2 1) (1 ∷
 abbrev pub hold_without_hand : Set
 hold_without_hand = counter_with (counter_reset (1 ∷ 2 ∷ [])) (step_by (sized 2 1) (1 ∷ 2 ∷ []) ∷ hold_handing [] ∷ [])
 
--- a cycle of the module
-pub record CounterCycle : Type 0 where
-  pub rst : Bool
-  pub en : Bool
-  pub q : ℕ
-
--- the register after a cycle
-abbrev pub next_q : CounterCycle → ℕ
-next_q c = cond c.rst 0 (cond c.en ((c.q + 1) % 4) c.q)
-
 -- the module, its rows being en and q
 abbrev pub counter_design : Design CounterCycle
-counter_design = design_of (λ c e. e.q ≡ next_q c) (λ c. c.rst) (λ c. cond c.en 1 0 ∷ c.q ∷ [])
+counter_design = design_of (λ c e. e.q ≡ next_q c.rst c.en c.q) (λ c. c.rst) (λ c. cond c.en 1 0 ∷ c.q ∷ [])

@@ -1,4 +1,5 @@
 pub mod Terms
+pub mod NextQ
 pub mod Counter
 pub mod Flip
 pub mod Pipe
