@@ -1,0 +1,14 @@
+//! The reader of property sets.
+#![tactic(auto)]
+
+mod fault;
+mod looked;
+mod parts;
+mod property;
+mod read;
+#[cfg(test)]
+mod tests;
+mod tokens;
+
+pub use fault::SetFault;
+pub use read::read_set;

@@ -1,0 +1,379 @@
+// Declarations, rules and the clauses of a property.
+ghost use Rattle.std.specs.Prelude.{◌≡◌, ◌+◌, IfOk, IfSome, codes, true};
+ghost use Rattle.vlog_tree.specs.Lists.{Maybe, Sequence};
+ghost use Rattle.vlog_tree.specs.Signs.{IsWord};
+ghost use Rattle.vlog_tree.specs.Spelling.{Spells};
+ghost use Rattle.set_tree.specs.Spelling.{
+  Clause,
+  IsDigits,
+  SpellsBits,
+  SpellsCover,
+  SpellsDeclaration,
+  SpellsDistance,
+  SpellsDomain,
+  SpellsDomainOf,
+  SpellsEnd,
+  SpellsHand,
+  SpellsLength,
+  SpellsRule,
+  SpellsSigned,
+  SpellsUntil,
+  role_word,
+  rule_word,
+};
+
+use crate::fault::SetFault;
+use crate::tokens::{digits, formula, formulas, name, path, sign, syntax, word};
+use set_tree::{
+    Bits, CoverText, Declaration, EndText, LengthText, Role, Rows, RuleKind, RuleText, Until,
+};
+use sqlite_items::Items;
+use std::alloc::Global;
+use vlog_read_expr::{is_sign, is_word};
+use vlog_tree::{Expr, Token};
+
+/// `signed`, where it stands.
+#[tactic(auto, using(vlog_spell::proofs::Tokens::kind_within))]
+fn signed(tokens: &[Token], at: usize) -> (bool, usize)
+    ensures { SpellsSigned tokens.now at result.0 result.1 }
+{
+    if is_word(tokens, at, b"signed") {
+        (true, at + 1)
+    } else {
+        (false, at)
+    }
+}
+
+/// `[high:low]`
+fn bits(tokens: &[Token], at: usize) -> Result<(Bits, usize), SetFault>
+    ensures { IfOk result (λ read. SpellsBits tokens.now at read.0 read.1) }
+{
+    let end = sign(tokens, at, b"[")?;
+    let (high, end) = digits(tokens, end)?;
+    let end = sign(tokens, end, b":")?;
+    let (low, end) = digits(tokens, end)?;
+    let end = sign(tokens, end, b"]")?;
+    Ok((Bits { high, low }, end))
+}
+
+/// A range, where one stands.
+fn maybe_bits(tokens: &[Token], at: usize) -> Result<(Option<Bits>, usize), SetFault>
+    ensures { IfOk result (λ read. Maybe (SpellsBits tokens.now) at read.0 read.1) }
+{
+    if is_sign(tokens, at, b"[") {
+        let (bits, end) = bits(tokens, at)?;
+        Ok((Some(bits), end))
+    } else {
+        Ok((None, at))
+    }
+}
+
+fn role_at(tokens: &[Token], at: usize) -> Option<Role>
+    ensures { IfSome result (λ role. IsWord tokens.now at (role_word role)) }
+{
+    if is_word(tokens, at, b"input") {
+        Some(Role::Input)
+    } else if is_word(tokens, at, b"output") {
+        Some(Role::Output)
+    } else if is_word(tokens, at, b"state") {
+        Some(Role::State)
+    } else {
+        None
+    }
+}
+
+/// The domain of an output, where one stands.
+fn domain(
+    alloc: Global,
+    tokens: &[Token],
+    at: usize,
+    role: Role,
+) -> Result<(Option<Expr>, usize), SetFault>
+    ensures { IfOk result (λ read. SpellsDomainOf tokens.now role at read.0 read.1) }
+{
+    match role {
+        Role::Output => maybe_domain(alloc, tokens, at),
+        Role::Input | Role::State => Ok((None, at)),
+    }
+}
+
+fn maybe_domain(
+    alloc: Global,
+    tokens: &[Token],
+    at: usize,
+) -> Result<(Option<Expr>, usize), SetFault>
+    ensures { IfOk result (λ read. Maybe (SpellsDomain tokens.now) at read.0 read.1) }
+{
+    match word(tokens, at, b"when") {
+        Ok(end) => {
+            let (domain, end) = formula(alloc, tokens, end)?;
+            Ok((Some(domain), end))
+        }
+        Err(_) => Ok((None, at)),
+    }
+}
+
+fn declaration(
+    alloc: Global,
+    tokens: &[Token],
+    at: usize,
+    role: Role,
+) -> Result<(Declaration, usize), SetFault>
+    requires { IsWord tokens.now at (role_word role) }
+    ensures { IfOk result (λ read. SpellsDeclaration tokens.now at read.0 read.1) }
+{
+    if at >= tokens.len() {
+        return Err(syntax(tokens, at));
+    }
+    let (signed, end) = signed(tokens, at + 1);
+    let (bits, end) = maybe_bits(tokens, end)?;
+    let (name, end) = path(alloc, tokens, end)?;
+    let (domain, end) = domain(alloc, tokens, end, role)?;
+    let end = sign(tokens, end, b";")?;
+    Ok((
+        Declaration {
+            role,
+            signed,
+            bits,
+            name,
+            domain,
+        },
+        end,
+    ))
+}
+
+/// The declarations from a place on.
+#[tactic(auto, using(crate::proofs::Sequences::sequence_more))]
+pub fn declarations(
+    alloc: Global,
+    tokens: &[Token],
+    at: usize,
+) -> Result<(Rows<Declaration>, usize), SetFault>
+    ensures { IfOk result (λ read. Sequence (SpellsDeclaration tokens.now) at read.0 read.1) }
+{
+    let mut list = Rows::new(alloc);
+    let mut end = at;
+    for _turn in at..tokens.len() {
+        let Some(role) = role_at(tokens, end) else {
+            break;
+        };
+        let (more, next) = declaration(alloc, tokens, end, role)?;
+        list.push(more)?;
+        end = next;
+    }
+    Ok((list, end))
+}
+
+fn kind_of_rule(tokens: &[Token], at: usize) -> Option<RuleKind>
+    ensures { IfSome result (λ kind. IsWord tokens.now at (rule_word kind)) }
+{
+    if is_word(tokens, at, b"constraint") {
+        Some(RuleKind::Constraint)
+    } else if is_word(tokens, at, b"invariant") {
+        Some(RuleKind::Invariant)
+    } else {
+        None
+    }
+}
+
+fn rule(
+    alloc: Global,
+    tokens: &[Token],
+    at: usize,
+    kind: RuleKind,
+) -> Result<(RuleText, usize), SetFault>
+    requires { IsWord tokens.now at (rule_word kind) }
+    ensures { IfOk result (λ read. SpellsRule tokens.now at read.0 read.1) }
+{
+    if at >= tokens.len() {
+        return Err(syntax(tokens, at));
+    }
+    let (name, end) = name(alloc, tokens, at + 1)?;
+    let end = sign(tokens, end, b":")?;
+    let (formula, end) = formula(alloc, tokens, end)?;
+    let end = sign(tokens, end, b";")?;
+    Ok((
+        RuleText {
+            kind,
+            name,
+            formula,
+        },
+        end,
+    ))
+}
+
+/// The constraints and invariants from a place on.
+#[tactic(auto, using(crate::proofs::Sequences::sequence_more))]
+pub fn rules(
+    alloc: Global,
+    tokens: &[Token],
+    at: usize,
+) -> Result<(Rows<RuleText>, usize), SetFault>
+    ensures { IfOk result (λ read. Sequence (SpellsRule tokens.now) at read.0 read.1) }
+{
+    let mut list = Rows::new(alloc);
+    let mut end = at;
+    for _turn in at..tokens.len() {
+        let Some(kind) = kind_of_rule(tokens, end) else {
+            break;
+        };
+        let (more, next) = rule(alloc, tokens, end, kind)?;
+        list.push(more)?;
+        end = next;
+    }
+    Ok((list, end))
+}
+
+fn until(alloc: Global, tokens: &[Token], at: usize) -> Result<(Until, usize), SetFault>
+    ensures { IfOk result (λ read. SpellsUntil tokens.now at read.0 read.1) }
+{
+    let end = word(tokens, at, b"to")?;
+    let (high, end) = digits(tokens, end)?;
+    let end = word(tokens, end, b"until")?;
+    let (condition, end) = formula(alloc, tokens, end)?;
+    Ok((Until { high, condition }, end))
+}
+
+fn maybe_until(
+    alloc: Global,
+    tokens: &[Token],
+    at: usize,
+) -> Result<(Option<Until>, usize), SetFault>
+    ensures { IfOk result (λ read. Maybe (SpellsUntil tokens.now) at read.0 read.1) }
+{
+    if is_word(tokens, at, b"to") {
+        let (until, end) = until(alloc, tokens, at)?;
+        Ok((Some(until), end))
+    } else {
+        Ok((None, at))
+    }
+}
+
+/// `length ..;`
+pub fn length(alloc: Global, tokens: &[Token], at: usize) -> Result<(LengthText, usize), SetFault>
+    ensures { IfOk result (λ read. Clause tokens.now (codes "length") (SpellsLength tokens.now) at read.0 read.1) }
+{
+    let end = word(tokens, at, b"length")?;
+    let (low, end) = digits(tokens, end)?;
+    let (until, end) = maybe_until(alloc, tokens, end)?;
+    let end = sign(tokens, end, b";")?;
+    Ok((LengthText { low, until }, end))
+}
+
+fn some_window(tokens: &[Token], at: usize) -> Result<(u64, usize), SetFault>
+    ensures { IfOk result (λ read. Clause tokens.now (codes "window") (IsDigits tokens.now) at read.0 read.1) }
+{
+    let end = word(tokens, at, b"window")?;
+    let (window, end) = digits(tokens, end)?;
+    let end = sign(tokens, end, b";")?;
+    Ok((window, end))
+}
+
+/// `window ..;`, where it stands.
+pub fn window(tokens: &[Token], at: usize) -> Result<(Option<u64>, usize), SetFault>
+    ensures { IfOk result (λ read. Maybe (Clause tokens.now (codes "window") (IsDigits tokens.now)) at read.0 read.1) }
+{
+    if is_word(tokens, at, b"window") {
+        let (window, end) = some_window(tokens, at)?;
+        Ok((Some(window), end))
+    } else {
+        Ok((None, at))
+    }
+}
+
+/// The clauses of a word with one formula each, from a place on.
+#[tactic(auto, using(crate::proofs::Sequences::sequence_more))]
+pub fn clauses(
+    alloc: Global,
+    tokens: &[Token],
+    at: usize,
+    keyword: &[u8],
+) -> Result<(Items<Expr>, usize), SetFault>
+    ensures { IfOk result (λ read. Sequence (Clause tokens.now keyword.now (Spells true tokens.now)) at read.0 read.1) }
+{
+    let mut list = Items::new(alloc);
+    let mut end = at;
+    for _turn in at..tokens.len() {
+        let Ok(next) = word(tokens, end, keyword) else {
+            break;
+        };
+        let (more, next) = formula(alloc, tokens, next)?;
+        end = sign(tokens, next, b";")?;
+        list.push(more)?;
+    }
+    Ok((list, end))
+}
+
+/// `hand ..;`, where it stands.
+pub fn hand(alloc: Global, tokens: &[Token], at: usize) -> Result<(Items<Expr>, usize), SetFault>
+    ensures { IfOk result (λ read. SpellsHand tokens.now at read.0 read.1) }
+{
+    match word(tokens, at, b"hand") {
+        Ok(end) => {
+            let (list, end) = formulas(alloc, tokens, end)?;
+            let end = sign(tokens, end, b";")?;
+            Ok((list, end))
+        }
+        Err(_) => Ok((Items::new(alloc), at)),
+    }
+}
+
+/// `+ distance`, or 0 where none stands.
+fn distance(tokens: &[Token], at: usize) -> Result<(u64, usize), SetFault>
+    ensures { IfOk result (λ read. SpellsDistance tokens.now at read.0 read.1) }
+{
+    match sign(tokens, at, b"+") {
+        Ok(end) => digits(tokens, end),
+        Err(_) => Ok((0, at)),
+    }
+}
+
+fn end_text(tokens: &[Token], at: usize) -> Result<(EndText, usize), SetFault>
+    ensures { IfOk result (λ read. SpellsEnd tokens.now at read.0 read.1) }
+{
+    match word(tokens, at, b"end") {
+        Ok(end) => {
+            let (distance, end) = distance(tokens, end)?;
+            Ok((EndText::AfterEnd(distance), end))
+        }
+        Err(_) => {
+            let (offset, end) = digits(tokens, at)?;
+            Ok((EndText::At(offset), end))
+        }
+    }
+}
+
+fn cover(alloc: Global, tokens: &[Token], at: usize) -> Result<(CoverText, usize), SetFault>
+    ensures { IfOk result (λ read. SpellsCover tokens.now at read.0 read.1) }
+{
+    let end = word(tokens, at, b"cover")?;
+    let (output, end) = path(alloc, tokens, end)?;
+    let end = word(tokens, end, b"from")?;
+    let (from, end) = digits(tokens, end)?;
+    let end = word(tokens, end, b"to")?;
+    let (to, end) = end_text(tokens, end)?;
+    let end = sign(tokens, end, b";")?;
+    Ok((CoverText { output, from, to }, end))
+}
+
+/// The covers from a place on.
+#[tactic(auto, using(crate::proofs::Sequences::sequence_more))]
+pub fn covers(
+    alloc: Global,
+    tokens: &[Token],
+    at: usize,
+) -> Result<(Items<CoverText>, usize), SetFault>
+    ensures { IfOk result (λ read. Sequence (SpellsCover tokens.now) at read.0 read.1) }
+{
+    let mut list = Items::new(alloc);
+    let mut end = at;
+    for _turn in at..tokens.len() {
+        if !is_word(tokens, end, b"cover") {
+            break;
+        }
+        let (more, next) = cover(alloc, tokens, end)?;
+        list.push(more)?;
+        end = next;
+    }
+    Ok((list, end))
+}

@@ -1,0 +1,254 @@
+// Properties and whole sets.
+ghost use Rattle.std.specs.Prelude.{◌≡◌, ◌+◌, IfOk, codes, true};
+ghost use Rattle.vlog_tree.specs.Lists.{Sequence};
+ghost use Rattle.vlog_tree.specs.Signs.{IsWord};
+ghost use Rattle.vlog_tree.specs.Spelling.{IsNamed};
+ghost use Rattle.set_tree.specs.Spelling.{SpellsConditions, SpellsHead, SpellsNamed, SpellsOperation, SpellsProperty, SpellsReset, SpellsSet, SpellsTail, level_word};
+
+use crate::fault::SetFault;
+use crate::parts::{clauses, covers, declarations, hand, length, rules, window};
+use crate::tokens::{digits, name, names, sign, syntax, word};
+use outside::Text;
+use set_tree::{CoverText, LengthText, PropertyText, Rows, SetText};
+use sqlite_items::Items;
+use std::alloc::Global;
+use vlog_read_expr::is_word;
+use vlog_tree::{Expr, Token};
+
+/// What a property hands over, covers and leads to.
+#[derive(Drop)]
+struct Tail {
+    hand: Items<Expr>,
+    covers: Items<CoverText>,
+    next: Items<Text>,
+}
+
+/// From the hand-over to the closing brace.
+fn read_tail(alloc: Global, tokens: &[Token], at: usize) -> Result<(Tail, usize), SetFault>
+    ensures { IfOk result (λ read. SpellsTail tokens.now at read.0.hand read.0.covers read.0.next read.1) }
+{
+    let (hand, end) = hand(alloc, tokens, at)?;
+    let (covers, end) = covers(alloc, tokens, end)?;
+    let end = word(tokens, end, b"next")?;
+    let (next, end) = names(alloc, tokens, end)?;
+    let end = sign(tokens, end, b";")?;
+    let end = sign(tokens, end, b"}")?;
+    Ok((Tail { hand, covers, next }, end))
+}
+
+/// What a property says of itself.
+#[derive(Drop)]
+struct Conditions {
+    length: LengthText,
+    window: Option<u64>,
+    assume: Items<Expr>,
+    commit: Items<Expr>,
+}
+
+/// The length, the window, the assumption and the commitment.
+fn read_conditions(
+    alloc: Global,
+    tokens: &[Token],
+    at: usize,
+) -> Result<(Conditions, usize), SetFault>
+    ensures { IfOk result (λ read. SpellsConditions tokens.now at read.0.length read.0.window read.0.assume read.0.commit read.1) }
+{
+    let (length, end) = length(alloc, tokens, at)?;
+    let (window, end) = window(tokens, end)?;
+    let (assume, end) = clauses(alloc, tokens, end, b"assume")?;
+    let (commit, end) = clauses(alloc, tokens, end, b"commit")?;
+    Ok((
+        Conditions {
+            length,
+            window,
+            assume,
+            commit,
+        },
+        end,
+    ))
+}
+
+/// A property from its opening brace on.
+fn property(
+    alloc: Global,
+    tokens: &[Token],
+    at: usize,
+    name: Text,
+) -> Result<(PropertyText, usize), SetFault>
+    ensures spelt { IfOk result (λ read. SpellsProperty tokens.now at read.0 read.1) }
+    ensures name { IfOk result (λ read. read.0.name ≡ name) }
+{
+    let end = sign(tokens, at, b"{")?;
+    let (conditions, end) = read_conditions(alloc, tokens, end)?;
+    let (tail, end) = read_tail(alloc, tokens, end)?;
+    Ok((
+        PropertyText {
+            name,
+            length: conditions.length,
+            window: conditions.window,
+            assume: conditions.assume,
+            commit: conditions.commit,
+            hand: tail.hand,
+            covers: tail.covers,
+            next: tail.next,
+        },
+        end,
+    ))
+}
+
+/// `property reset`
+fn reset_head(tokens: &[Token], at: usize) -> Result<usize, SetFault>
+    ensures property { IfOk result (λ end. IsWord tokens.now at (codes "property")) }
+    ensures reset { IfOk result (λ end. IsWord tokens.now (at + 1) (codes "reset")) }
+    ensures end { IfOk result (λ end. end ≡ at + 2) }
+{
+    let end = word(tokens, at, b"property")?;
+    let end = word(tokens, end, b"reset")?;
+    Ok(end)
+}
+
+/// The reset property.
+fn reset_property(
+    alloc: Global,
+    tokens: &[Token],
+    at: usize,
+) -> Result<(PropertyText, usize), SetFault>
+    ensures { IfOk result (λ read. SpellsReset tokens.now at read.0 read.1) }
+{
+    let end = reset_head(tokens, at)?;
+    let name = Text::copy(alloc, b"reset")?;
+    let (first, end) = property(alloc, tokens, end, name)?;
+    if first.length.until.is_some() {
+        return Err(syntax(tokens, at));
+    }
+    if !first.assume.is_empty() {
+        return Err(syntax(tokens, at));
+    }
+    Ok((first, end))
+}
+
+/// `operation name`
+fn operation_head(alloc: Global, tokens: &[Token], at: usize) -> Result<(Text, usize), SetFault>
+    ensures word { IfOk result (λ read. IsWord tokens.now at (codes "operation")) }
+    ensures name { IfOk result (λ read. IsNamed true tokens.now (at + 1) read.0 (at + 2)) }
+    ensures end { IfOk result (λ read. read.1 ≡ at + 2) }
+{
+    let end = word(tokens, at, b"operation")?;
+    let (name, end) = name(alloc, tokens, end)?;
+    Ok((name, end))
+}
+
+fn operation(alloc: Global, tokens: &[Token], at: usize) -> Result<(PropertyText, usize), SetFault>
+    ensures { IfOk result (λ read. SpellsOperation tokens.now at read.0 read.1) }
+{
+    let (name, end) = operation_head(alloc, tokens, at)?;
+    let (property, end) = property(alloc, tokens, end, name)?;
+    Ok((property, end))
+}
+
+/// The operations from a place on.
+#[tactic(auto, using(crate::proofs::Sequences::sequence_more))]
+fn operations(
+    alloc: Global,
+    tokens: &[Token],
+    at: usize,
+) -> Result<(Rows<PropertyText>, usize), SetFault>
+    ensures { IfOk result (λ read. Sequence (SpellsOperation tokens.now) at read.0 read.1) }
+{
+    let mut list = Rows::new(alloc);
+    let mut end = at;
+    for _turn in at..tokens.len() {
+        if !is_word(tokens, end, b"operation") {
+            break;
+        }
+        let (more, next) = operation(alloc, tokens, end)?;
+        list.push(more)?;
+        end = next;
+    }
+    Ok((list, end))
+}
+
+/// The block, its clock and its reset.
+#[derive(Drop)]
+struct SetHead {
+    block: Text,
+    clock: Text,
+    reset: Text,
+    high: bool,
+    cycles: u64,
+}
+
+/// `word name;`
+fn named(
+    alloc: Global,
+    tokens: &[Token],
+    at: usize,
+    keyword: &[u8],
+) -> Result<(Text, usize), SetFault>
+    ensures { IfOk result (λ read. SpellsNamed tokens.now keyword.now at read.0 read.1) }
+{
+    let end = word(tokens, at, keyword)?;
+    let (name, end) = name(alloc, tokens, end)?;
+    let end = sign(tokens, end, b";")?;
+    Ok((name, end))
+}
+
+/// `high` or `low`.
+fn level(tokens: &[Token], at: usize) -> Result<(bool, usize), SetFault>
+    ensures { IfOk result (λ read. IsWord tokens.now at (level_word read.0) × (read.1 ≡ at + 1)) }
+{
+    match word(tokens, at, b"high") {
+        Ok(end) => Ok((true, end)),
+        Err(_) => {
+            let end = word(tokens, at, b"low")?;
+            Ok((false, end))
+        }
+    }
+}
+
+fn read_head(alloc: Global, tokens: &[Token]) -> Result<(SetHead, usize), SetFault>
+    ensures { IfOk result (λ read. SpellsHead tokens.now 0 read.0.block read.0.clock read.0.reset read.0.high read.0.cycles read.1) }
+{
+    let (block, end) = named(alloc, tokens, 0, b"block")?;
+    let (clock, end) = named(alloc, tokens, end, b"clock")?;
+    let end = word(tokens, end, b"reset")?;
+    let (reset, end) = name(alloc, tokens, end)?;
+    let (high, end) = level(tokens, end)?;
+    let (cycles, end) = digits(tokens, end)?;
+    let end = sign(tokens, end, b";")?;
+    Ok((
+        SetHead {
+            block,
+            clock,
+            reset,
+            high,
+            cycles,
+        },
+        end,
+    ))
+}
+
+/// The text of a set.
+pub fn set_text(alloc: Global, tokens: &[Token]) -> Result<SetText, SetFault>
+    ensures { IfOk result (λ text. SpellsSet tokens.now text) }
+{
+    let (head, end) = read_head(alloc, tokens)?;
+    let (declarations, end) = declarations(alloc, tokens, end)?;
+    let (rules, end) = rules(alloc, tokens, end)?;
+    let (first, end) = reset_property(alloc, tokens, end)?;
+    let (operations, end) = operations(alloc, tokens, end)?;
+    if end != tokens.len() {
+        return Err(syntax(tokens, end));
+    }
+    Ok(SetText {
+        block: head.block,
+        clock: head.clock,
+        reset: head.reset,
+        high: head.high,
+        cycles: head.cycles,
+        declarations,
+        rules,
+        first,
+        operations,
+    })
+}

@@ -1,0 +1,56 @@
+use super::*;
+use set_tree::Role;
+use std::process::Abort;
+use std::test::Fail;
+
+const SET: &[u8] = b"block m; clock clk; reset rst high 2;
+input en; output [3:1] q when en; state signed [7:0] u.s;
+constraint some : en@0; invariant low : u.s != 8'd3;
+property reset { length 0; commit q@0 == 0; cover q from 0 to 1; next go; }
+operation go { length 1 to 2 until en; window 3; assume en@0; commit q@1 == q; hand q, u.s@0;
+  cover q from 1 to end + 1; next go; }
+";
+
+// Whether the reader answers this fault.
+fn refused(rt: &(impl Abort + AllocGlobal), text: &[u8], fault: SetFault) -> Result<(), Fail> {
+    match read_set(rt.alloc(), text) {
+        Ok(_) => assert!(rt; false, "read {text:?}"),
+        Err(found) => assert!(rt; found == fault, "at {text:?}"),
+    }
+    Ok(())
+}
+
+#[test]
+fn a_set_is_read(rt: HostRuntime) -> Result<(), Fail> {
+    match read_set(rt.alloc(), SET) {
+        Ok(set) => {
+            assert_eq!(rt; set.cycles, 2);
+            assert_eq!(rt; set.names.len(), 3);
+            assert_eq!(rt; set.operations.len(), 1);
+            match set.names.get(1) {
+                Some(name) => {
+                    assert_eq!(rt; name.name.bytes(), b"q".as_slice());
+                    assert!(rt; name.role == Role::Output);
+                    assert_eq!(rt; name.width, 3);
+                    assert_eq!(rt; name.low, 1);
+                }
+                None => assert!(rt; false),
+            }
+        }
+        Err(_) => assert!(rt; false),
+    }
+    Ok(())
+}
+
+#[test]
+fn texts_are_refused(rt: HostRuntime) -> Result<(), Fail> {
+    refused(&rt, b"", SetFault::Syntax(0))?;
+    refused(&rt, b"block m; clock", SetFault::Syntax(14))?;
+    refused(&rt, b"block m \x01", SetFault::Bytes(8))?;
+    refused(&rt, b"block 4'b2;", SetFault::Number(6))?;
+    refused(
+        &rt,
+        b"block m; clock c; reset r low 1; property reset { length 0; next go; }",
+        SetFault::Later,
+    )
+}
