@@ -1,5 +1,5 @@
 -- What each answer says of a module and a set.
-use Rattle.std.specs.Prelude.{◌≡◌, true, false, Some}
+use Rattle.std.specs.Prelude.{◌≡◌, false, Some}
 use Rattle.vlog_tree.specs.declared.module.Module.{Module}
 use Rattle.set_tree.specs.declared.set.Set.{Set}
 use Rattle.plain_ops.specs.declared.report.Answer.{Answer}

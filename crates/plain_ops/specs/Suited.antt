@@ -1,5 +1,5 @@
 -- What the tests of a plain module and a plain set establish for the deciding of lines.
-use Rattle.std.specs.Prelude.{◌≡◌, ℕ, suc, ◌≤◌, true, false, not, List, [], ◌∷◌, Some, None}
+use Rattle.std.specs.Prelude.{◌≡◌, suc, ◌≤◌, true, false, List, [], ◌∷◌, Some, None}
 use Rattle.std.specs.Str.{bytes_eq}
 use Rattle.plain_ops.specs.declared.view.Signal.{Signal}
 use Rattle.plain_ops.specs.Names.{Name}
