@@ -31,10 +31,6 @@ abbrev pub IsDistinct : List Signal → Type 0
 IsDistinct [] = Unit {0}
 IsDistinct (s ∷ ss) = (signal_at ss s.name ≡ None) × IsDistinct ss
 
-abbrev pub AllWideNames : List Declared → Type 0
-AllWideNames [] = Unit {0}
-AllWideNames (n ∷ ns) = ((1 ≤ n.width) × (n.width ≤ 64)) × AllWideNames ns
-
 pub record IsSuited (m : Design) (set : Set) : Type 0 where
   pub clock : IsInput m m.clock
   pub reset : IsInput m set.reset
