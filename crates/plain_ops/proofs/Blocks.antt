@@ -1,7 +1,6 @@
 -- Each form of a statement, as the code reads it; and what definitions say of it.
-use Rattle.std.proofs.Common.{◌≡◌, ℕ, ⊎_elim, Bool, true, false, ◌||◌, ◌&&◌, List, [], ◌∷◌, Option, Some, None, ap, ◌∙◌, refl, subst, sym}
+use Rattle.std.proofs.Common.{◌≡◌, ℕ, ⊎_elim, Bool, true, false, ◌||◌, ◌&&◌, List, [], ◌∷◌, Option, Some, None, ap, ◌∙◌, refl, sym}
 use Rattle.std.specs.Prelude.{nat_eq, is_none, is_some, if◌then◌else◌}
-use Rattle.std.specs.List.{list_all}
 use Rattle.vlog_tree.specs.declared.expr.Expr.{Expr}
 use Rattle.vlog_tree.specs.declared.stmt.Stmt.{Stmt, Row_of-Stmt, end_of-Stmt, more_of-Stmt}
 use Rattle.vlog_tree.specs.declared.stmt.Stmt.TheVariants as s

@@ -1,5 +1,5 @@
 -- Each form of an expression, as the code reads it; and what definitions say of it.
-use Rattle.std.proofs.Common.{◌≡◌, ℕ, ◌+◌, ◌%◌, ◌^◌, ◌≤◌, ◌&&◌, ◌||◌, max, Bool, true, false, refl, sym, ap, ◌∙◌, List, Some, arith, ⊎_elim}
+use Rattle.std.proofs.Common.{◌≡◌, ℕ, ◌+◌, ◌%◌, ◌^◌, ◌≤◌, ◌&&◌, ◌||◌, max, Bool, true, false, refl, sym, ◌∙◌, List, Some, arith}
 use Rattle.std.specs.Prelude.{nat_eq}
 use Rattle.std.proofs.lemmas.Bool.{leb-true}
 use Rattle.vlog_tree.specs.declared.expr.Name.{Name}
@@ -8,14 +8,13 @@ use Rattle.vlog_tree.specs.declared.expr.Unary.TheVariants as u
 use Rattle.vlog_tree.specs.declared.token.Number.{Number}
 use Rattle.vlog_tree.specs.Valuation.{entry_at, EntryFits}
 use Rattle.plain_ops.proofs.Operators.{the_not, the_sum, the_test}
-use Rattle.plain_ops.proofs.Words.{bool_cases}
 use Rattle.vlog_tree.specs.declared.expr.Binary.{Binary}
 use Rattle.vlog_tree.specs.declared.expr.Unary.{Unary}
 use Rattle.vlog_tree.specs.declared.expr.Expr.{Expr}
 use Rattle.vlog_tree.specs.declared.expr.Expr.TheVariants as e
 use Rattle.vlog_tree.specs.declared.expr.Expr.TheBlock.{shape-the_row-Expr-0, hidden-the_row-Expr-0}
 use Rattle.vlog_tree.specs.declared.valuation.Entry.{Entry}
-use Rattle.vlog_tree.specs.Value.{operand_of, unary_of, binary_of, width_of, sign_of, value_of, own_value, number_width, bit}
+use Rattle.vlog_tree.specs.Value.{operand_of, unary_of, binary_of, width_of, sign_of, value_of, number_width, bit}
 use Rattle.plain_ops.specs.Plain.{is_simple, is_not, is_sum, is_test, HasShape}
 use denote.Hole.Carrier
 

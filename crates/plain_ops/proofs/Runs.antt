@@ -1,16 +1,10 @@
 -- The induction over the cycles of a run.
-use Rattle.std.proofs.Common.{◌≡◌, ℕ, zero, suc, ◌+◌, ◌<◌, ◌≤◌, not, true, Some, arith, sym, ap, subst, ◌∙◌, add_assoc, zero-add, add-one, add-zero, refl}
-use Rattle.std.specs.Prelude.{slice_get, nat_eq}
-use Rattle.std.specs.List.{list_all}
-use Rattle.vlog_tree.specs.declared.expr.Expr.{Expr}
+use Rattle.std.proofs.Common.{◌≡◌, ℕ, zero, suc, ◌+◌, ◌<◌, ◌≤◌, true, arith, sym, ap, subst, ◌∙◌, add_assoc, zero-add}
 use Rattle.plain_ops.specs.Design.{Design}
-use Rattle.vlog_tree.specs.Value.{bit, own_value}
-use Rattle.plain_ops.specs.Cycle.{Cycle, IsCycle, IsRun, Follows}
-use Rattle.set_tree.specs.declared.set.Rule.{Rule}
-use Rattle.set_tree.specs.declared.set.Property.{Property}
+use Rattle.plain_ops.specs.Cycle.{Cycle, IsRun, Follows}
 use Rattle.set_tree.specs.declared.set.Set.{Set}
-use Rattle.plain_ops.specs.Holds.{from, rows, holds, assumed, committed, largest_offset, IsConstrained, IsSatisfied, MeetsInvariants}
-use Rattle.plain_ops.specs.Lines.{IsQuiet, IsFromReset, IsSegment, IsResetSegment, trace, AllValid, IsSatisfiedInRuns}
+use Rattle.plain_ops.specs.Holds.{from, holds, largest_offset, IsConstrained, IsSatisfied, MeetsInvariants}
+use Rattle.plain_ops.specs.Lines.{IsFromReset, IsSegment, IsResetSegment, trace, AllValid, IsSatisfiedInRuns}
 
 -- from a, and then from b
 pub from_from : (c : ℕ → Cycle) (a b : ℕ) → from (from c a) b ≡ from c (a + b)

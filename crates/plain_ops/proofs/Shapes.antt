@@ -1,7 +1,6 @@
 -- Form depends on what a valuation declares, and not on its values.
-use Rattle.std.proofs.Common.{◌≡◌, ℕ, ◌&&◌, ◌||◌, Bool, true, false, List, [], ◌∷◌, ◌++◌, Option, Some, None, ap, refl}
+use Rattle.std.proofs.Common.{◌≡◌, ℕ, ◌&&◌, Bool, true, false, List, [], ◌∷◌, ◌++◌, Option, Some, None, ap, refl}
 use Rattle.std.specs.Prelude.{nat_eq, is_some, if◌then◌else◌}
-use Rattle.std.specs.List.{list_all}
 use Rattle.std.specs.Str.{bytes_eq}
 use Rattle.vlog_tree.specs.declared.expr.Expr.{Expr, end_of-Expr, more_of-Expr}
 use Rattle.vlog_tree.specs.declared.expr.Expr.TheVariants as e
@@ -11,7 +10,7 @@ use Rattle.vlog_tree.specs.declared.stmt.Stmt.{Stmt, Row_of-Stmt, end_of-Stmt, m
 use Rattle.vlog_tree.specs.declared.stmt.Stmt.TheVariants as s
 use Rattle.vlog_tree.specs.declared.valuation.Entry.{Entry}
 use Rattle.plain_ops.specs.Names.{Name, entry_at}
-use Rattle.plain_ops.specs.Plain.{is_simple, all_simple, is_target, is_simple_stmt, is_simple_row, is_not, is_sum, is_test}
+use Rattle.plain_ops.specs.Plain.{is_simple, all_simple, is_target, is_simple_stmt, is_simple_row, is_not}
 
 -- two entries that declare the same
 pub record SameEntry (e f : Entry) : Type 0 where

@@ -1,5 +1,5 @@
 -- What the tests of a module and a set establish for the deciding of lines.
-use Rattle.std.proofs.Common.{◌≡◌, ℕ, suc, ◌+◌, ◌<◌, ◌≤◌, ◌^◌, ◌&&◌, not, Bool, true, false, List, [], ◌∷◌, length, drop, get_or, Option, Some, None, arith, ap, sym, subst, ◌∙◌, refl, ⊎_elim}
+use Rattle.std.proofs.Common.{◌≡◌, ℕ, suc, ◌&&◌, not, Bool, true, false, List, [], ◌∷◌, length, Option, Some, None, ap, sym, subst, ◌∙◌, refl, ⊎_elim}
 use Rattle.std.specs.Prelude.{is_none, nat_eq, slice_get}
 use Rattle.std.specs.List.{list_all}
 use Rattle.std.specs.Str.{bytes_eq}
@@ -17,7 +17,6 @@ use Rattle.plain_ops.specs.Design.{Design}
 use Rattle.plain_ops.specs.Cycle.{is_input, signal_at, valuation}
 use Rattle.plain_ops.specs.Holds.{rows}
 use Rattle.plain_ops.specs.Plain.{zeros, is_simple_stmt, all_simple, is_bit_input, are_distinct, are_wide, are_assigned, is_declared, is_plain, are_distinct_names, is_plain_name, are_distinct_operations, is_output, is_long, is_plain_property, are_plain_declarations, is_plain_set, is_output_kind, is_of_role, is_named, is_covered, suits}
-use Rattle.plain_ops.specs.Table.{is_free}
 use Rattle.plain_ops.specs.Report.{AllReady}
 use Rattle.plain_ops.specs.Suited.{IsInput, IsNamed, AllNamed, IsSuited, IsReadable}
 use Rattle.plain_ops.proofs.Words.{bool_cases, same_name}
@@ -123,11 +122,13 @@ plain_property set n p h =
     let a = both (is_long n p) (all_simple v p.assume && (all_simple v p.commit && (all_simple v p.hand && covers))) h in
     let b = both (all_simple v p.assume) (all_simple v p.commit && (all_simple v p.hand && covers)) a.1 in
     let c = both (all_simple v p.commit) (all_simple v p.hand && covers) b.1 in
-    let w = plain_window n p a.0 in
-    (w, record {
-      assume = subst (λ k. all_simple (rows set.names (λ _. zeros) (suc k)) p.assume ≡ true) (sym w) b.0;
-      commit = subst (λ k. all_simple (rows set.names (λ _. zeros) (suc k)) p.commit ≡ true) (sym w) c.0;
-    })
+    let w = plain_window n p a.0 in (
+      w,
+      record {
+        assume = subst (λ k. all_simple (rows set.names (λ _. zeros) (suc k)) p.assume ≡ true) (sym w) b.0;
+        commit = subst (λ k. all_simple (rows set.names (λ _. zeros) (suc k)) p.commit ≡ true) (sym w) c.0;
+      },
+    )
 
 ready_all : (set : Set) (ps : List Property) → list_all (is_plain_property set.names (rows set.names (λ _. zeros) 2) 1) ps ≡ true → AllReady set ps
 ready_all set [] h = tt

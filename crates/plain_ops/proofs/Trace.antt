@@ -5,7 +5,7 @@ use Rattle.vlog_tree.specs.declared.expr.Expr.{Expr}
 use Rattle.plain_ops.specs.declared.view.Signal.{Signal}
 use Rattle.plain_ops.specs.Design.{Design}
 use Rattle.vlog_tree.specs.declared.valuation.Entry.{Entry}
-use Rattle.plain_ops.specs.Names.{Name, entry_at, entry_value, entry_width, AllFit, EntryFits}
+use Rattle.plain_ops.specs.Names.{Name, entry_value, entry_width, AllFit, EntryFits}
 use Rattle.plain_ops.specs.Cycle.{Cycle, is_input, signal_at, after, next, entries, valuation}
 use Rattle.plain_ops.proofs.Shapes.{SameShape, SameShape-append, all_simple_same, stmt_same}
 use Rattle.set_tree.specs.declared.set.Name.{Name as Declared}

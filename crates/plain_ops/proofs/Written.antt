@@ -1,8 +1,8 @@
 -- Numbers that are written into a valuation.
-use Rattle.std.proofs.Common.{◌≡◌, ℕ, zero, suc, ◌+◌, ◌^◌, ◌<◌, ◌≤◌, Bool, true, false, List, [], ◌∷◌, ◌++◌, length, map, Some, None, arith, sym, ap, subst, ◌∙◌, refl, ⊎_elim, length-append}
+use Rattle.std.proofs.Common.{◌≡◌, ℕ, zero, suc, ◌+◌, ◌^◌, ◌<◌, ◌≤◌, Bool, true, false, List, [], ◌∷◌, ◌++◌, length, map, Some, None, arith, sym, ap, ◌∙◌, refl, ⊎_elim, length-append}
 use Rattle.std.specs.Str.{bytes_eq}
 use Rattle.vlog_tree.specs.declared.valuation.Entry.{Entry}
-use Rattle.vlog_tree.specs.Valuation.{AllFit, EntryFits, written}
+use Rattle.vlog_tree.specs.Valuation.{AllFit, written}
 use Rattle.set_tree.specs.declared.set.Name.{Name as Declared}
 use Rattle.plain_ops.specs.declared.view.Signal.{Signal}
 use Rattle.plain_ops.specs.Names.{Name}

@@ -32,3 +32,19 @@ ModuleIsNotPlain m answer = Unit {0}
 abbrev pub SetDoesNotFit : Module → Set → Answer → Type 0
 SetDoesNotFit m set a.NoFit = (design : Design) → design_of m ≡ Some design → fits m.name design set ≡ false
 SetDoesNotFit m set answer = Unit {0}
+
+-- the module's design is plain
+abbrev pub HasPlainDesign : Module → Type 0
+HasPlainDesign m = (design : Design) × (design_of m ≡ Some design) × (is_plain design ≡ true)
+
+-- and the set fits it
+abbrev pub HasFittingDesign : Module → Set → Type 0
+HasFittingDesign m set = (design : Design) × (design_of m ≡ Some design) × (is_plain design ≡ true) × (fits m.name design set ≡ true)
+
+-- an answer comes only where the refusals before it don't
+abbrev pub IsReached : Module → Set → Answer → Type 0
+IsReached m set a.NoPlainSet = Unit {0}
+IsReached m set a.NoPlainModule = is_plain_set set ≡ true
+IsReached m set a.NoFit = (is_plain_set set ≡ true) × HasPlainDesign m
+IsReached m set a.TooWide = (is_plain_set set ≡ true) × HasFittingDesign m set
+IsReached m set (a.Lines ls) = (is_plain_set set ≡ true) × HasFittingDesign m set

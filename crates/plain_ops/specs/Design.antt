@@ -1,6 +1,5 @@
 -- The signals, the clock and the clocked block of a plain module.
-use Rattle.std.specs.Prelude.{◌≡◌, ℕ, ◌+◌, ◌&&◌, nat_eq, nat_lt, Bool, true, false, List, [], ◌∷◌, ◌++◌, Option, Some, None, is_some, if◌then◌else◌}
-use Rattle.std.specs.Option.{option_map}
+use Rattle.std.specs.Prelude.{ℕ, ◌+◌, ◌&&◌, nat_eq, nat_lt, List, [], ◌∷◌, ◌++◌, Option, Some, None, is_some, if◌then◌else◌}
 use Rattle.vlog_tree.specs.declared.expr.Expr.{Expr}
 use Rattle.vlog_tree.specs.declared.expr.Expr.TheVariants as e
 use Rattle.vlog_tree.specs.declared.item.Item.{Item}
@@ -19,7 +18,6 @@ use Rattle.vlog_tree.specs.declared.stmt.Edge.{Edge}
 use Rattle.vlog_tree.specs.declared.stmt.Events.{Events}
 use Rattle.vlog_tree.specs.declared.stmt.Events.TheVariants as v
 use Rattle.vlog_tree.specs.declared.stmt.Stmt.{Stmt}
-use Rattle.vlog_tree.specs.declared.stmt.Stmt.TheVariants as s
 use Rattle.plain_ops.specs.declared.view.Kind.{Kind}
 use Rattle.plain_ops.specs.declared.view.Kind.TheVariants.{Input, Output, Register as Reg}
 use Rattle.plain_ops.specs.declared.view.Signal.{Signal}

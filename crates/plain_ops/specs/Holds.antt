@@ -1,5 +1,5 @@
 -- What formulas and sets say of a trace. A trace is a function from positions to cycles, of a given length.
-use Rattle.std.specs.Prelude.{◌≡◌, ℕ, zero, suc, ◌+◌, ◌<◌, max, not, nat_eq, Bool, true, false, List, [], ◌∷◌, ◌++◌, map, Some, slice_get, IsTrue}
+use Rattle.std.specs.Prelude.{◌≡◌, ℕ, zero, suc, ◌+◌, ◌<◌, max, not, nat_eq, Bool, true, List, [], ◌++◌, map, Some, slice_get}
 use Rattle.std.specs.List.{list_all}
 use Rattle.vlog_tree.specs.declared.expr.Expr.{Expr, Row_of-Expr, end_of-Expr, more_of-Expr}
 use Rattle.vlog_tree.specs.declared.expr.Expr.TheVariants as e

@@ -1,5 +1,5 @@
 -- Segments of a design, its lines, and its runs from reset.
-use Rattle.std.specs.Prelude.{◌≡◌, ℕ, ◌+◌, ◌<◌, Bool, true, Some, slice_get, not}
+use Rattle.std.specs.Prelude.{◌≡◌, ℕ, ◌+◌, ◌<◌, true, Some, slice_get, not}
 use Rattle.plain_ops.specs.Design.{Design}
 use Rattle.vlog_tree.specs.Value.{bit}
 use Rattle.plain_ops.specs.Cycle.{Cycle, IsRun}

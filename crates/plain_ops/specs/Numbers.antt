@@ -8,7 +8,6 @@ use Rattle.plain_ops.specs.Names.{Name}
 use Rattle.plain_ops.specs.Design.{Design}
 use Rattle.plain_ops.specs.Cycle.{Cycle, valuation}
 use Rattle.plain_ops.specs.Holds.{rows}
-use Rattle.plain_ops.specs.Table.{number_in}
 
 -- the numbers of all signals but the clock
 abbrev pub numbers : List Signal → Name → Cycle → List ℕ

@@ -1,5 +1,5 @@
 -- What the tests of a plain module and a plain set establish for the deciding of lines.
-use Rattle.std.specs.Prelude.{◌≡◌, ℕ, suc, ◌≤◌, true, false, not, List, [], ◌∷◌, Some, None}
+use Rattle.std.specs.Prelude.{◌≡◌, suc, ◌≤◌, true, false, List, [], ◌∷◌, Some, None}
 use Rattle.std.specs.Str.{bytes_eq}
 use Rattle.plain_ops.specs.declared.view.Signal.{Signal}
 use Rattle.plain_ops.specs.Names.{Name}
@@ -30,10 +30,6 @@ AllNamed m (n ∷ ns) = IsNamed m n × AllNamed m ns
 abbrev pub IsDistinct : List Signal → Type 0
 IsDistinct [] = Unit {0}
 IsDistinct (s ∷ ss) = (signal_at ss s.name ≡ None) × IsDistinct ss
-
-abbrev pub AllWideNames : List Declared → Type 0
-AllWideNames [] = Unit {0}
-AllWideNames (n ∷ ns) = ((1 ≤ n.width) × (n.width ≤ 64)) × AllWideNames ns
 
 pub record IsSuited (m : Design) (set : Set) : Type 0 where
   pub clock : IsInput m m.clock

@@ -1,5 +1,5 @@
 -- The cycles that the free words of a line give, and the truth table over them.
-use Rattle.std.specs.Prelude.{◌≡◌, ℕ, zero, suc, ◌+◌, ◌/◌, ◌%◌, ◌^◌, ◌<◌, ◌&&◌, ◌||◌, not, nat_lt, Bool, true, List, [], ◌∷◌, ◌++◌, length, drop, Option, Some, None, IsSomeAnd, if◌then◌else◌}
+use Rattle.std.specs.Prelude.{◌≡◌, ℕ, zero, suc, ◌+◌, ◌/◌, ◌%◌, ◌^◌, ◌<◌, ◌&&◌, ◌||◌, not, nat_lt, Bool, true, List, [], ◌∷◌, ◌++◌, length, drop, Option, Some, None, if◌then◌else◌}
 use Rattle.std.specs.List.{list_all}
 use Rattle.std.specs.Str.{bytes_eq}
 use Rattle.vlog_tree.specs.declared.expr.Expr.{Expr}
@@ -9,7 +9,6 @@ use Rattle.vlog_tree.specs.declared.valuation.Entry.{Entry}
 use Rattle.plain_ops.specs.Names.{Name, entry_at, entry_value}
 use Rattle.vlog_tree.specs.Value.{bit}
 use Rattle.plain_ops.specs.Cycle.{Cycle, is_input, signal_at, after, next, IsRun}
-use Rattle.set_tree.specs.declared.set.Name.{Name as Declared}
 use Rattle.set_tree.specs.declared.set.Set.{Set}
 use Rattle.plain_ops.specs.Holds.{from, holds}
 
@@ -121,19 +120,6 @@ abbrev pub Fits : List ℕ → List ℕ → Type 0
 Fits [] vs = Unit {0}
 Fits (w ∷ ws) [] = ⊥
 Fits (w ∷ ws) (v ∷ vs) = (v < 2 ^ w) × Fits ws vs
-
--- the entry of a declared name, with its number in a valuation
-abbrev pub named_in : List Entry → ℕ → Declared → Entry
-named_in v j n = record { name = n.name; offset = j; width = n.width; low = n.low; signed = n.signed; depth = 0; value = number_in v n.name }
-
--- a declared name stands in the valuation, with its length
-abbrev pub IsFound : Declared → List Entry → Type 0
-IsFound n v = IsSomeAnd (entry_at v n.name 0) (λ e. e.width ≡ n.width)
-
--- so does each
-abbrev pub AllFound : List Declared → List Entry → Type 0
-AllFound [] v = Unit {0}
-AllFound (n ∷ ns) v = IsFound n v × AllFound ns v
 
 -- the registers' numbers at the head of cycle t of a run that words give
 abbrev pub registers_before : Design → Set → ℕ → List ℕ → ℕ → Cycle

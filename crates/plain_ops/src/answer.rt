@@ -5,7 +5,7 @@ ghost use Rattle.plain_ops.specs.Cycle.{valuation};
 ghost use Rattle.plain_ops.specs.Holds.{rows};
 ghost use Rattle.plain_ops.specs.Plain.{zeros, is_plain, is_plain_set, suits};
 ghost use Rattle.plain_ops.specs.Report.{IsRight, IsTooWide};
-ghost use Rattle.plain_ops.specs.Answers.{LinesAreRight, LineIsTooWide, SetIsNotPlain, ModuleIsNotPlain, SetDoesNotFit};
+ghost use Rattle.plain_ops.specs.Answers.{LinesAreRight, LineIsTooWide, SetIsNotPlain, ModuleIsNotPlain, SetDoesNotFit, IsReached};
 
 use crate::decide::decide_lines;
 use crate::design::design_of;
@@ -57,6 +57,7 @@ pub fn decide_all(alloc: Global, module: &Module, set: &Set) -> Result<Answer, A
     ensures set { IfOk result (λ a. SetIsNotPlain set.now a) }
     ensures module { IfOk result (λ a. ModuleIsNotPlain module.now a) }
     ensures fit { IfOk result (λ a. SetDoesNotFit module.now set.now a) }
+    ensures order { IfOk result (λ a. IsReached module.now set.now a) }
 {
     let Some(tables) = plain_tables(alloc, set)? else {
         return Ok(Answer::NoPlainSet);

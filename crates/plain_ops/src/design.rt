@@ -155,13 +155,7 @@ fn one_edge(edges: &[Edge]) -> Option<&Text>
 {
     match edges {
         [] | [_, _, ..] => None,
-        [edge] => {
-            if edge.rising {
-                Some(&edge.name)
-            } else {
-                None
-            }
-        }
+        [edge] => { if edge.rising { Some(&edge.name) } else { None } }
     }
 }
 

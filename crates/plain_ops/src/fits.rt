@@ -37,9 +37,7 @@ fn is_named(design: &Design, set: &Set, name: &Name) -> bool
 {
     match find_signal(design.signals(), &name.name) {
         None => false,
-        Some(signal) => {
-            signal.width == name.width && is_of_role(design, set, name.role, signal)
-        }
+        Some(signal) => { signal.width == name.width && is_of_role(design, set, name.role, signal) }
     }
 }
 

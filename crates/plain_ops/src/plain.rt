@@ -46,7 +46,11 @@ fn is_assigned(body: &Stmt, signal: &Signal) -> bool
     ensures { result ≡ same_bool (assigns body.now signal.now.name) (not (is_input signal.now.kind)) }
 {
     let assigned = assigns(body, &signal.name);
-    if assigned { !is_input(signal) } else { is_input(signal) }
+    if assigned {
+        !is_input(signal)
+    } else {
+        is_input(signal)
+    }
 }
 
 // Whether each signal but the inputs is assigned, and no input.

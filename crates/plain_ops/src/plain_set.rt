@@ -223,9 +223,5 @@ pub fn plain_tables(alloc: Global, set: &Set) -> Result<Option<Tables>, AllocErr
     let tables = zero_tables(alloc, names)?;
     let plain = is_plain_property(names, &tables.one, 0, &set.first)
         && are_plain_operations(names, &tables.two, set.operations.as_slice());
-    if plain {
-        Ok(Some(tables))
-    } else {
-        Ok(None)
-    }
+    if plain { Ok(Some(tables)) } else { Ok(None) }
 }

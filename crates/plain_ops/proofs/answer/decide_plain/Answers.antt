@@ -1,4 +1,4 @@
-use Rattle.std.proofs.Common.{◌≡◌, ℕ, suc, subst, sym}
+use Rattle.std.proofs.Common.{ℕ, suc, subst, sym}
 use Rattle.plain_ops.specs.Numbers.{IsOfTrace}
 use Rattle.plain_ops.specs.Plain.{zeros}
 use Rattle.plain_ops.proofs.Suits.{suited, first_readable, ready}

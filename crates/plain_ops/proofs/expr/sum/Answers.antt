@@ -1,4 +1,4 @@
-use Rattle.std.proofs.Common.{◌+◌, ap, ◌∙◌}
+use Rattle.std.proofs.Common.{◌+◌, ◌∙◌}
 use Rattle.plain_ops.proofs.Bits.{mod_twice}
 use Rattle.plain_ops.proofs.expr.sum.Goals as goal
 
