@@ -1,0 +1,4 @@
+pub mod ListSteps
+pub mod Steps
+pub mod ItemSteps
+pub mod HeaderSteps

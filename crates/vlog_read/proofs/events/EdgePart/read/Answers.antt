@@ -1,0 +1,37 @@
+use Rattle.std.proofs.Common.{ℕ, ◌+◌, ◌≡◌, ◌<◌, ◌≤◌, max, List, [], ◌∷◌, ◌++◌, length, true, false, inl, inr, arith, rules, refl, sym, ◌∙◌, ap, subst}
+use Rattle.std.proofs.lemmas.Result.{err_from_is_err_and}
+use Rattle.vlog_spell.proofs.Tokens.{kind_within}
+use Rattle.vlog_read_expr.proofs.SignTests.{yes_by, no_by}
+use Rattle.vlog_read.proofs.Steps.{tree_bounds, lval_bounds, stmt_bounds, name_bound}
+use Rattle.vlog_read.proofs.ListSteps.{begins, grows, ends, sequence_snoc, highest-append}
+use Rattle.vlog_read.proofs.events.EdgePart.read.Goals as goal
+
+pub after-place-requires : goal.after-place-requires
+after-place-requires c = kind_within _ _ _ (yes_by _ c.is_word.ensures c.if-is_word.true)
+
+pub returns-then-is_word : goal.returns-then-is_word
+returns-then-is_word c = record {
+  found = record {
+    spelt = (yes_by _ c.is_word.ensures c.if-is_word.true, rw c.after-place.ensures at c.in_ok-name.ensures.ok, omega (arith, c.after.ensures, c.after-place.ensures));
+    height_is = refl;
+    low = omega arith;
+    past = omega (arith, c.after.ensures, c.after-place.ensures);
+    within = omega (arith, c.after.ensures, c.in_ok-name.ensures.within);
+  };
+  forward = omega (arith, c.after.ensures, c.after-place.ensures);
+}
+
+pub returns-then-is_word-2 : goal.returns-then-is_word-2
+returns-then-is_word-2 c = record {
+  found = record {
+    spelt = (yes_by _ c.is_word-2.ensures c.if-is_word-2.true, rw c.after-place-then-is_word-2.ensures at c.in_ok-name-2.ensures.ok, omega (arith, c.after-then-is_word-2.ensures, c.after-place-then-is_word-2.ensures));
+    height_is = refl;
+    low = omega arith;
+    past = omega (arith, c.after-then-is_word-2.ensures, c.after-place-then-is_word-2.ensures);
+    within = omega (arith, c.after-then-is_word-2.ensures, c.in_ok-name-2.ensures.within);
+  };
+  forward = omega (arith, c.after-then-is_word-2.ensures, c.after-place-then-is_word-2.ensures);
+}
+
+pub after-place-requires-then-is_word-2 : goal.after-place-requires-then-is_word-2
+after-place-requires-then-is_word-2 c = kind_within _ _ _ (yes_by _ c.is_word-2.ensures c.if-is_word-2.true)

@@ -1,0 +1,24 @@
+use Rattle.std.proofs.Common.{ℕ, ◌+◌, ◌≡◌, ◌<◌, ◌≤◌, max, List, [], ◌∷◌, ◌++◌, length, true, false, inl, inr, arith, rules, refl, sym, ◌∙◌, ap, subst}
+use Rattle.std.proofs.lemmas.Result.{err_from_is_err_and}
+use Rattle.vlog_spell.proofs.Tokens.{kind_within}
+use Rattle.vlog_read_expr.proofs.SignTests.{yes_by, no_by}
+use Rattle.vlog_read.proofs.Steps.{tree_bounds, lval_bounds, stmt_bounds, name_bound}
+use Rattle.vlog_read.proofs.ListSteps.{begins, grows, ends, sequence_snoc, highest-append}
+use Rattle.vlog_read.proofs.HeaderSteps.{begins_parameters, begins_group}
+use Rattle.vlog_read.proofs.header.read_ports.Goals as goal
+
+pub returns-then-is_direction : goal.returns-then-is_direction
+returns-then-is_direction c =
+    let a = c.in_ok-list.ensures.found in
+    record {
+      spelt = (begins_group _ _ _ _ a.spelt (yes_by _ c.is_direction.ensures c.if-is_direction.true), a.spelt);
+      height_is = a.height_is;
+      low = a.low;
+      past = a.past;
+      within = a.within;
+    }
+
+pub returns : goal.returns
+returns c =
+    let a = c.in_ok-list-2.ensures.found in
+    record { spelt = a.spelt; height_is = refl; low = omega arith; past = a.past; within = a.within }

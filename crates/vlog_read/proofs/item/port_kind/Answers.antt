@@ -1,0 +1,47 @@
+use Rattle.std.proofs.Common.{ℕ, ◌+◌, ◌≡◌, ◌<◌, ◌≤◌, max, List, [], ◌∷◌, ◌++◌, length, true, false, inl, inr, arith, rules, refl, sym, ◌∙◌, ap, subst}
+use Rattle.std.proofs.lemmas.Result.{err_from_is_err_and}
+use Rattle.vlog_spell.proofs.Tokens.{kind_within}
+use Rattle.vlog_read_expr.proofs.SignTests.{yes_by, no_by}
+use Rattle.vlog_read.proofs.Steps.{tree_bounds, lval_bounds, stmt_bounds, name_bound}
+use Rattle.vlog_read.proofs.ListSteps.{begins, grows, ends, sequence_snoc, highest-append}
+use Rattle.vlog_read.proofs.item.port_kind.Goals as goal
+
+pub after-next-requires : goal.after-next-requires
+after-next-requires c = kind_within _ _ _ (yes_by _ c.is_word.ensures c.if-is_word.true)
+
+pub returns-then-is_word : goal.returns-then-is_word
+returns-then-is_word c =
+    let a = c.past_wire.ensures in
+    record {
+      spelt = (a.stands, yes_by _ c.is_word.ensures c.if-is_word.true, rw c.after-next.ensures at a.flag);
+      height_is = refl;
+      low = omega arith;
+      past = omega (arith, a.past, c.after-next.ensures);
+      within = omega (arith, a.within, c.after-next.ensures, kind_within _ _ _ (yes_by _ c.is_word.ensures c.if-is_word.true));
+    }
+
+pub after-next-requires-2 : goal.after-next-requires-2
+after-next-requires-2 c = kind_within _ _ _ (yes_by _ c.is_word-2.ensures c.if-not-is_word.false)
+
+pub after-requires : goal.after-requires
+after-requires c = kind_within _ _ _ (yes_by _ c.is_word-3.ensures c.if-is_word-2.true)
+
+pub returns-then-is_word-2 : goal.returns-then-is_word-2
+returns-then-is_word-2 c = record {
+  spelt = (yes_by _ c.is_word-2.ensures c.if-not-is_word.false, rw c.after-next-2.ensures at (yes_by _ c.is_word-3.ensures c.if-is_word-2.true), omega (arith, c.after.ensures, c.after-next-2.ensures));
+  height_is = refl;
+  low = omega arith;
+  past = omega (arith, c.after.ensures, c.after-next-2.ensures);
+  within = omega (arith, c.after.ensures, kind_within _ _ _ (yes_by _ c.is_word-3.ensures c.if-is_word-2.true));
+}
+
+pub returns : goal.returns
+returns c =
+    let a = c.past_wire-2.ensures in
+    record {
+      spelt = (a.stands, yes_by _ c.is_word-2.ensures c.if-not-is_word.false, rw c.after-next-2.ensures at a.flag);
+      height_is = refl;
+      low = omega arith;
+      past = omega (arith, a.past, c.after-next-2.ensures);
+      within = omega (arith, a.within, c.after-next-2.ensures, kind_within _ _ _ (yes_by _ c.is_word-2.ensures c.if-not-is_word.false));
+    }

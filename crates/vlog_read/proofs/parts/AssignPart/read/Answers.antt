@@ -1,0 +1,20 @@
+use Rattle.std.proofs.Common.{ℕ, ◌+◌, ◌≡◌, ◌<◌, ◌≤◌, max, List, [], ◌∷◌, ◌++◌, length, true, false, inl, inr, arith, rules, refl, sym, ◌∙◌, ap, subst}
+use Rattle.std.proofs.lemmas.Result.{err_from_is_err_and}
+use Rattle.vlog_spell.proofs.Tokens.{kind_within}
+use Rattle.vlog_read_expr.proofs.SignTests.{yes_by, no_by}
+use Rattle.vlog_read.proofs.Steps.{tree_bounds, lval_bounds, stmt_bounds, name_bound}
+use Rattle.vlog_read.proofs.ListSteps.{begins, grows, ends, sequence_snoc, highest-append}
+use Rattle.vlog_read.proofs.parts.AssignPart.read.Goals as goal
+
+pub returns : goal.returns
+returns c =
+    let l = lval_bounds _ _ _ _ c.in_ok-left.ensures in let a = c.in_ok-right.ensures in record {
+      found = record {
+        spelt = (_, c.in_ok-left.ensures.reads.spelt, a.spelt);
+        height_is = omega (arith, c.max.ensures, c.in_ok-left.ensures.height_is, a.height_is);
+        low = omega (arith, c.max.ensures, c.in_ok-left.ensures.low, a.low);
+        past = omega (arith, l.0, a.past);
+        within = omega (arith, l.1, a.within);
+      };
+      forward = omega (arith, l.0, a.past);
+    }

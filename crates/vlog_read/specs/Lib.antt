@@ -1,0 +1,4 @@
+pub mod Answers
+pub mod Declarations
+pub mod Headers
+pub mod Texts

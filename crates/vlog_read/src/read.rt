@@ -1,0 +1,52 @@
+//! Reads the modules of a text from its bytes.
+ghost use Rattle.std.specs.Prelude.{◌≤◌, IfOk};
+ghost use Rattle.vlog_tree.specs.Modules.{SpellsFile, file_height};
+ghost use Rattle.vlog_read.specs.Texts.{SpellsModules};
+
+use crate::module::read_module_list;
+use std::alloc::Global;
+use vlog_lex::{ReadFault, read_tokens};
+use vlog_tree::{Module, Token};
+
+/// The byte at which a token begins; past the last token the byte at which that one ends, and 0 where there is no token.
+fn byte_of(tokens: &[Token], at: usize) -> usize {
+    match tokens.get(at) {
+        Some(token) => token.at,
+        None => match tokens.last() {
+            Some(token) => token.end,
+            None => 0,
+        },
+    }
+}
+
+/// A fault with the place of a byte, of one with the place of a token.
+fn by_bytes(tokens: &[Token], fault: ReadFault) -> ReadFault {
+    match fault {
+        ReadFault::Syntax(at) => ReadFault::Syntax(byte_of(tokens, at)),
+        other => other,
+    }
+}
+
+/// The modules that tokens spell; the place of a fault is a byte.
+fn modules_of(alloc: Global, tokens: &[Token]) -> Result<Vec<Module>, ReadFault>
+    ensures ok { IfOk result (λ list. SpellsFile tokens.now list.items) }
+    ensures low { IfOk result (λ list. file_height list.items ≤ 500) }
+{
+    match read_module_list(alloc, tokens) {
+        Ok(list) => Ok(list),
+        Err(fault) => Err(by_bytes(tokens, fault)),
+    }
+}
+
+/// The modules that a text spells: one or more, by the grammar of IEEE 1364-2005 annex A as far as it is read, each no higher
+/// than 500 nodes. The text is refused where its bytes spell no tokens (`Bytes`, `Number`, `Outside`) or its tokens no modules
+/// (`Syntax`, with the byte at which the token begins that cannot stand there, or at which the last one ends), where a tree
+/// would be too high (`Deep`), and for want of memory (`Memory`).
+pub fn read_modules(alloc: Global, bytes: &[u8]) -> Result<Vec<Module>, ReadFault>
+    ensures ok { IfOk result (λ list. SpellsModules bytes.now list.items) }
+    ensures low { IfOk result (λ list. file_height list.items ≤ 500) }
+{
+    let tokens = read_tokens(alloc, bytes, false)?;
+    let list = modules_of(alloc, tokens.as_slice())?;
+    Ok(list)
+}
