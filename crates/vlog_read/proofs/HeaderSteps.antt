@@ -1,5 +1,5 @@
 -- The first of a header's list begins a group.
-use Rattle.std.proofs.Common.{ℕ, ◌+◌, ◌≡◌, ◌⊎◌, inl, inr, List, [], ◌∷◌, Bool, true, false, refl, sym, ap, ◌∙◌}
+use Rattle.std.proofs.Common.{ℕ, ◌≡◌, ◌⊎◌, inl, inr, List, [], ◌∷◌, true, false, refl, ap, ◌∙◌}
 use Rattle.std.specs.Prelude.{codes}
 use Rattle.vlog_tree.specs.declared.token.Token.{Token}
 use Rattle.vlog_tree.specs.Signs.{IsWord, is_reserved, is_keyword}

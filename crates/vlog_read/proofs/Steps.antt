@@ -1,5 +1,5 @@
 -- Where what is read ends.
-use Rattle.std.proofs.Common.{ℕ, ◌+◌, ◌≡◌, ◌<◌, ◌≤◌, max, ◌⊎◌, inl, inr, List, [], ◌∷◌, length, Bool, true, false, refl, sym, ap, subst, ◌∙◌, arith}
+use Rattle.std.proofs.Common.{ℕ, ◌+◌, ◌≡◌, ◌<◌, ◌≤◌, inl, inr, List, [], ◌∷◌, length, Bool, true, false, refl, arith}
 use Rattle.std.specs.Prelude.{codes}
 use Rattle.vlog_tree.specs.declared.token.Token.{Token}
 use Rattle.vlog_tree.specs.declared.item.PortKind.{PortKind}
@@ -7,8 +7,6 @@ use Rattle.vlog_tree.specs.declared.item.PortKind.TheVariants as p
 use Rattle.vlog_tree.specs.Lists.{Flag, highest}
 use Rattle.vlog_tree.specs.Modules.{SpellsKind}
 use Rattle.vlog_tree.specs.declared.token.Kind.TheVariants as k
-use Rattle.vlog_tree.specs.declared.stmt.Lval.{Lval}
-use Rattle.vlog_tree.specs.declared.stmt.Stmt.{Stmt}
 use Rattle.vlog_tree.specs.Spelling.{IsIdentifier}
 use Rattle.vlog_tree.specs.Statements.{OrComma}
 use Rattle.vlog_spell.proofs.Tokens.{kind_within}

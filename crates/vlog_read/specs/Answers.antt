@@ -1,5 +1,5 @@
 -- What the readers of items and modules answer.
-use Rattle.std.specs.Prelude.{Bool, ℕ, ◌+◌, ◌<◌, ◌≤◌, ◌≡◌, max, List, length, Result, Ok, Err, codes}
+use Rattle.std.specs.Prelude.{Bool, ℕ, ◌<◌, ◌≤◌, ◌≡◌, max, List, length, Result, Ok, Err, codes}
 use Rattle.vlog_tree.specs.declared.token.Token.{Token}
 use Rattle.vlog_tree.specs.declared.item.Item.{Item}
 use Rattle.vlog_tree.specs.Modules.{SpellsItem, item_height, SpellsModule, module_height}

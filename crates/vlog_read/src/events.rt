@@ -17,7 +17,12 @@ impl Part for Edge {
 
     ghost height = { λ _. 0 };
 
-    fn read(alloc: Global, tokens: &[Token], at: usize, depth: usize) -> Result<Found<Edge>, ReadFault> {
+    fn read(
+        alloc: Global,
+        tokens: &[Token],
+        at: usize,
+        depth: usize,
+    ) -> Result<Found<Edge>, ReadFault> {
         if is_word(tokens, at, b"posedge") {
             let place = after(tokens, at);
             let name = identifier(alloc, false, tokens, place)?;

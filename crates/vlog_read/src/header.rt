@@ -28,7 +28,12 @@ impl Part for HeaderPort {
 
     ghost height = { header_port_height };
 
-    fn read(alloc: Global, tokens: &[Token], at: usize, depth: usize) -> Result<Found<HeaderPort>, ReadFault> {
+    fn read(
+        alloc: Global,
+        tokens: &[Token],
+        at: usize,
+        depth: usize,
+    ) -> Result<Found<HeaderPort>, ReadFault> {
         if is_direction(tokens, at) {
             return port_group(alloc, tokens, at, depth);
         }
@@ -128,7 +133,12 @@ pub fn header_parameters(
 }
 
 /// Ports: names alone, or with their directions.
-fn read_ports(alloc: Global, tokens: &[Token], at: usize, depth: usize) -> Result<Found<Ports>, ReadFault>
+fn read_ports(
+    alloc: Global,
+    tokens: &[Token],
+    at: usize,
+    depth: usize,
+) -> Result<Found<Ports>, ReadFault>
     requires { depth ≤ 500 }
     ensures { Finds tokens.now ports_height (SpellsPorts tokens.now) at depth result }
 {

@@ -50,7 +50,12 @@ impl Part for Connection {
 
     ghost height = { connection_height };
 
-    fn read(alloc: Global, tokens: &[Token], at: usize, depth: usize) -> Result<Found<Connection>, ReadFault> {
+    fn read(
+        alloc: Global,
+        tokens: &[Token],
+        at: usize,
+        depth: usize,
+    ) -> Result<Found<Connection>, ReadFault> {
         if !is_sign(tokens, at, b".") {
             return Err(ReadFault::Syntax(at));
         }
@@ -69,7 +74,12 @@ impl Part for Connection {
 }
 
 /// Connections or overrides: one or more.
-fn read_args(alloc: Global, tokens: &[Token], at: usize, depth: usize) -> Result<Found<Args>, ReadFault>
+fn read_args(
+    alloc: Global,
+    tokens: &[Token],
+    at: usize,
+    depth: usize,
+) -> Result<Found<Args>, ReadFault>
     requires { depth ≤ 500 }
     ensures { Finds tokens.now args_height (SpellsArgs tokens.now) at depth result }
 {
@@ -126,7 +136,12 @@ impl Part for Instance {
 
     ghost height = { instance_height };
 
-    fn read(alloc: Global, tokens: &[Token], at: usize, depth: usize) -> Result<Found<Instance>, ReadFault> {
+    fn read(
+        alloc: Global,
+        tokens: &[Token],
+        at: usize,
+        depth: usize,
+    ) -> Result<Found<Instance>, ReadFault> {
         let name = identifier(alloc, false, tokens, at)?;
         let args = connections(alloc, tokens, after(tokens, at), depth)?;
         Ok(Found {

@@ -84,7 +84,12 @@ fn wires(alloc: Global, tokens: &[Token], at: usize, depth: usize) -> Result<Fou
     })
 }
 
-fn registers(alloc: Global, tokens: &[Token], at: usize, depth: usize) -> Result<Found<Item>, ReadFault>
+fn registers(
+    alloc: Global,
+    tokens: &[Token],
+    at: usize,
+    depth: usize,
+) -> Result<Found<Item>, ReadFault>
     requires here { IsWord tokens.now at (codes "reg") }
     requires positive { 0 < depth }
     requires low { depth ≤ 500 }
@@ -98,7 +103,12 @@ fn registers(alloc: Global, tokens: &[Token], at: usize, depth: usize) -> Result
     })
 }
 
-fn parameters(alloc: Global, tokens: &[Token], at: usize, depth: usize) -> Result<Found<Item>, ReadFault>
+fn parameters(
+    alloc: Global,
+    tokens: &[Token],
+    at: usize,
+    depth: usize,
+) -> Result<Found<Item>, ReadFault>
     requires here { IsWord tokens.now at (codes "parameter") }
     requires positive { 0 < depth }
     requires low { depth ≤ 500 }
@@ -131,7 +141,12 @@ fn local_parameters(
     })
 }
 
-fn assigns(alloc: Global, tokens: &[Token], at: usize, depth: usize) -> Result<Found<Item>, ReadFault>
+fn assigns(
+    alloc: Global,
+    tokens: &[Token],
+    at: usize,
+    depth: usize,
+) -> Result<Found<Item>, ReadFault>
     requires here { IsWord tokens.now at (codes "assign") }
     requires positive { 0 < depth }
     requires low { depth ≤ 500 }
@@ -145,7 +160,12 @@ fn assigns(alloc: Global, tokens: &[Token], at: usize, depth: usize) -> Result<F
     })
 }
 
-fn always(alloc: Global, tokens: &[Token], at: usize, depth: usize) -> Result<Found<Item>, ReadFault>
+fn always(
+    alloc: Global,
+    tokens: &[Token],
+    at: usize,
+    depth: usize,
+) -> Result<Found<Item>, ReadFault>
     requires here { IsWord tokens.now at (codes "always") }
     requires positive { 0 < depth }
     requires low { depth ≤ 500 }
@@ -164,7 +184,12 @@ fn always(alloc: Global, tokens: &[Token], at: usize, depth: usize) -> Result<Fo
     })
 }
 
-fn instances(alloc: Global, tokens: &[Token], at: usize, depth: usize) -> Result<Found<Item>, ReadFault>
+fn instances(
+    alloc: Global,
+    tokens: &[Token],
+    at: usize,
+    depth: usize,
+) -> Result<Found<Item>, ReadFault>
     requires positive { 0 < depth }
     requires low { depth ≤ 500 }
     ensures { FindsItem tokens.now at depth result }
@@ -180,7 +205,12 @@ fn instances(alloc: Global, tokens: &[Token], at: usize, depth: usize) -> Result
 }
 
 /// The item at a place.
-pub fn read_item(alloc: Global, tokens: &[Token], at: usize, depth: usize) -> Result<Found<Item>, ReadFault>
+pub fn read_item(
+    alloc: Global,
+    tokens: &[Token],
+    at: usize,
+    depth: usize,
+) -> Result<Found<Item>, ReadFault>
     requires low { depth ≤ 500 }
     ensures { FindsItem tokens.now at depth result }
 {

@@ -25,7 +25,12 @@ pub struct Head {
     pub ports: Option<Ports>,
 }
 
-fn read_head(alloc: Global, tokens: &[Token], at: usize, depth: usize) -> Result<Found<Head>, ReadFault>
+fn read_head(
+    alloc: Global,
+    tokens: &[Token],
+    at: usize,
+    depth: usize,
+) -> Result<Found<Head>, ReadFault>
     requires { depth ≤ 500 }
     ensures { Finds tokens.now head_height (SpellsHead tokens.now) at depth result }
 {

@@ -22,7 +22,12 @@ pub trait Part: Sized + Drop {
     ghost height: { Self → ℕ };
 
     /// The part at a place, no higher than `depth`.
-    fn read(alloc: Global, tokens: &[Token], at: usize, depth: usize) -> Result<Found<Self>, ReadFault>
+    fn read(
+        alloc: Global,
+        tokens: &[Token],
+        at: usize,
+        depth: usize,
+    ) -> Result<Found<Self>, ReadFault>
         requires { depth ≤ 500 }
         ensures found { Finds tokens.now height (spells tokens.now) at depth result }
         ensures forward { IfOk result (λ found. at < found.end) };

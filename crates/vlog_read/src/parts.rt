@@ -20,7 +20,12 @@ impl Part for Text {
 
     ghost height = { λ _. 0 };
 
-    fn read(alloc: Global, tokens: &[Token], at: usize, depth: usize) -> Result<Found<Text>, ReadFault> {
+    fn read(
+        alloc: Global,
+        tokens: &[Token],
+        at: usize,
+        depth: usize,
+    ) -> Result<Found<Text>, ReadFault> {
         let name = identifier(alloc, false, tokens, at)?;
         Ok(Found {
             tree: name,
@@ -35,7 +40,12 @@ impl Part for Expr {
 
     ghost height = { height };
 
-    fn read(alloc: Global, tokens: &[Token], at: usize, depth: usize) -> Result<Found<Expr>, ReadFault> {
+    fn read(
+        alloc: Global,
+        tokens: &[Token],
+        at: usize,
+        depth: usize,
+    ) -> Result<Found<Expr>, ReadFault> {
         let read = read_tree(alloc, false, tokens, at, depth)?;
         Ok(Found {
             tree: read.tree,
@@ -50,7 +60,12 @@ impl Part for Lval {
 
     ghost height = { lval_height };
 
-    fn read(alloc: Global, tokens: &[Token], at: usize, depth: usize) -> Result<Found<Lval>, ReadFault> {
+    fn read(
+        alloc: Global,
+        tokens: &[Token],
+        at: usize,
+        depth: usize,
+    ) -> Result<Found<Lval>, ReadFault> {
         let read = read_lval(alloc, tokens, at, depth)?;
         Ok(Found {
             tree: read.tree,
@@ -61,7 +76,12 @@ impl Part for Lval {
 }
 
 /// `[high:low]`
-fn read_range(alloc: Global, tokens: &[Token], at: usize, depth: usize) -> Result<Found<Range>, ReadFault>
+fn read_range(
+    alloc: Global,
+    tokens: &[Token],
+    at: usize,
+    depth: usize,
+) -> Result<Found<Range>, ReadFault>
     requires here { IsSign tokens.now at (codes "[") }
     requires low { depth ≤ 500 }
     ensures { Finds tokens.now range_height (SpellsRange tokens.now) at depth result }
@@ -111,7 +131,12 @@ pub fn maybe_range(
 }
 
 /// The sign and the range of a declaration.
-pub fn read_shape(alloc: Global, tokens: &[Token], at: usize, depth: usize) -> Result<Found<Shape>, ReadFault>
+pub fn read_shape(
+    alloc: Global,
+    tokens: &[Token],
+    at: usize,
+    depth: usize,
+) -> Result<Found<Shape>, ReadFault>
     requires low { depth ≤ 500 }
     ensures { Finds tokens.now shape_height (SpellsShape tokens.now) at depth result }
 {
@@ -138,7 +163,12 @@ pub fn read_shape(alloc: Global, tokens: &[Token], at: usize, depth: usize) -> R
 }
 
 /// `= value`
-pub fn read_value(alloc: Global, tokens: &[Token], at: usize, depth: usize) -> Result<Found<Expr>, ReadFault>
+pub fn read_value(
+    alloc: Global,
+    tokens: &[Token],
+    at: usize,
+    depth: usize,
+) -> Result<Found<Expr>, ReadFault>
     requires low { depth ≤ 500 }
     ensures { Finds tokens.now height (SpellsValue tokens.now) at depth result }
 {
@@ -183,7 +213,12 @@ impl Part for Wire {
 
     ghost height = { wire_height };
 
-    fn read(alloc: Global, tokens: &[Token], at: usize, depth: usize) -> Result<Found<Wire>, ReadFault> {
+    fn read(
+        alloc: Global,
+        tokens: &[Token],
+        at: usize,
+        depth: usize,
+    ) -> Result<Found<Wire>, ReadFault> {
         let name = identifier(alloc, false, tokens, at)?;
         let value = maybe_value(alloc, tokens, after(tokens, at), depth)?;
         Ok(Found {
@@ -202,7 +237,12 @@ impl Part for Register {
 
     ghost height = { register_height };
 
-    fn read(alloc: Global, tokens: &[Token], at: usize, depth: usize) -> Result<Found<Register>, ReadFault> {
+    fn read(
+        alloc: Global,
+        tokens: &[Token],
+        at: usize,
+        depth: usize,
+    ) -> Result<Found<Register>, ReadFault> {
         let name = identifier(alloc, false, tokens, at)?;
         let words = maybe_range(alloc, tokens, after(tokens, at), depth)?;
         Ok(Found {
@@ -221,7 +261,12 @@ impl Part for Parameter {
 
     ghost height = { parameter_height };
 
-    fn read(alloc: Global, tokens: &[Token], at: usize, depth: usize) -> Result<Found<Parameter>, ReadFault> {
+    fn read(
+        alloc: Global,
+        tokens: &[Token],
+        at: usize,
+        depth: usize,
+    ) -> Result<Found<Parameter>, ReadFault> {
         let name = identifier(alloc, false, tokens, at)?;
         let value = read_value(alloc, tokens, after(tokens, at), depth)?;
         Ok(Found {
@@ -240,7 +285,12 @@ impl Part for Assign {
 
     ghost height = { assign_height };
 
-    fn read(alloc: Global, tokens: &[Token], at: usize, depth: usize) -> Result<Found<Assign>, ReadFault> {
+    fn read(
+        alloc: Global,
+        tokens: &[Token],
+        at: usize,
+        depth: usize,
+    ) -> Result<Found<Assign>, ReadFault> {
         let left = read_lval(alloc, tokens, at, depth)?;
         let right = read_value(alloc, tokens, left.end, depth)?;
         Ok(Found {

@@ -1,10 +1,7 @@
-use Rattle.std.proofs.Common.{ℕ, ◌+◌, ◌≡◌, ◌<◌, ◌≤◌, max, List, [], ◌∷◌, ◌++◌, length, true, false, inl, inr, arith, rules, refl, sym, ◌∙◌, ap, subst}
-use Rattle.std.proofs.lemmas.Result.{err_from_is_err_and}
+use Rattle.std.proofs.Common.{◌+◌, ◌≡◌, arith, refl}
 use Rattle.vlog_spell.proofs.Tokens.{kind_within}
-use Rattle.vlog_read_expr.proofs.SignTests.{yes_by, no_by}
-use Rattle.vlog_read.proofs.Steps.{tree_bounds, lval_bounds, stmt_bounds, name_bound}
-use Rattle.vlog_read.proofs.ListSteps.{begins, grows, ends, sequence_snoc, highest-append}
-use Rattle.vlog_read.proofs.HeaderSteps.{begins_parameters, begins_group}
+use Rattle.vlog_read_expr.proofs.SignTests.{yes_by}
+use Rattle.vlog_read.proofs.HeaderSteps.{begins_parameters}
 use Rattle.vlog_read.proofs.header.header_parameters.Goals as goal
 
 pub returns-then-not-is_sign : goal.returns-then-not-is_sign
@@ -25,8 +22,16 @@ returns c =
     let w = yes_by _ c.is_word.ensures c.if-not-is_word.false in
     let q : c.after-list_at.result ≡ c.args.at + 1 + 1 = omega (arith, c.after-open.ensures, c.after-list_at.ensures) in
     record {
-      spelt = (yes_by _ c.is_sign.ensures c.if-not-is_sign.false, (_, rw c.after-open.ensures at (yes_by _ c.is_sign-2.ensures c.if-not-is_sign-2.false), (begins_parameters _ _ _ _ a.spelt w, rw q at a.spelt),
-        yes_by _ c.is_sign-3.ensures c.if-not-is_sign-3.false, c.after.ensures));
+      spelt = (
+        yes_by _ c.is_sign.ensures c.if-not-is_sign.false,
+        (
+          _,
+          rw c.after-open.ensures at (yes_by _ c.is_sign-2.ensures c.if-not-is_sign-2.false),
+          (begins_parameters _ _ _ _ a.spelt w, rw q at a.spelt),
+          yes_by _ c.is_sign-3.ensures c.if-not-is_sign-3.false,
+          c.after.ensures,
+        ),
+      );
       height_is = a.height_is;
       low = a.low;
       past = omega (arith, a.past, q, c.after.ensures);

@@ -1,9 +1,5 @@
-use Rattle.std.proofs.Common.{ℕ, ◌+◌, ◌≡◌, ◌<◌, ◌≤◌, max, List, [], ◌∷◌, ◌++◌, length, true, false, inl, inr, arith, rules, refl, sym, ◌∙◌, ap, subst}
-use Rattle.std.proofs.lemmas.Result.{err_from_is_err_and}
+use Rattle.std.proofs.Common.{arith}
 use Rattle.vlog_spell.proofs.Tokens.{kind_within}
-use Rattle.vlog_read_expr.proofs.SignTests.{yes_by, no_by}
-use Rattle.vlog_read.proofs.Steps.{tree_bounds, lval_bounds, stmt_bounds, name_bound}
-use Rattle.vlog_read.proofs.ListSteps.{begins, grows, ends, sequence_snoc, highest-append}
 use Rattle.vlog_read.proofs.item.assigns.Goals as goal
 
 pub after-requires : goal.after-requires
@@ -11,11 +7,13 @@ after-requires c = kind_within _ _ _ c.requires.here
 
 pub returns : goal.returns
 returns c =
-    let a = c.in_ok-list.ensures in
-    (record {
-      spelt = (c.requires.here, rw c.after.ensures at a.spelt);
-      height_is = omega (arith, a.height_is);
-      low = omega (arith, a.low, c.requires.positive);
-      past = omega (arith, a.past, c.after.ensures);
-      within = omega (arith, a.within, c.after.ensures, kind_within _ _ _ c.requires.here);
-    }, omega (arith, a.past, c.after.ensures))
+    let a = c.in_ok-list.ensures in (
+      record {
+        spelt = (c.requires.here, rw c.after.ensures at a.spelt);
+        height_is = omega (arith, a.height_is);
+        low = omega (arith, a.low, c.requires.positive);
+        past = omega (arith, a.past, c.after.ensures);
+        within = omega (arith, a.within, c.after.ensures, kind_within _ _ _ c.requires.here);
+      },
+      omega (arith, a.past, c.after.ensures),
+    )

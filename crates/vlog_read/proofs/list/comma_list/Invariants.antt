@@ -1,6 +1,5 @@
 use Rattle.std.proofs.Common.{◌-◌, length}
 use Rattle.vlog_tree.specs.Lists.{Comma}
-use Rattle.vlog_tree.specs.Statements.{OrComma}
 use Rattle.vlog_read.proofs.ListSteps.{SoFar}
 use Rattle.vlog_read.proofs.list.comma_list.Given as goal
 

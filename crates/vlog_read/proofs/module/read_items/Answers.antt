@@ -1,5 +1,5 @@
-use Rattle.std.proofs.Common.{ℕ, ◌+◌, ◌≡◌, ◌<◌, ◌≤◌, max, List, [], ◌∷◌, ◌++◌, length, arith, rules, refl, sym, ◌∙◌, ap, subst}
-use Rattle.vlog_read_expr.proofs.SignTests.{yes_by, no_by}
+use Rattle.std.proofs.Common.{arith, refl, sym, subst}
+use Rattle.vlog_read_expr.proofs.SignTests.{yes_by}
 use Rattle.vlog_read.proofs.ItemSteps.{ItemsSoFar, items_begin, items_grow, items_end}
 use Rattle.vlog_read.proofs.module.read_items.Goals as goal
 

@@ -1,9 +1,5 @@
-use Rattle.std.proofs.Common.{ℕ, ◌+◌, ◌≡◌, ◌<◌, ◌≤◌, max, List, [], ◌∷◌, ◌++◌, length, true, false, inl, inr, arith, rules, refl, sym, ◌∙◌, ap, subst}
-use Rattle.std.proofs.lemmas.Result.{err_from_is_err_and}
+use Rattle.std.proofs.Common.{arith}
 use Rattle.vlog_spell.proofs.Tokens.{kind_within}
-use Rattle.vlog_read_expr.proofs.SignTests.{yes_by, no_by}
-use Rattle.vlog_read.proofs.Steps.{tree_bounds, lval_bounds, stmt_bounds, name_bound}
-use Rattle.vlog_read.proofs.ListSteps.{begins, grows, ends, sequence_snoc, highest-append}
 use Rattle.vlog_read.proofs.module.read_module.Goals as goal
 
 pub after-requires : goal.after-requires
@@ -11,11 +7,13 @@ after-requires c = kind_within _ _ _ c.in_ok-items.ensures.1
 
 pub returns : goal.returns
 returns c =
-    let a = c.in_ok-head.ensures in let b = c.in_ok-items.ensures.0 in let s = a.spelt in
-    (record {
-      spelt = (s.0, s.1, _, s.2, s.3, s.4, s.5, s.6, rw s.7 at b.spelt, c.in_ok-items.ensures.1, c.after.ensures);
-      height_is = omega (arith, c.max.ensures, a.height_is, b.height_is);
-      low = omega (arith, c.max.ensures, a.low, b.low);
-      past = omega (arith, a.past, b.past, c.after.ensures);
-      within = omega (arith, c.after.ensures, kind_within _ _ _ c.in_ok-items.ensures.1);
-    }, omega (arith, a.past, b.past, c.after.ensures))
+    let a = c.in_ok-head.ensures in let b = c.in_ok-items.ensures.0 in let s = a.spelt in (
+      record {
+        spelt = (s.0, s.1, _, s.2, s.3, s.4, s.5, s.6, rw s.7 at b.spelt, c.in_ok-items.ensures.1, c.after.ensures);
+        height_is = omega (arith, c.max.ensures, a.height_is, b.height_is);
+        low = omega (arith, c.max.ensures, a.low, b.low);
+        past = omega (arith, a.past, b.past, c.after.ensures);
+        within = omega (arith, c.after.ensures, kind_within _ _ _ c.in_ok-items.ensures.1);
+      },
+      omega (arith, a.past, b.past, c.after.ensures),
+    )

@@ -1,6 +1,6 @@
-use Rattle.std.proofs.Common.{ℕ, ◌+◌, ◌≡◌, ◌<◌, ◌≤◌, max, List, [], ◌∷◌, ◌++◌, length, true, arith, rules, refl, sym, ◌∙◌, ap, subst}
+use Rattle.std.proofs.Common.{◌≡◌, [], ◌∷◌, ◌++◌, true, arith, sym, ◌∙◌, ap}
 use Rattle.std.specs.Prelude.{is_ok}
-use Rattle.vlog_read.proofs.ItemSteps.{ModulesSoFar, modules_begin, modules_grow, modules_end}
+use Rattle.vlog_read.proofs.ItemSteps.{modules_begin, modules_grow, modules_end}
 use Rattle.vlog_read.proofs.module.read_module_list.Goals as goal
 
 pub loop-end-init : goal.loop-end-init

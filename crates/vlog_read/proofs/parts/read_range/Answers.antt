@@ -1,9 +1,7 @@
-use Rattle.std.proofs.Common.{ℕ, ◌+◌, ◌≡◌, ◌<◌, ◌≤◌, max, List, [], ◌∷◌, ◌++◌, length, true, false, inl, inr, arith, rules, refl, sym, ◌∙◌, ap, subst}
-use Rattle.std.proofs.lemmas.Result.{err_from_is_err_and}
+use Rattle.std.proofs.Common.{arith}
 use Rattle.vlog_spell.proofs.Tokens.{kind_within}
-use Rattle.vlog_read_expr.proofs.SignTests.{yes_by, no_by}
-use Rattle.vlog_read.proofs.Steps.{tree_bounds, lval_bounds, stmt_bounds, name_bound}
-use Rattle.vlog_read.proofs.ListSteps.{begins, grows, ends, sequence_snoc, highest-append}
+use Rattle.vlog_read_expr.proofs.SignTests.{yes_by}
+use Rattle.vlog_read.proofs.Steps.{tree_bounds}
 use Rattle.vlog_read.proofs.parts.read_range.Goals as goal
 
 pub after-requires : goal.after-requires
@@ -20,8 +18,16 @@ returns c =
     let a = tree_bounds _ _ _ _ c.in_ok-high.ensures in
     let b = tree_bounds _ _ _ _ c.in_ok-low.ensures in
     record {
-      spelt = (c.in_ok-high.high.end, c.in_ok-low.low.end, c.requires.here, rw c.after.ensures at c.in_ok-high.ensures.reads.spelt, yes_by _ c.is_sign.ensures c.if-not-is_sign.false,
-        rw c.after-2.ensures at c.in_ok-low.ensures.reads.spelt, yes_by _ c.is_sign-2.ensures c.if-not-is_sign-2.false, c.after-3.ensures);
+      spelt = (
+        c.in_ok-high.high.end,
+        c.in_ok-low.low.end,
+        c.requires.here,
+        rw c.after.ensures at c.in_ok-high.ensures.reads.spelt,
+        yes_by _ c.is_sign.ensures c.if-not-is_sign.false,
+        rw c.after-2.ensures at c.in_ok-low.ensures.reads.spelt,
+        yes_by _ c.is_sign-2.ensures c.if-not-is_sign-2.false,
+        c.after-3.ensures,
+      );
       height_is = omega (arith, c.max-height.ensures, c.in_ok-high.ensures.height_is, c.in_ok-low.ensures.height_is);
       low = omega (arith, c.max-height.ensures, c.in_ok-high.ensures.low, c.in_ok-low.ensures.low);
       past = omega (arith, a.0, b.0, c.after.ensures, c.after-2.ensures, c.after-3.ensures);

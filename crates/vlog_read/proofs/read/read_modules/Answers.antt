@@ -1,6 +1,3 @@
-use Rattle.std.proofs.Common.{List, refl, sym, subst}
-use Rattle.vlog_tree.specs.declared.token.Token.{Token}
-use Rattle.vlog_tree.specs.Modules.{SpellsFile}
 use Rattle.vlog_read.proofs.read.read_modules.Goals as goal
 
 pub returns : goal.returns

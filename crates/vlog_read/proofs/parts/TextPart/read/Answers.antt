@@ -1,9 +1,4 @@
-use Rattle.std.proofs.Common.{ℕ, ◌+◌, ◌≡◌, ◌<◌, ◌≤◌, max, List, [], ◌∷◌, ◌++◌, length, true, false, inl, inr, arith, rules, refl, sym, ◌∙◌, ap, subst}
-use Rattle.std.proofs.lemmas.Result.{err_from_is_err_and}
-use Rattle.vlog_spell.proofs.Tokens.{kind_within}
-use Rattle.vlog_read_expr.proofs.SignTests.{yes_by, no_by}
-use Rattle.vlog_read.proofs.Steps.{tree_bounds, lval_bounds, stmt_bounds, name_bound}
-use Rattle.vlog_read.proofs.ListSteps.{begins, grows, ends, sequence_snoc, highest-append}
+use Rattle.std.proofs.Common.{arith, refl}
 use Rattle.vlog_read.proofs.parts.TextPart.read.Goals as goal
 
 pub returns : goal.returns
