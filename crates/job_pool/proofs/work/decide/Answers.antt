@@ -15,4 +15,4 @@ returns c =
       shown = shown;
       decides = decided c.args.budget c.args.ob.now built.cnf built.bits.items end c.in_ok-built.ensures.carries shown;
     })
-    c.solve.ensures
+    c.solve.ensures.end
