@@ -8,7 +8,7 @@ use Rattle.set_tree.specs.declared.set.Set.{Set}
 use Rattle.set_read.specs.Read.{Spells}
 use Rattle.plain_ops.specs.declared.report.Line.{Line}
 use Rattle.plain_ops.specs.Design.{Design, design_of}
-use Rattle.plain_ops.specs.Report.{IsRight}
+use Rattle.plain_ops.specs.Report.{IsRight, IsTooWide}
 use Rattle.signoff.specs.Report.{all_proved, report_text}
 use Rattle.signoff.specs.Words.{Files}
 use Rattle.signoff.specs.declared.run.Answer.{Answer}
@@ -22,11 +22,15 @@ use Rattle.signoff.specs.declared.run.Read.TheVariants.{NoModule, NoSet, Both}
 abbrev pub AreLines : Module → Set → List Line → Type 0
 AreLines «module» set lines = (design : Design) × (design_of «module» ≡ Some design) × IsRight design set lines
 
--- what a module and a set come to; why they are refused is open so far
+-- the line of reset or of an operation has more than 16 free bits
+abbrev pub IsWide : Module → Set → Type 0
+IsWide «module» set = (design : Design) × (design_of «module» ≡ Some design) × IsTooWide design set
+
+-- what a module and a set come to; why one of them is refused is open so far
 abbrev pub DecidesOne : Module → Set → Judged → Type 0
 DecidesOne «module» set judged.Module = Unit {0}
 DecidesOne «module» set judged.Set = Unit {0}
-DecidesOne «module» set judged.Wide = Unit {0}
+DecidesOne «module» set judged.Wide = IsWide «module» set
 DecidesOne «module» set (judged.Lines lines) = AreLines «module» set lines
 
 -- the one module of a list
@@ -37,7 +41,7 @@ pub record IsOnly (ms : List Module) («module» : Module) : Type 0 where
 abbrev pub Decides : List Module → Set → Judged → Type 0
 Decides ms set judged.Module = Unit {0}
 Decides ms set judged.Set = Unit {0}
-Decides ms set judged.Wide = Unit {0}
+Decides ms set judged.Wide = («module» : Module) × IsOnly ms «module» × IsWide «module» set
 Decides ms set (judged.Lines lines) = («module» : Module) × IsOnly ms «module» × AreLines «module» set lines
 
 -- the lines of the module and the set that the texts spell
@@ -45,11 +49,16 @@ abbrev pub AreLinesOf : List ℕ → List ℕ → List Line → Type 0
 AreLinesOf m s lines =
     (ms : List Module) × (set : Set) × («module» : Module) × SpellsModules m ms × Spells s set × IsOnly ms «module» × AreLines «module» set lines
 
+-- the module and the set that the texts spell have too wide a line
+abbrev pub AreWide : List ℕ → List ℕ → Type 0
+AreWide m s =
+    (ms : List Module) × (set : Set) × («module» : Module) × SpellsModules m ms × Spells s set × IsOnly ms «module» × IsWide «module» set
+
 -- what two texts come to
 abbrev pub Judges : List ℕ → List ℕ → Judged → Type 0
 Judges m s judged.Module = Unit {0}
 Judges m s judged.Set = Unit {0}
-Judges m s judged.Wide = Unit {0}
+Judges m s judged.Wide = AreWide m s
 Judges m s (judged.Lines lines) = AreLinesOf m s lines
 
 abbrev pub refusal : ℕ → List ℕ → Answer
