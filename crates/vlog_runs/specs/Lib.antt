@@ -1,0 +1,5 @@
+pub mod Places
+pub mod Blocks
+pub mod Contents
+pub mod Scopes
+pub mod Cycles
