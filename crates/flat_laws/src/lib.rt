@@ -1,0 +1,6 @@
+//! Laws of flattening: a module without instances that has the runs of a list of modules.
+#![tactic(auto)]
+
+mod law;
+
+pub use law::moved_texts_do_the_same;
