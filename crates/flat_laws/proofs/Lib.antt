@@ -1,3 +1,6 @@
+mod Lists
 mod Moving
 mod Sides
 mod Statements
+mod Entries
+mod Finding

@@ -27,7 +27,7 @@ pub signal_read : (p q : Place) (c : Cycle) (x : Name) → MovesInto p q → IsS
 signal_read p q c x m h = (m.names c).names (read x) (or_right (is_parameter p x) (has_signal p.signals x) h.1) (none_of _ _ h.0)
 
 pub expr_moved : (p q : Place) (c : Cycle) (a : Expr) → MovesInto p q → UsesDeclared p a → operand_of (valuation q c) (moved p.prefix p.params a) ≡ operand_of (valuation p c) a
-expr_moved p q c a m d = moved_means (is_declared p) p.params (valuation p c) (valuation q c) p.prefix a (m.names c) d
+expr_moved p q c a m d = moved_means (is_declared p) p.params (valuation p c) (valuation q c) p.prefix a (m.names c) d.0
 
 -- the name of a word under a prefix
 pub word_under : (pre x : Name) (j : ℕ) → (word_name (read (pre ++ x)) j).text ≡ pre ++ (word_name (read x) j).text

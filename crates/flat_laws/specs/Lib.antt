@@ -1,3 +1,4 @@
 pub mod Moved
 pub mod Uses
+pub mod Flattened
 pub mod Laws
