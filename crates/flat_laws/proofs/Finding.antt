@@ -156,7 +156,7 @@ deep pre c gs x j (Some k) h l =
 
 -- ---- signals
 
-signal_known : (gs : List Signal) (x : Name) → has_signal gs x ≡ true → Among (known gs) x
+pub signal_known : (gs : List Signal) (x : Name) → has_signal gs x ≡ true → Among (known gs) x
 signal_known gs x h = known_of gs x (signal_at gs x) refl h
   where
     first_name : (g : Signal) (b : Bool) → nat_eq g.depth 0 ≡ b → Among (names_of g) g.name
@@ -180,7 +180,7 @@ signal_known gs x h = known_of gs x (signal_at gs x) refl h
 
 -- ---- a scope moves into the list of all
 
-told_none : {A B : Type 0} (f : A → B) (o : Option A) → option_map f o ≡ None → o ≡ None
+pub told_none : {A B : Type 0} (f : A → B) (o : Option A) → option_map f o ≡ None → o ≡ None
 told_none f None h = refl
 told_none f (Some a) h = cc
 
@@ -250,7 +250,7 @@ same_known ss apart s h distinct c x d =
           ∙ (named_is w (s.prefix ++ y) ∙ (ap constant_in (told_same ss apart s h c y z (distinct y z)) ∙ sym (named_is v y)));
     }
 
-name_moves : (ss : List Scope) → AreApart ss → (s : Scope) → Among ss s → ((x : Name) → Among (known (place_of s).signals) x → entry_at s.params x 0 ≡ None) →
+pub name_moves : (ss : List Scope) → AreApart ss → (s : Scope) → Among ss s → ((x : Name) → Among (known (place_of s).signals) x → entry_at s.params x 0 ≡ None) →
     (c : Cycle) (x : Name) (j : ℕ) → is_declared (place_of s) x ≡ true → entry_at s.params x j ≡ None →
     SameRead (valuation (place_of s) c) (valuation (bare (flat_map flat_signals ss)) c) s.prefix (record { text = x; offset = j })
 name_moves ss apart s h distinct c x zero d none =

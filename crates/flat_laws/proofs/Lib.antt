@@ -4,3 +4,6 @@ mod Sides
 mod Statements
 mod Entries
 mod Finding
+mod Lows
+mod Constants
+mod Driving

@@ -11,7 +11,7 @@ use Rattle.vlog_runs.specs.declared.flat.Always.{Always}
 use Rattle.vlog_runs.specs.declared.flat.Flat.{Flat}
 use Rattle.vlog_runs.specs.declared.flat.Signal.{Signal}
 use Rattle.vlog_runs.specs.declared.flat.TopPort.{TopPort}
-use Rattle.vlog_runs.specs.Places.{Name, Cycle, Among, Place, holders, valuation, pieces, total, give}
+use Rattle.vlog_runs.specs.Places.{Name, Cycle, Among, Place, holders, words_from, valuation, pieces, total, give}
 use Rattle.vlog_runs.specs.Blocks.{run, lefts, left_names, Drives}
 use Rattle.vlog_runs.specs.Contents.{Decl, signals_in, Block, blocks_in, is_clocked}
 use Rattle.vlog_runs.specs.Scopes.{Scope, IsScope, scope_at, place_of, Link, links_of, own_link}
@@ -40,9 +40,17 @@ IsHeldBy p y g x = (g.name ≡ y) × (w : Signal) × Among (holders g) w × (x �
 abbrev pub IsAssigned : Place → Stmt → Name → Type 0
 IsAssigned p body x = (y : Name) × Among (flat_map left_names (lefts body)) y × (g : Signal) × Among p.signals g × IsHeldBy p y g x
 
--- a left side of a place drives bit b of x
+-- a left side of a place drives bit b of the signal x
+abbrev pub DrivesBit : Place → Lval → Name → ℕ → Type 0
+DrivesBit p left x b = (y : Name) × (x ≡ p.prefix ++ y) × Drives p left y b
+
+-- a left side assigns to a memory, one of whose words is x
+abbrev pub DrivesWord : Place → Lval → Name → Type 0
+DrivesWord p left x =
+    (g : Signal) × Among p.signals g × (nat_eq g.depth 0 ≡ false) × Among (left_names left) g.name × (w : Signal) × Among (words_from g 0 g.depth) w × (x ≡ p.prefix ++ w.name)
+
 abbrev pub DrivesFull : Place → Lval → Name → ℕ → Type 0
-DrivesFull p left x b = (y : Name) × (x ≡ p.prefix ++ y) × Drives p left y b
+DrivesFull p left x b = DrivesBit p left x b ⊎ DrivesWord p left x
 
 -- the bit b of a number
 abbrev pub bit_at : ℕ → ℕ → ℕ
@@ -76,15 +84,18 @@ pub record IsCycleFrom (ms : List Module) (top : Name) (c : Cycle) : Type 0 wher
       ¬ IsDrivenFrom ms top (s.prefix ++ w.name) b → ¬ IsRegisterFrom ms top (s.prefix ++ w.name) → ¬ IsInputFrom ms top (s.prefix ++ w.name) →
       bit_at (c (s.prefix ++ w.name)) b ≡ 0
 
--- the cycle that the clocked blocks make of d, reading c
-abbrev pub clocked_from : Place → List Block → Cycle → Cycle → Cycle
-clocked_from p [] c d x = d x
-clocked_from p (b ∷ bs) c d x = if is_clocked b.events then clocked_from p bs c (run false p b.body c d) x else clocked_from p bs c d x
+-- a clocked block drives bit b of x
+abbrev pub IsClockedFrom : List Module → Name → Name → ℕ → Type 0
+IsClockedFrom ms top x b =
+    (s : Scope) × IsScope ms top s × (k : Block) × Among (blocks_in s.module') k × (is_clocked k.events ≡ true)
+    × (left : Lval) × Among (lefts k.body) left × DrivesFull (place_of s) left x b
 
--- d follows c: each register has what the clocked blocks of its module give from c, and what isn't assigned keeps its value
+-- d follows c: a bit that a clocked block drives has what this block gives from c, and the other bits of registers keep their values
 pub record FollowsFrom (ms : List Module) (top : Name) (c d : Cycle) : Type 0 where
-  pub registers : (s : Scope) → IsScope ms top s → (b : Block) → Among (blocks_in s.module') b → is_clocked b.events ≡ true →
-      (x : Name) → IsAssigned (place_of s) b.body x → d x ≡ clocked_from (place_of s) (blocks_in s.module') c c x
+  pub driven : (s : Scope) → IsScope ms top s → (k : Block) → Among (blocks_in s.module') k → is_clocked k.events ≡ true →
+      (left : Lval) → Among (lefts k.body) left → (x : Name) (b : ℕ) → DrivesFull (place_of s) left x b →
+      bit_at (d x) b ≡ bit_at (run false (place_of s) k.body c c x) b
+  pub kept : (x : Name) (b : ℕ) → IsRegisterFrom ms top x → ¬ IsClockedFrom ms top x b → bit_at (d x) b ≡ bit_at (c x) b
 
 -- ---- one module without instances
 
@@ -96,8 +107,8 @@ IsRegister f x = (b : Always) × Among f.blocks b × (b.clocked ≡ true) × IsA
 
 abbrev pub IsDriven : Flat → Name → ℕ → Type 0
 IsDriven f x b =
-    ((a : Assign) × Among f.assigns a × Drives (flat_place f) a.left x b)
-    ⊎ ((c : Always) × Among f.blocks c × (c.clocked ≡ false) × (left : Lval) × Among (lefts c.body) left × Drives (flat_place f) left x b)
+    ((a : Assign) × Among f.assigns a × DrivesFull (flat_place f) a.left x b)
+    ⊎ ((c : Always) × Among f.blocks c × (c.clocked ≡ false) × (left : Lval) × Among (lefts c.body) left × DrivesFull (flat_place f) left x b)
 
 abbrev pub IsInput : Flat → Name → Type 0
 IsInput f x = (p : TopPort) × Among f.ports p × (p.output ≡ false) × (p.name ≡ x)
@@ -110,12 +121,14 @@ pub record IsCycle (f : Flat) (c : Cycle) : Type 0 where
   pub unset : (g w : Signal) (b : ℕ) → Among f.signals g → Among (holders g) w → ¬ IsDriven f w.name b → ¬ IsRegister f w.name → ¬ IsInput f w.name →
       bit_at (c w.name) b ≡ 0
 
-abbrev pub clocked_of : Place → List Always → Cycle → Cycle → Cycle
-clocked_of p [] c d x = d x
-clocked_of p (b ∷ bs) c d x = if b.clocked then clocked_of p bs c (run false p b.body c d) x else clocked_of p bs c d x
+abbrev pub IsClocked : Flat → Name → ℕ → Type 0
+IsClocked f x b =
+    (k : Always) × Among f.blocks k × (k.clocked ≡ true) × (left : Lval) × Among (lefts k.body) left × DrivesFull (flat_place f) left x b
 
 pub record Follows (f : Flat) (c d : Cycle) : Type 0 where
-  pub registers : (x : Name) → IsRegister f x → d x ≡ clocked_of (flat_place f) f.blocks c c x
+  pub driven : (k : Always) → Among f.blocks k → k.clocked ≡ true → (left : Lval) → Among (lefts k.body) left → (x : Name) (b : ℕ) →
+      DrivesFull (flat_place f) left x b → bit_at (d x) b ≡ bit_at (run false (flat_place f) k.body c c x) b
+  pub kept : (x : Name) (b : ℕ) → IsRegister f x → ¬ IsClocked f x b → bit_at (d x) b ≡ bit_at (c x) b
 
 -- ---- runs
 
