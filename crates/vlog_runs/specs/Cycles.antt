@@ -1,6 +1,6 @@
 -- Cycles and runs, of a list of modules from its top and of one module without instances (IEEE 1364-2005, sections 6.1, 9.2 and 12.3;
 -- a bit has two values, and a register that isn't reset may start with any).
-use Rattle.std.specs.Prelude.{ℕ, ◌+◌, ◌/◌, ◌%◌, ◌^◌, ◌<◌, ◌≡◌, ◌⊎◌, true, false, List, [], ◌∷◌, ◌++◌, Some, if◌then◌else◌}
+use Rattle.std.specs.Prelude.{nat_eq, ℕ, ◌+◌, ◌/◌, ◌%◌, ◌^◌, ◌<◌, ◌≡◌, ◌⊎◌, true, false, List, [], ◌++◌, Some}
 use Rattle.std.specs.List.{flat_map}
 use Rattle.vlog_tree.specs.declared.item.Assign.{Assign}
 use Rattle.vlog_tree.specs.declared.module.Module.{Module}
