@@ -1,6 +1,6 @@
 -- What names stand for, in lists of entries joined end to end and under a prefix.
-use Rattle.std.proofs.Common.{◌≡◌, ℕ, zero, suc, ◌<◌, ◌^◌, ◌&&◌, Bool, true, false, nat_eq, List, [], ◌∷◌, ◌++◌, Option, Some, None, sym, ap, ◌∙◌, refl, inl, inr, ⊎_elim, map, subst, ◌⊎◌}
-use Rattle.std.specs.Prelude.{if◌then◌else◌, is_some, unwrap_or}
+use Rattle.std.proofs.Common.{◌≡◌, ℕ, zero, suc, ◌&&◌, Bool, true, false, nat_eq, List, [], ◌∷◌, ◌++◌, Option, Some, None, sym, ap, ◌∙◌, refl, inl, inr, ⊎_elim, map, subst}
+use Rattle.std.specs.Prelude.{if◌then◌else◌, is_some}
 use Rattle.std.specs.Option.{option_map}
 use Rattle.std.specs.List.{flat_map}
 use Rattle.std.specs.Str.{bytes_eq}
@@ -8,13 +8,12 @@ use Rattle.std.proofs.Math.Dec.{eqb-zero-suc}
 use Rattle.std.proofs.lemmas.Slice.Eq.{bytes_eq-Decides}
 use Rattle.vlog_tree.specs.declared.valuation.Entry.{Entry}
 use Rattle.vlog_tree.specs.declared.expr.Constant.{Constant}
-use Rattle.vlog_tree.specs.declared.expr.Name.{Name as Read}
-use Rattle.vlog_tree.specs.Valuation.{entry_at, meant, meaning_of, named, depth_of, word_name}
+use Rattle.vlog_tree.specs.Valuation.{entry_at, meant, word_name}
 use Rattle.vlog_runs.specs.declared.flat.Signal.{Signal}
 use Rattle.vlog_runs.specs.Places.{Name, Cycle, Among, read, words_from, entry_of, held_entry, entries_of}
 use Rattle.flat_laws.specs.Moved.{moved_signal}
 use Rattle.flat_laws.specs.Uses.{names_of, known}
-use Rattle.flat_laws.proofs.Lists.{bool_cases, eq_under, map_append, flat_append, among_map, map_among, among_flat}
+use Rattle.flat_laws.proofs.Lists.{bool_cases, eq_under, map_append, map_among}
 use Rattle.flat_laws.proofs.Sides.{word_under}
 
 -- what an entry says apart from its name

@@ -1,5 +1,5 @@
 -- In the module without instances each scope finds its own names.
-use Rattle.std.proofs.Common.{◌≡◌, ℕ, zero, suc, ◌+◌, ◌<◌, ◌^◌, ◌&&◌, ◌||◌, Bool, true, false, nat_eq, List, [], ◌∷◌, ◌++◌, Option, Some, None, sym, ap, ◌∙◌, refl, inl, inr, ⊎_elim, map, subst, ◌⊎◌, arith}
+use Rattle.std.proofs.Common.{◌≡◌, ℕ, zero, suc, ◌+◌, ◌<◌, ◌^◌, ◌&&◌, ◌||◌, Bool, true, false, nat_eq, List, [], ◌∷◌, ◌++◌, Option, Some, None, sym, ap, ◌∙◌, refl, inl, inr, ⊎_elim, map, subst, arith}
 use Rattle.std.specs.Prelude.{if◌then◌else◌, is_some, unwrap_or}
 use Rattle.std.specs.Option.{option_map}
 use Rattle.std.specs.List.{flat_map}
@@ -12,13 +12,13 @@ use Rattle.vlog_tree.specs.declared.expr.Name.{Name as Read}
 use Rattle.vlog_tree.specs.Valuation.{entry_at, meant, meaning_of, named, depth_of, word_name}
 use Rattle.vlog_runs.specs.declared.flat.Signal.{Signal}
 use Rattle.vlog_runs.specs.Places.{Name, Cycle, Among, Place, read, words_from, entry_of, held_entry, entries_of, valuation}
-use Rattle.vlog_runs.specs.Blocks.{is_parameter, signal_at, low_in}
+use Rattle.vlog_runs.specs.Blocks.{is_parameter, signal_at}
 use Rattle.vlog_runs.specs.Scopes.{Scope, place_of}
-use Rattle.flat_laws.specs.Moved.{under, moved_signal}
-use Rattle.flat_laws.specs.Uses.{has_signal, is_declared, IsSignal, names_of, known, AreConstants}
+use Rattle.flat_laws.specs.Moved.{under}
+use Rattle.flat_laws.specs.Uses.{has_signal, is_declared, names_of, known, AreConstants}
 use Rattle.flat_laws.specs.Flattened.{flat_signals, AreApart}
-use Rattle.flat_laws.specs.Laws.{SameRead, SameConstant, Moves, MovesInto}
-use Rattle.flat_laws.proofs.Lists.{bool_cases, eq_under, none_of, none_not_some, among_map, map_among, among_flat, flat_among, flat_append}
+use Rattle.flat_laws.specs.Laws.{SameRead, SameConstant}
+use Rattle.flat_laws.proofs.Lists.{bool_cases, none_not_some, among_map, among_flat, flat_among, flat_append}
 use Rattle.flat_laws.proofs.Entries.{Told, told, told_at, append_some, append_none, told_among, renamed, told_renamed, entries_renamed, none_later, all_present, known_told, told_known}
 use Rattle.flat_laws.proofs.Sides.{word_under}
 

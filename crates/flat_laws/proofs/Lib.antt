@@ -7,3 +7,4 @@ mod Finding
 mod Lows
 mod Constants
 mod Driving
+mod Keeps

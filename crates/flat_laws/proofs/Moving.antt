@@ -1,9 +1,8 @@
 -- A moved expression means what the expression means.
-use Rattle.std.proofs.Common.{arith, ◌≡◌, ℕ, ◌%◌, ◌^◌, ◌<◌, ◌&&◌, max, Bool, true, false, nat_eq, nat_lt, List, [], ◌∷◌, ◌++◌, Option, Some, None, sym, ap, ◌∙◌, refl, ⊎_elim, inl, inr, ◌⊎◌}
+use Rattle.std.proofs.Common.{◌≡◌, ℕ, ◌%◌, ◌^◌, Bool, true, false, nat_eq, nat_lt, List, Option, Some, None, sym, ap, ◌∙◌, refl}
 use Rattle.std.specs.Prelude.{if◌then◌else◌}
 use Rattle.std.proofs.Math.Nat.{mod-eq_of_lt}
 use Rattle.std.proofs.lemmas.Bool.{ltb-true}
-use Rattle.vlog_tree.specs.declared.expr.Binary.{Binary}
 use Rattle.vlog_tree.specs.declared.expr.Constant.{Constant}
 use Rattle.vlog_tree.specs.declared.expr.Expr.{Expr, Row_of-Expr, end_of-Expr, more_of-Expr}
 use Rattle.vlog_tree.specs.declared.expr.Expr.TheVariants as e
@@ -13,8 +12,8 @@ use Rattle.vlog_tree.specs.declared.valuation.Entry.{Entry}
 use Rattle.vlog_tree.specs.Valuation.{meaning_of, named, depth_of, word_name}
 use Rattle.vlog_tree.specs.Value.{Operand, operand_of, row_of, own, vector, plain, unary_of, binary_of, choice_of, cast_of, joined, repeated, bit_of, part_of, word_of, own_defined, NamesOnly, AllNamesOnly}
 use Rattle.vlog_runs.specs.Places.{Name}
-use Rattle.flat_laws.specs.Moved.{under, number_for, moved, moved_name, moved_select, moved_part, moved_row}
-use Rattle.flat_laws.specs.Laws.{SameRead, SameConstant, Moves}
+use Rattle.flat_laws.specs.Moved.{under, moved, moved_name, moved_select, moved_part, moved_row}
+use Rattle.flat_laws.specs.Laws.{SameRead, Moves}
 
 -- what a name is as an operand
 abbrev as_operand : Constant → Operand

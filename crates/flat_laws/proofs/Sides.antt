@@ -1,18 +1,18 @@
 -- A moved left side writes what the left side writes.
-use Rattle.std.proofs.Common.{◌≡◌, ℕ, ◌+◌, ◌%◌, ◌^◌, ◌<◌, ◌&&◌, ◌||◌, max, Bool, true, false, nat_eq, nat_lt, List, [], ◌∷◌, ◌++◌, Option, Some, None, sym, ap, ◌∙◌, refl}
+use Rattle.std.proofs.Common.{◌≡◌, ℕ, ◌%◌, ◌^◌, ◌||◌, max, Bool, true, false, nat_eq, nat_lt, [], ◌∷◌, ◌++◌, Option, Some, None, ap, ◌∙◌, refl}
 use Rattle.std.specs.Prelude.{if◌then◌else◌, is_some, pos, ◌-ℤ◌, codes, decimal}
 use Rattle.std.specs.Option.{option_map}
 use Rattle.std.proofs.lemmas.List.{append_assoc}
 use Rattle.vlog_tree.specs.declared.expr.Expr.{Expr}
 use Rattle.vlog_tree.specs.declared.stmt.Lval.{Lval, Row_of-Lval, end_of-Lval, more_of-Lval}
 use Rattle.vlog_tree.specs.declared.stmt.Lval.TheVariants as l
-use Rattle.vlog_tree.specs.Valuation.{meaning_of, named, depth_of, word_name}
+use Rattle.vlog_tree.specs.Valuation.{word_name}
 use Rattle.vlog_tree.specs.Value.{Operand, operand_of, own, own_integer, part_width, part_low}
-use Rattle.vlog_runs.specs.Places.{Name, Cycle, Place, Piece, read, valuation, pieces, row_pieces, total, give, store, whole_piece, bit_piece, word_piece}
+use Rattle.vlog_runs.specs.Places.{Name, Cycle, Place, read, valuation, pieces, row_pieces, total, give, store, whole_piece, bit_piece, word_piece}
 use Rattle.vlog_runs.specs.Blocks.{is_parameter}
-use Rattle.flat_laws.specs.Moved.{under, moved, moved_left, moved_lefts}
+use Rattle.flat_laws.specs.Moved.{moved, moved_left, moved_lefts}
 use Rattle.flat_laws.specs.Uses.{is_declared, has_signal, IsSignal, UsesDeclared, AssignsSignals, AllAssignSignals}
-use Rattle.flat_laws.specs.Laws.{SameRead, Moves, MovesInto}
+use Rattle.flat_laws.specs.Laws.{SameRead, MovesInto}
 use Rattle.flat_laws.proofs.Moving.{moved_means}
 
 none_of : {A B : Type 0} (f : A → B) (o : Option A) → is_some o ≡ false → option_map f o ≡ None

@@ -1,5 +1,5 @@
 -- A moved statement does what the statement does.
-use Rattle.std.proofs.Common.{◌≡◌, ℕ, ◌&&◌, ◌||◌, max, Bool, true, false, nat_eq, List, [], ◌∷◌, ◌++◌, Option, Some, None, sym, ap, ◌∙◌, refl, map}
+use Rattle.std.proofs.Common.{◌≡◌, ℕ, ◌&&◌, ◌||◌, max, Bool, nat_eq, List, [], ◌∷◌, ◌++◌, Option, Some, None, sym, ap, ◌∙◌, refl, map}
 use Rattle.std.specs.Prelude.{if◌then◌else◌, bit_or}
 use Rattle.std.specs.List.{list_any}
 use Rattle.vlog_tree.specs.declared.expr.Constant.{Constant}
@@ -14,9 +14,9 @@ use Rattle.vlog_tree.specs.declared.stmt.Stmt.{Stmt, Row_of-Stmt, end_of-Stmt, m
 use Rattle.vlog_tree.specs.declared.stmt.Stmt.TheVariants as s
 use Rattle.vlog_tree.specs.declared.valuation.Entry.{Entry}
 use Rattle.vlog_tree.specs.Valuation.{meaning_of}
-use Rattle.vlog_tree.specs.Value.{operand_of, own, value_of}
+use Rattle.vlog_tree.specs.Value.{own}
 use Rattle.vlog_runs.specs.Places.{Name, Cycle, Place, valuation}
-use Rattle.vlog_runs.specs.Blocks.{widest, all_signed, exprs_in, is_default, labels_in, case_width, case_sign, ignored, matches, any_matches, seen, is_false, run, run_row, run_items, run_default}
+use Rattle.vlog_runs.specs.Blocks.{widest, all_signed, exprs_in, is_default, labels_in, case_width, case_sign, ignored, matches, any_matches, seen, run, run_row, run_items, run_default}
 use Rattle.flat_laws.specs.Moved.{moved, moved_name, moved_select, moved_part, moved_labels, moved_stmt, moved_stmts, moved_items}
 use Rattle.flat_laws.specs.Uses.{UsesDeclared, AllUseDeclared, IsDeclared, AreDeclared, AreItemsDeclared}
 use Rattle.flat_laws.specs.Laws.{MovesInto}

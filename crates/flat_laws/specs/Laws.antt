@@ -7,10 +7,14 @@ use Rattle.vlog_tree.specs.declared.stmt.Stmt.{Stmt}
 use Rattle.vlog_tree.specs.declared.valuation.Entry.{Entry}
 use Rattle.vlog_tree.specs.Valuation.{meaning_of, named, depth_of, word_name}
 use Rattle.vlog_tree.specs.Value.{operand_of, NamesOnly}
+use Rattle.vlog_tree.specs.declared.module.Module.{Module}
+use Rattle.vlog_runs.specs.declared.flat.Flat.{Flat}
 use Rattle.vlog_runs.specs.Places.{Name, Cycle, Place, valuation}
+use Rattle.vlog_runs.specs.Scopes.{Scope}
+use Rattle.flat_laws.specs.Flattened.{IsFlatOf, AreScopes, CanFlatten, KeepsRuns}
 use Rattle.vlog_runs.specs.Blocks.{run, low_in}
 use Rattle.flat_laws.specs.Moved.{under, moved, moved_stmt}
-use Rattle.flat_laws.specs.Uses.{is_declared, IsSignal, UsesDeclared, IsDeclared}
+use Rattle.flat_laws.specs.Uses.{is_declared, IsSignal, IsDeclared}
 
 -- what a name stands for in one list of entries it stands for under a prefix in another one: its length, lowest bit, sign and value, and
 -- where it is a memory its words
@@ -44,3 +48,7 @@ abbrev pub MovedStatementsDo : Type 0
 MovedStatementsDo =
     (at_once : Bool) (p q : Place) (body : Stmt) (c d : Cycle) → MovesInto p q → IsDeclared p body →
     run at_once q (moved_stmt p.prefix p.params body) c d ≡ run at_once p body c d
+
+-- the module without instances has the cycles of the list of modules, and the same cycles follow
+abbrev pub FlatKeepsRuns : Type 0
+FlatKeepsRuns = (ms : List Module) (top : Name) (ss : List Scope) (f : Flat) → IsFlatOf ms top ss f → AreScopes ms top ss → CanFlatten ms ss → KeepsRuns ms top f

@@ -1,5 +1,5 @@
 -- A text under a prefix: its names prefixed, its parameters replaced by their numbers.
-use Rattle.std.specs.Prelude.{ℕ, zero, suc, List, [], ◌∷◌, ◌++◌, Option, Some, None, false, map}
+use Rattle.std.specs.Prelude.{List, ◌++◌, Option, Some, None, false, map}
 use Rattle.vlog_tree.specs.declared.expr.Constant.{Constant}
 use Rattle.vlog_tree.specs.declared.expr.Expr.{Expr, Row_of-Expr, end_of-Expr, more_of-Expr}
 use Rattle.vlog_tree.specs.declared.expr.Expr.TheVariants as e
