@@ -56,9 +56,9 @@ pub told_among : (es : List Entry) (x : Name) (k : Told) → told_at es x ≡ So
 told_among [] x k h = cc
 told_among (e ∷ es) x k h =
     ⊎_elim (λ (t : fits e x ≡ true).
-        let s : Some (told e) ≡ Some k = sym (found_here e es x t) ∙ h in
-        let i : told e ≡ k = cc in
-        (e, inl refl, (bytes_eq-Decides e.name x).0 (and_second (nat_eq e.offset 0) (bytes_eq e.name x) t), i))
+    let s : Some (told e) ≡ Some k = sym (found_here e es x t) ∙ h in
+    let i : told e ≡ k = cc in
+    (e, inl refl, (bytes_eq-Decides e.name x).0 (and_second (nat_eq e.offset 0) (bytes_eq e.name x) t), i))
     (λ (t : fits e x ≡ false). let r = told_among es x k (sym (found_later e es x t) ∙ h) in (r.0, inr r.1, r.2, r.3))
     (bool_cases (fits e x))
   where
@@ -75,9 +75,9 @@ pub among_told : (es : List Entry) → AllPresent es → (x : Name) → Among (m
 among_told [] p x h = absurd h
 among_told (e ∷ es) p x h =
     ⊎_elim (λ (i : e.name ≡ x).
-        let b : bytes_eq e.name x ≡ true = (bytes_eq-Decides e.name x).1 i in
-        let t : fits e x ≡ true = rw (p.0, b) refl in
-        ap is_some (found_here e es x t))
+    let b : bytes_eq e.name x ≡ true = (bytes_eq-Decides e.name x).1 i in
+    let t : fits e x ≡ true = rw (p.0, b) refl in
+    ap is_some (found_here e es x t))
     (λ m. ⊎_elim (λ (t : fits e x ≡ true). ap is_some (found_here e es x t)) (λ (t : fits e x ≡ false). ap is_some (found_later e es x t) ∙ among_told es p.1 x m) (bool_cases (fits e x)))
     h
 
@@ -104,7 +104,7 @@ words_renamed : (pre : Name) (c : Cycle) (g : Signal) (j n : ℕ) →
 words_renamed pre c g j zero = refl
 words_renamed pre c g j (suc n) =
     λ r. record { name = word_under pre g.name j r; offset = 0; width = g.width; low = 0; signed = false; depth = 0; value = c (word_under pre g.name j r) }
-        ∷ words_renamed pre c g (suc j) n r
+    ∷ words_renamed pre c g (suc j) n r
 
 one_renamed : (pre : Name) (c : Cycle) (g : Signal) → (b : Bool) → nat_eq g.depth 0 ≡ b → entries_of [] c (moved_signal pre g) ≡ map (renamed pre) (entries_of pre c g)
 one_renamed pre c g true h = rw h refl

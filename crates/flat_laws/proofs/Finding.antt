@@ -135,14 +135,14 @@ deep_by : (pre : Name) (c : Cycle) (gs : List Signal) (g : Signal) (e : Entry) (
     Among (if b then held_entry pre c g ∷ [] else entry_of g 0 ∷ map (held_entry pre c) (words_from g 0 g.depth)) e → Among (known gs) (word_name (read x) j).text
 deep_by pre c gs g e x j h n l true b m =
     ⊎_elim (λ (i : held_entry pre c g ≡ e).
-        let d : g.depth ≡ e.depth = ap (λ (f : Entry). f.depth) i in
-        let z : g.depth ≡ 0 = eqb-true g.depth 0 b in
-        absurd (omega (arith, d, z, l))) (λ k. absurd k) m
+    let d : g.depth ≡ e.depth = ap (λ (f : Entry). f.depth) i in
+    let z : g.depth ≡ 0 = eqb-true g.depth 0 b in
+    absurd (omega (arith, d, z, l))) (λ k. absurd k) m
 deep_by pre c gs g e x j h n l false b m =
     ⊎_elim (λ (i : entry_of g 0 ≡ e).
-        let d : g.depth ≡ e.depth = ap (λ (f : Entry). f.depth) i in
-        let y : g.name ≡ x = ap (λ (f : Entry). f.name) i ∙ n in
-        subst (λ z. Among (known gs) (word_name (read z) j).text) y (words_known gs g j h b (omega (arith, d, l))))
+    let d : g.depth ≡ e.depth = ap (λ (f : Entry). f.depth) i in
+    let y : g.name ≡ x = ap (λ (f : Entry). f.name) i ∙ n in
+    subst (λ z. Among (known gs) (word_name (read z) j).text) y (words_known gs g j h b (omega (arith, d, l))))
     (λ k. let z : e.depth ≡ 0 = word_depth pre c g 0 g.depth e k in absurd (omega (arith, z, l))) m
 
 -- the words of what is told to be a memory are known
@@ -162,16 +162,18 @@ signal_known gs x h = known_of gs x (signal_at gs x) refl h
     first_name : (g : Signal) (b : Bool) → nat_eq g.depth 0 ≡ b → Among (names_of g) g.name
     first_name g true e = rw e (inl refl)
     first_name g false e = rw e (inl refl)
+
     found_at : (gs : List Signal) (x : Name) (g : Signal) → signal_at gs x ≡ Some g → Among gs g × (g.name ≡ x)
     found_at [] x g e = cc
     found_at (f ∷ gs) x g e =
         ⊎_elim (λ (t : bytes_eq f.name x ≡ true).
-            let s : Some f ≡ Some g = sym (ap (λ (b : Bool). if b then Some f else signal_at gs x) t) ∙ e in
-            let i : f ≡ g = cc in
-            (inl i, ap (λ (u : Signal). u.name) (sym i) ∙ (bytes_eq-Decides f.name x).0 t))
+        let s : Some f ≡ Some g = sym (ap (λ (b : Bool). if b then Some f else signal_at gs x) t) ∙ e in
+        let i : f ≡ g = cc in
+        (inl i, ap (λ (u : Signal). u.name) (sym i) ∙ (bytes_eq-Decides f.name x).0 t))
         (λ (t : bytes_eq f.name x ≡ false).
-            let r = found_at gs x g (sym (ap (λ (b : Bool). if b then Some f else signal_at gs x) t) ∙ e) in (inr r.0, r.1))
+        let r = found_at gs x g (sym (ap (λ (b : Bool). if b then Some f else signal_at gs x) t) ∙ e) in (inr r.0, r.1))
         (bool_cases (bytes_eq f.name x))
+
     known_of : (gs : List Signal) (x : Name) (o : Option Signal) → signal_at gs x ≡ o → is_some (signal_at gs x) ≡ true → Among (known gs) x
     known_of gs x None e h = absurd (none_not_some (signal_at gs x) h e)
     known_of gs x (Some g) e h =
@@ -194,31 +196,31 @@ entry_append : (a b : List Entry) (x : Name) (j : ℕ) → entry_at a x j ≡ No
 entry_append [] b x j h = refl
 entry_append (e ∷ a) b x j h =
     ⊎_elim (λ (t : (nat_eq e.offset j && bytes_eq e.name x) ≡ true).
-        let z : Some e ≡ None = sym (ap (λ (u : Bool). if u then Some e else entry_at a x j) t) ∙ h in cc)
+    let z : Some e ≡ None = sym (ap (λ (u : Bool). if u then Some e else entry_at a x j) t) ∙ h in cc)
     (λ (t : (nat_eq e.offset j && bytes_eq e.name x) ≡ false).
-        ap (λ (u : Bool). if u then Some e else entry_at (a ++ b) x j) t
-        ∙ entry_append a b x j (sym (ap (λ (u : Bool). if u then Some e else entry_at a x j) t) ∙ h))
+    ap (λ (u : Bool). if u then Some e else entry_at (a ++ b) x j) t
+    ∙ entry_append a b x j (sym (ap (λ (u : Bool). if u then Some e else entry_at a x j) t) ∙ h))
     (bool_cases (nat_eq e.offset j && bytes_eq e.name x))
 
 entry_front : (a b : List Entry) (x : Name) (j : ℕ) (k : Entry) → entry_at a x j ≡ Some k → entry_at (a ++ b) x j ≡ Some k
 entry_front [] b x j k h = cc
 entry_front (e ∷ a) b x j k h =
     ⊎_elim (λ (t : (nat_eq e.offset j && bytes_eq e.name x) ≡ true).
-        ap (λ (u : Bool). if u then Some e else entry_at (a ++ b) x j) t ∙ (sym (ap (λ (u : Bool). if u then Some e else entry_at a x j) t) ∙ h))
+    ap (λ (u : Bool). if u then Some e else entry_at (a ++ b) x j) t ∙ (sym (ap (λ (u : Bool). if u then Some e else entry_at a x j) t) ∙ h))
     (λ (t : (nat_eq e.offset j && bytes_eq e.name x) ≡ false).
-        ap (λ (u : Bool). if u then Some e else entry_at (a ++ b) x j) t
-        ∙ entry_front a b x j k (sym (ap (λ (u : Bool). if u then Some e else entry_at a x j) t) ∙ h))
+    ap (λ (u : Bool). if u then Some e else entry_at (a ++ b) x j) t
+    ∙ entry_front a b x j k (sym (ap (λ (u : Bool). if u then Some e else entry_at a x j) t) ∙ h))
     (bool_cases (nat_eq e.offset j && bytes_eq e.name x))
 
 constant_at : (es : List Entry) → AreConstants es → (x : Name) (j : ℕ) (k : Entry) → entry_at es x j ≡ Some k → (k.depth ≡ 0) × (k.value < 2 ^ k.width)
 constant_at [] a x j k h = cc
 constant_at (e ∷ es) a x j k h =
     ⊎_elim (λ (t : (nat_eq e.offset j && bytes_eq e.name x) ≡ true).
-        let s : Some e ≡ Some k = sym (ap (λ (u : Bool). if u then Some e else entry_at es x j) t) ∙ h in
-        let i : e ≡ k = cc in
-        subst (λ (u : Entry). (u.depth ≡ 0) × (u.value < 2 ^ u.width)) i (a.0, a.1))
+    let s : Some e ≡ Some k = sym (ap (λ (u : Bool). if u then Some e else entry_at es x j) t) ∙ h in
+    let i : e ≡ k = cc in
+    subst (λ (u : Entry). (u.depth ≡ 0) × (u.value < 2 ^ u.width)) i (a.0, a.1))
     (λ (t : (nat_eq e.offset j && bytes_eq e.name x) ≡ false).
-        constant_at es a.2 x j k (sym (ap (λ (u : Bool). if u then Some e else entry_at es x j) t) ∙ h))
+    constant_at es a.2 x j k (sym (ap (λ (u : Bool). if u then Some e else entry_at es x j) t) ∙ h))
     (bool_cases (nat_eq e.offset j && bytes_eq e.name x))
 
 -- a name that nothing says

@@ -68,11 +68,11 @@ links_at : (ms : List Module) (top : Name) (ss : List Scope) → AreScopes ms to
 links_at ms top ss are s h k m =
     ⊎_elim
     (λ (a : Among (map (own_link (place_of s)) (assigns_in s.module')) k).
-        let f = among_map (own_link (place_of s)) (assigns_in s.module') k a in
-        subst (λ (u : Link). LinkAt ss u) f.2 (record { into = (s, h, refl); from = (s, h, refl) }))
+    let f = among_map (own_link (place_of s)) (assigns_in s.module') k a in
+    subst (λ (u : Link). LinkAt ss u) f.2 (record { into = (s, h, refl); from = (s, h, refl) }))
     (λ (b : Among (flat_map (inner_links ms s) (instances_in s.module')) k).
-        let f = among_flat (inner_links ms s) (instances_in s.module') k b in
-        instance_at' ss s f.0 h (child ms s f.0) (λ t e. are.inner s t f.0 h f.1 e) k f.2)
+    let f = among_flat (inner_links ms s) (instances_in s.module') k b in
+    instance_at' ss s f.0 h (child ms s f.0) (λ t e. are.inner s t f.0 h f.1 e) k f.2)
     (among_append (map (own_link (place_of s)) (assigns_in s.module')) (flat_map (inner_links ms s) (instances_in s.module')) k m)
 
 moved_linked : (k : Link) (q : Place) (c : Cycle) → MovesInto k.into q → MovesInto k.from q → IsLinkDeclared k → linked (own_link q (moved_link k)) c ≡ linked k c
@@ -197,15 +197,15 @@ module _ (ms : List Module) (top : Name) (ss : List Scope) (f : Flat) (of : IsFl
   full_from u h left d x b k =
       ⊎_elim
       (λ (i : DrivesBit (flat_place f) (moved_left u.prefix u.params left) x b).
-          let r = drives_from (place_of u) f.signals (moves_in u h) (can.usable u h).constants left d i.0 b i.2 in
-          inl (r.0, i.1 ∙ r.1, r.2))
+      let r = drives_from (place_of u) f.signals (moves_in u h) (can.usable u h).constants left d i.0 b i.2 in
+      inl (r.0, i.1 ∙ r.1, r.2))
       (λ (w : DrivesWord (flat_place f) (moved_left u.prefix u.params left) x).
-          let n = among_map (λ y. u.prefix ++ y) (left_names left) w.0.name (subst (λ xs. Among xs w.0.name) (left_names_moved u.prefix u.params left) w.3) in
-          let o = own_signal u h n.0 (names_are (place_of u) left d n.0 n.1) w.0 w.1 (sym n.2) in
-          let deep : nat_eq o.0.depth 0 ≡ false = ap (λ (z : Signal). nat_eq z.depth 0) o.3 ∙ w.2 in
-          let ws = among_map (moved_signal u.prefix) (words_from o.0 0 o.0.depth) w.4
-              (subst (λ gs. Among gs w.4) (words_moved u.prefix o.0 0 o.0.depth) (subst (λ (z : Signal). Among (words_from z 0 z.depth) w.4) (sym o.3) w.5)) in
-          inr (o.0, o.1, deep, subst (λ y. Among (left_names left) y) (sym o.2) n.1, ws.0, ws.1, w.6 ∙ sym (ap (λ (z : Signal). z.name) ws.2)))
+      let n = among_map (λ y. u.prefix ++ y) (left_names left) w.0.name (subst (λ xs. Among xs w.0.name) (left_names_moved u.prefix u.params left) w.3) in
+      let o = own_signal u h n.0 (names_are (place_of u) left d n.0 n.1) w.0 w.1 (sym n.2) in
+      let deep : nat_eq o.0.depth 0 ≡ false = ap (λ (z : Signal). nat_eq z.depth 0) o.3 ∙ w.2 in
+      let ws = among_map (moved_signal u.prefix) (words_from o.0 0 o.0.depth) w.4
+      (subst (λ gs. Among gs w.4) (words_moved u.prefix o.0 0 o.0.depth) (subst (λ (z : Signal). Among (words_from z 0 z.depth) w.4) (sym o.3) w.5)) in
+      inr (o.0, o.1, deep, subst (λ y. Among (left_names left) y) (sym o.2) n.1, ws.0, ws.1, w.6 ∙ sym (ap (λ (z : Signal). z.name) ws.2)))
       k
 
   -- ---- registers
@@ -229,7 +229,7 @@ module _ (ms : List Module) (top : Name) (ss : List Scope) (f : Flat) (of : IsFl
       let n = among_map (λ y. u.prefix ++ y) (flat_map left_names (lefts body)) a.0 (subst (λ xs. Among xs a.0) (assigned_names u.prefix u.params body) a.1) in
       let o = own_signal u h n.0 (body_names_are (place_of u) body d n.0 n.1) a.2 a.3 (a.4.0 ∙ sym n.2) in
       let ws = among_map (moved_signal u.prefix) (holders o.0) a.4.1
-          (subst (λ gs. Among gs a.4.1) (holders_moved u.prefix o.0) (subst (λ (z : Signal). Among (holders z) a.4.1) (sym o.3) a.4.2)) in
+      (subst (λ gs. Among gs a.4.1) (holders_moved u.prefix o.0) (subst (λ (z : Signal). Among (holders z) a.4.1) (sym o.3) a.4.2)) in
       (n.0, n.1, o.0, o.1, (o.2, ws.0, ws.1, a.4.3 ∙ sym (ap (λ (z : Signal). z.name) ws.2)))
 
   -- ---- what drives, over all scopes
@@ -239,23 +239,32 @@ module _ (ms : List Module) (top : Name) (ss : List Scope) (f : Flat) (of : IsFl
       × (DrivesFull (flat_place f) (moved_left k.into.prefix k.into.params k.left) x b → DrivesFull k.into k.left x b)
   link_of k u h e d x b =
       subst (λ (p : Place). AssignsSignals p k.left → (DrivesFull p k.left x b → DrivesFull (flat_place f) (moved_left p.prefix p.params k.left) x b)
-          × (DrivesFull (flat_place f) (moved_left p.prefix p.params k.left) x b → DrivesFull p k.left x b)) (sym e)
+      × (DrivesFull (flat_place f) (moved_left p.prefix p.params k.left) x b → DrivesFull p k.left x b)) (sym e)
       (λ z. (full_to u h k.left z x b, full_from u h k.left z x b)) d
 
   driven_from : (x : Name) (b : ℕ) → IsDriven f x b → IsDrivenFrom ms top x b
   driven_from x b h =
       ⊎_elim
       (λ (a : (a : Assign) × Among f.assigns a × DrivesFull (flat_place f) a.left x b).
-          let r = assign_of' a.0 a.1 in
-          let at = links_at ms top ss are r.0 r.1 r.2 r.3 in
-          let d = (can.usable r.0 r.1).links r.2 r.3 in
-          (r.0, are.only r.0 r.1, inl (r.2, r.3, (link_of r.2 at.into.0 at.into.1 at.into.2 d.left x b).1 (subst (λ (u : Assign). DrivesFull (flat_place f) u.left x b) (sym r.4) a.2))))
+      let r = assign_of' a.0 a.1 in
+      let at = links_at ms top ss are r.0 r.1 r.2 r.3 in
+      let d = (can.usable r.0 r.1).links r.2 r.3 in
+      (r.0, are.only r.0 r.1, inl (r.2, r.3, (link_of r.2 at.into.0 at.into.1 at.into.2 d.left x b).1 (subst (λ (u : Assign). DrivesFull (flat_place f) u.left x b) (sym r.4) a.2))))
       (λ (c : (c : Always) × Among f.blocks c × (c.clocked ≡ false) × (left : Lval) × Among (lefts c.body) left × DrivesFull (flat_place f) left x b).
-          let r = block_of c.0 c.1 in
-          let m = among_map (moved_left r.0.prefix r.0.params) (lefts r.2.body) c.3
-              (subst (λ ls. Among ls c.3) (lefts_moved r.0.prefix r.0.params r.2.body) (subst (λ (u : Always). Among (lefts u.body) c.3) (sym r.4) c.4)) in
-          (r.0, are.only r.0 r.1, inr (r.2, r.3, ap (λ (u : Always). u.clocked) r.4 ∙ c.2, m.0, m.1,
-              full_from r.0 r.1 m.0 (lefts_are (place_of r.0) r.2.body ((can.usable r.0 r.1).blocks r.2 r.3) m.0 m.1) x b (subst (λ a. DrivesFull (flat_place f) a x b) (sym m.2) c.5))))
+      let r = block_of c.0 c.1 in
+      let m = among_map (moved_left r.0.prefix r.0.params) (lefts r.2.body) c.3
+      (subst (λ ls. Among ls c.3) (lefts_moved r.0.prefix r.0.params r.2.body) (subst (λ (u : Always). Among (lefts u.body) c.3) (sym r.4) c.4)) in (
+        r.0,
+        are.only r.0 r.1,
+        inr (
+          r.2,
+          r.3,
+          ap (λ (u : Always). u.clocked) r.4 ∙ c.2,
+          m.0,
+          m.1,
+          full_from r.0 r.1 m.0 (lefts_are (place_of r.0) r.2.body ((can.usable r.0 r.1).blocks r.2 r.3) m.0 m.1) x b (subst (λ a. DrivesFull (flat_place f) a x b) (sym m.2) c.5),
+        ),
+      ))
       h
 
   driven_to : (x : Name) (b : ℕ) → IsDrivenFrom ms top x b → IsDriven f x b
@@ -263,35 +272,56 @@ module _ (ms : List Module) (top : Name) (ss : List Scope) (f : Flat) (of : IsFl
       let here = are.each h.0 h.1 in
       ⊎_elim
       (λ (a : (k : Link) × Among (links_of ms h.0) k × DrivesFull k.into k.left x b).
-          let at = links_at ms top ss are h.0 here a.0 a.1 in
-          let d = (can.usable h.0 here).links a.0 a.1 in
-          inl (moved_link a.0, assign_in h.0 a.0 here a.1, (link_of a.0 at.into.0 at.into.1 at.into.2 d.left x b).0 a.2))
+      let at = links_at ms top ss are h.0 here a.0 a.1 in
+      let d = (can.usable h.0 here).links a.0 a.1 in
+      inl (moved_link a.0, assign_in h.0 a.0 here a.1, (link_of a.0 at.into.0 at.into.1 at.into.2 d.left x b).0 a.2))
       (λ (c : (c : Block) × Among (blocks_in h.0.module') c × (is_clocked c.events ≡ false) × (left : Lval) × Among (lefts c.body) left × DrivesFull (place_of h.0) left x b).
-          inr (moved_block (place_of h.0) c.0, block_in h.0 c.0 here c.1, c.2, moved_left h.0.prefix h.0.params c.3,
-              subst (λ ls. Among ls (moved_left h.0.prefix h.0.params c.3)) (sym (lefts_moved h.0.prefix h.0.params c.0.body)) (map_among (moved_left h.0.prefix h.0.params) (lefts c.0.body) c.3 c.4),
-              full_to h.0 here c.3 (lefts_are (place_of h.0) c.0.body ((can.usable h.0 here).blocks c.0 c.1) c.3 c.4) x b c.5))
+      inr (
+        moved_block (place_of h.0) c.0,
+        block_in h.0 c.0 here c.1,
+        c.2,
+        moved_left h.0.prefix h.0.params c.3,
+        subst (λ ls. Among ls (moved_left h.0.prefix h.0.params c.3)) (sym (lefts_moved h.0.prefix h.0.params c.0.body)) (map_among (moved_left h.0.prefix h.0.params) (lefts c.0.body) c.3 c.4),
+        full_to h.0 here c.3 (lefts_are (place_of h.0) c.0.body ((can.usable h.0 here).blocks c.0 c.1) c.3 c.4) x b c.5,
+      ))
       h.2
 
   clocked_from' : (x : Name) (b : ℕ) → IsClocked f x b → IsClockedFrom ms top x b
   clocked_from' x b c =
       let r = block_of c.0 c.1 in
       let m = among_map (moved_left r.0.prefix r.0.params) (lefts r.2.body) c.3
-          (subst (λ ls. Among ls c.3) (lefts_moved r.0.prefix r.0.params r.2.body) (subst (λ (u : Always). Among (lefts u.body) c.3) (sym r.4) c.4)) in
-      (r.0, are.only r.0 r.1, r.2, r.3, ap (λ (u : Always). u.clocked) r.4 ∙ c.2, m.0, m.1,
-          full_from r.0 r.1 m.0 (lefts_are (place_of r.0) r.2.body ((can.usable r.0 r.1).blocks r.2 r.3) m.0 m.1) x b (subst (λ a. DrivesFull (flat_place f) a x b) (sym m.2) c.5))
+      (subst (λ ls. Among ls c.3) (lefts_moved r.0.prefix r.0.params r.2.body) (subst (λ (u : Always). Among (lefts u.body) c.3) (sym r.4) c.4)) in (
+        r.0,
+        are.only r.0 r.1,
+        r.2,
+        r.3,
+        ap (λ (u : Always). u.clocked) r.4 ∙ c.2,
+        m.0,
+        m.1,
+        full_from r.0 r.1 m.0 (lefts_are (place_of r.0) r.2.body ((can.usable r.0 r.1).blocks r.2 r.3) m.0 m.1) x b (subst (λ a. DrivesFull (flat_place f) a x b) (sym m.2) c.5),
+      )
 
   clocked_to : (x : Name) (b : ℕ) → IsClockedFrom ms top x b → IsClocked f x b
   clocked_to x b h =
-      let here = are.each h.0 h.1 in
-      (moved_block (place_of h.0) h.2, block_in h.0 h.2 here h.3, h.4, moved_left h.0.prefix h.0.params h.5,
-          subst (λ ls. Among ls (moved_left h.0.prefix h.0.params h.5)) (sym (lefts_moved h.0.prefix h.0.params h.2.body)) (map_among (moved_left h.0.prefix h.0.params) (lefts h.2.body) h.5 h.6),
-          full_to h.0 here h.5 (lefts_are (place_of h.0) h.2.body ((can.usable h.0 here).blocks h.2 h.3) h.5 h.6) x b h.7)
+      let here = are.each h.0 h.1 in (
+        moved_block (place_of h.0) h.2,
+        block_in h.0 h.2 here h.3,
+        h.4,
+        moved_left h.0.prefix h.0.params h.5,
+        subst (λ ls. Among ls (moved_left h.0.prefix h.0.params h.5)) (sym (lefts_moved h.0.prefix h.0.params h.2.body)) (map_among (moved_left h.0.prefix h.0.params) (lefts h.2.body) h.5 h.6),
+        full_to h.0 here h.5 (lefts_are (place_of h.0) h.2.body ((can.usable h.0 here).blocks h.2 h.3) h.5 h.6) x b h.7,
+      )
 
   register_from : (x : Name) → IsRegister f x → IsRegisterFrom ms top x
   register_from x h =
-      let r = block_of h.0 h.1 in
-      (r.0, are.only r.0 r.1, r.2, r.3, ap (λ (u : Always). u.clocked) r.4 ∙ h.2,
-          assigned_from r.0 r.1 r.2.body ((can.usable r.0 r.1).blocks r.2 r.3) x (subst (λ (u : Always). IsAssigned (flat_place f) u.body x) (sym r.4) h.3))
+      let r = block_of h.0 h.1 in (
+        r.0,
+        are.only r.0 r.1,
+        r.2,
+        r.3,
+        ap (λ (u : Always). u.clocked) r.4 ∙ h.2,
+        assigned_from r.0 r.1 r.2.body ((can.usable r.0 r.1).blocks r.2 r.3) x (subst (λ (u : Always). IsAssigned (flat_place f) u.body x) (sym r.4) h.3),
+      )
 
   register_to : (x : Name) → IsRegisterFrom ms top x → IsRegister f x
   register_to x h =
@@ -367,7 +397,7 @@ module _ (ms : List Module) (top : Name) (ss : List Scope) (f : Flat) (of : IsFl
     driven = λ a k clocked left n x b z.
         let r = block_of a k in
         let m = among_map (moved_left r.0.prefix r.0.params) (lefts r.2.body) left
-            (subst (λ ls. Among ls left) (lefts_moved r.0.prefix r.0.params r.2.body) (subst (λ (u : Always). Among (lefts u.body) left) (sym r.4) n)) in
+        (subst (λ ls. Among ls left) (lefts_moved r.0.prefix r.0.params r.2.body) (subst (λ (u : Always). Among (lefts u.body) left) (sym r.4) n)) in
         let w = full_from r.0 r.1 m.0 (lefts_are (place_of r.0) r.2.body ((can.usable r.0 r.1).blocks r.2 r.3) m.0 m.1) x b (subst (λ q. DrivesFull (flat_place f) q x b) (sym m.2) z) in
         h.driven r.0 (are.only r.0 r.1) r.2 r.3 (ap (λ (u : Always). u.clocked) r.4 ∙ clocked) m.0 m.1 x b w
         ∙ (sym (ap (λ (e : Cycle). bit_at (e x) b) (runs_same false c c r.0 r.1 r.2 r.3))

@@ -1,10 +1,12 @@
-mod Lists
-mod Moving
-mod Sides
-mod Statements
-mod Entries
-mod Finding
-mod Lows
-mod Constants
-mod Driving
-mod Keeps
+pub mod Lists
+pub mod Moving
+pub mod Sides
+pub mod Statements
+pub mod Entries
+pub mod Finding
+pub mod Lows
+pub mod Constants
+pub mod Driving
+pub mod Keeps
+pub mod Apart
+pub mod Listed

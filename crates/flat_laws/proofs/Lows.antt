@@ -22,16 +22,16 @@ at_append [] ys z h = refl
 at_append (g ∷ xs) ys z h =
     ⊎_elim (λ (t : bytes_eq g.name z ≡ true). let e : Some g ≡ None = sym (ap (λ (b : Bool). if b then Some g else signal_at xs z) t) ∙ h in cc)
     (λ (t : bytes_eq g.name z ≡ false).
-        ap (λ (b : Bool). if b then Some g else signal_at (xs ++ ys) z) t ∙ at_append xs ys z (sym (ap (λ (b : Bool). if b then Some g else signal_at xs z) t) ∙ h))
+    ap (λ (b : Bool). if b then Some g else signal_at (xs ++ ys) z) t ∙ at_append xs ys z (sym (ap (λ (b : Bool). if b then Some g else signal_at xs z) t) ∙ h))
     (bool_cases (bytes_eq g.name z))
 
 at_front : (xs ys : List Signal) (z : Name) (k : Signal) → signal_at xs z ≡ Some k → signal_at (xs ++ ys) z ≡ Some k
 at_front [] ys z k h = cc
 at_front (g ∷ xs) ys z k h =
     ⊎_elim (λ (t : bytes_eq g.name z ≡ true).
-        ap (λ (b : Bool). if b then Some g else signal_at (xs ++ ys) z) t ∙ (sym (ap (λ (b : Bool). if b then Some g else signal_at xs z) t) ∙ h))
+    ap (λ (b : Bool). if b then Some g else signal_at (xs ++ ys) z) t ∙ (sym (ap (λ (b : Bool). if b then Some g else signal_at xs z) t) ∙ h))
     (λ (t : bytes_eq g.name z ≡ false).
-        ap (λ (b : Bool). if b then Some g else signal_at (xs ++ ys) z) t ∙ at_front xs ys z k (sym (ap (λ (b : Bool). if b then Some g else signal_at xs z) t) ∙ h))
+    ap (λ (b : Bool). if b then Some g else signal_at (xs ++ ys) z) t ∙ at_front xs ys z k (sym (ap (λ (b : Bool). if b then Some g else signal_at xs z) t) ∙ h))
     (bool_cases (bytes_eq g.name z))
 
 at_moved : (pre : Name) (gs : List Signal) (x : Name) → signal_at (map (moved_signal pre) gs) (pre ++ x) ≡ option_map (moved_signal pre) (signal_at gs x)
@@ -46,9 +46,9 @@ pub at_among : (gs : List Signal) (z : Name) (k : Signal) → signal_at gs z ≡
 at_among [] z k h = cc
 at_among (g ∷ gs) z k h =
     ⊎_elim (λ (t : bytes_eq g.name z ≡ true).
-        let s : Some g ≡ Some k = sym (ap (λ (b : Bool). if b then Some g else signal_at gs z) t) ∙ h in
-        let i : g ≡ k = cc in
-        (inl i, ap (λ (u : Signal). u.name) (sym i) ∙ (bytes_eq-Decides g.name z).0 t))
+    let s : Some g ≡ Some k = sym (ap (λ (b : Bool). if b then Some g else signal_at gs z) t) ∙ h in
+    let i : g ≡ k = cc in
+    (inl i, ap (λ (u : Signal). u.name) (sym i) ∙ (bytes_eq-Decides g.name z).0 t))
     (λ (t : bytes_eq g.name z ≡ false). let r = at_among gs z k (sym (ap (λ (b : Bool). if b then Some g else signal_at gs z) t) ∙ h) in (inr r.0, r.1))
     (bool_cases (bytes_eq g.name z))
 
@@ -56,11 +56,11 @@ moved_in : (pre : Name) (gs : List Signal) (z : Name) (k : Signal) → signal_at
 moved_in pre [] z k h = cc
 moved_in pre (g ∷ gs) z k h =
     ⊎_elim (λ (t : bytes_eq (pre ++ g.name) z ≡ true).
-        let b : bytes_eq g.name g.name ≡ true = (bytes_eq-Decides g.name g.name).1 refl in
-        (g.name, rw b refl, (bytes_eq-Decides (pre ++ g.name) z).0 t))
+    let b : bytes_eq g.name g.name ≡ true = (bytes_eq-Decides g.name g.name).1 refl in
+    (g.name, rw b refl, (bytes_eq-Decides (pre ++ g.name) z).0 t))
     (λ (t : bytes_eq (pre ++ g.name) z ≡ false).
-        let r = moved_in pre gs z k (sym (ap (λ (b : Bool). if b then Some (moved_signal pre g) else signal_at (map (moved_signal pre) gs) z) t) ∙ h) in
-        (r.0, later g gs r.0 r.1, r.2))
+    let r = moved_in pre gs z k (sym (ap (λ (b : Bool). if b then Some (moved_signal pre g) else signal_at (map (moved_signal pre) gs) z) t) ∙ h) in
+    (r.0, later g gs r.0 r.1, r.2))
     (bool_cases (bytes_eq (pre ++ g.name) z))
   where
     later : (g : Signal) (gs : List Signal) (y : Name) → has_signal gs y ≡ true → has_signal (g ∷ gs) y ≡ true

@@ -34,8 +34,8 @@ word_value v w pre x j s false h = refl
 word_means : (v w : List Entry) (pre : Name) (x : Read) (a : Operand) → SameRead v w pre x → word_of w (under pre x) a ≡ word_of v x a
 word_means v w pre x a s =
     (λ r. plain (s.meaning r).width
-        (if nat_lt (own a) (s.depth r) then (named w (word_name (under pre x) (own a))).value % 2 ^ (s.meaning r).width else 0)
-        (own_defined a))
+    (if nat_lt (own a) (s.depth r) then (named w (word_name (under pre x) (own a))).value % 2 ^ (s.meaning r).width else 0)
+    (own_defined a))
     ∙ ap (λ n. plain (named v x).width n (own_defined a)) (word_value v w pre x (own a) s (nat_lt (own a) (depth_of v x)) refl)
 
 select_means : (test : Name → Bool) (ps v w : List Entry) (pre : Name) (x : Read) (a b : Expr) → Moves test ps v w pre → test x.text ≡ true →
@@ -48,7 +48,7 @@ select_means test ps v w pre x a b m t i None h =
 select_means test ps v w pre x a b m t i (Some k) h =
     let s = m.constants x k h in
     let z : operand_of v (e.Select' x tt (more_of-Expr a end_of-Expr)) ≡ bit_of (named v x) (operand_of v a) =
-        ap (λ n. if nat_eq n 0 then bit_of (named v x) (operand_of v a) else word_of v x (operand_of v a)) s.depth in
+    ap (λ n. if nat_eq n 0 then bit_of (named v x) (operand_of v a) else word_of v x (operand_of v a)) s.depth in
     ap (bit_of k) i ∙ (sym (ap (λ c. bit_of c (operand_of v a)) s.meaning) ∙ sym z)
 
 part_means : (test : Name → Bool) (ps v w : List Entry) (pre : Name) (x : Read) (span : Span) (a b c d : Expr) → Moves test ps v w pre → test x.text ≡ true →

@@ -38,8 +38,8 @@ word_moved : (p q : Place) (c : Cycle) (x : Name) (a b : Operand) → MovesInto 
 word_moved p q c x a b m h i =
     let s = signal_read p q c x m h in
     let name : q.prefix ++ (word_name (read (p.prefix ++ x)) (own b)).text ≡ p.prefix ++ (word_name (read x) (own a)).text =
-        ap (λ z. z ++ (word_name (read (p.prefix ++ x)) (own b)).text) m.outer
-        ∙ (word_under p.prefix x (own b) ∙ ap (λ z. p.prefix ++ (word_name (read x) (own z)).text) i) in
+    ap (λ z. z ++ (word_name (read (p.prefix ++ x)) (own b)).text) m.outer
+    ∙ (word_under p.prefix x (own b) ∙ ap (λ z. p.prefix ++ (word_name (read x) (own z)).text) i) in
     λ r. record { name = name r; size = if nat_lt (own (i r)) (s.depth r) then (s.meaning r).width else 0; from = pos 0; count = (s.meaning r).width }
 
 mutual

@@ -94,7 +94,7 @@ any_moved : (p q : Place) (c : Cycle) (kind : CaseKind) (n : ℕ) (signed : Bool
 any_moved p q c kind n signed a [] m d h = refl
 any_moved p q c kind n signed a (x ∷ as') m d h =
     λ r. nat_eq (bit_or ((expr_moved p q c a m d r).value n signed) (ignored_moved kind p.prefix p.params x r)) (bit_or ((expr_moved p q c x m h.0 r).value n signed) (ignored_moved kind p.prefix p.params x r))
-        || any_moved p q c kind n signed a as' m d h.1 r
+    || any_moved p q c kind n signed a as' m d h.1 r
 
 -- the test of a case statement
 abbrev test_of : Place → Cycle → CaseKind → Expr → List Expr → Labels → Bool
@@ -105,11 +105,11 @@ test_moved : (p q : Place) (c : Cycle) (kind : CaseKind) (a : Expr) (all' all : 
     test_of q c kind (moved p.prefix p.params a) all' (moved_labels p.prefix p.params labels) ≡ test_of p c kind a all labels
 test_moved p q c kind a all' all labels m d h e k =
     (λ r. list_any (matches kind (valuation q c) (case_width (valuation q c) (moved p.prefix p.params a) (e r)) (case_sign (valuation q c) (moved p.prefix p.params a) (e r)) (moved p.prefix p.params a))
-        (exprs_moved p.prefix p.params labels r))
+    (exprs_moved p.prefix p.params labels r))
     ∙ ((λ r. list_any (matches kind (valuation q c)
-            (max (expr_moved p q c a m d r).width (widest_moved p q c all m h r))
-            ((expr_moved p q c a m d r).signed && signs_moved p q c all m h r)
-            (moved p.prefix p.params a)) (map (moved p.prefix p.params) (exprs_in labels)))
+    (max (expr_moved p q c a m d r).width (widest_moved p q c all m h r))
+    ((expr_moved p q c a m d r).signed && signs_moved p q c all m h r)
+    (moved p.prefix p.params a)) (map (moved p.prefix p.params) (exprs_in labels)))
     ∙ any_moved p q c kind (case_width (valuation p c) a all) (case_sign (valuation p c) a all) a (exprs_in labels) m d k)
 
 -- ---- statements
@@ -125,10 +125,10 @@ mutual
       λ r. λ (y : Name). if nat_eq (own (expr_moved p q (seen t c d) a m h.0 r)) 0 then run_moved t p q z c d m h.2 r y else run_moved t p q x c d m h.1 r y
   run_moved t p q (s.Case' kind a g row) c d m h =
       items_moved t p q (test_of q (seen t c d) kind (moved p.prefix p.params a) (labels_in (moved_items p.prefix p.params row)))
-          (test_of p (seen t c d) kind a (labels_in row)) row c d
-          (run_default t q (moved_items p.prefix p.params row) c d) (run_default t p row c d) m h.1
-          (λ labels k. test_moved p q (seen t c d) kind a (labels_in (moved_items p.prefix p.params row)) (labels_in row) labels m h.0 (labels_declared p row h.1) (labels_moved p.prefix p.params row) k)
-          (otherwise_moved t p q row c d m h.1)
+      (test_of p (seen t c d) kind a (labels_in row)) row c d
+      (run_default t q (moved_items p.prefix p.params row) c d) (run_default t p row c d) m h.1
+      (λ labels k. test_moved p q (seen t c d) kind a (labels_in (moved_items p.prefix p.params row)) (labels_in row) labels m h.0 (labels_declared p row h.1) (labels_moved p.prefix p.params row) k)
+      (otherwise_moved t p q row c d m h.1)
   run_moved t p q (s.Blocking left right) c d m h = store_moved p q (seen t c d) left right d m h.0 h.1
   run_moved t p q (s.Nonblocking left right) c d m h = store_moved p q (seen t c d) left right d m h.0 h.1
 

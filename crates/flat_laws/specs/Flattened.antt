@@ -1,5 +1,5 @@
 -- The module without instances that scopes give, and what it keeps.
-use Rattle.std.specs.Prelude.{◌≡◌, ◌↔◌, List, ◌++◌, Option, Some, None, map}
+use Rattle.std.specs.Prelude.{◌≤◌, false, ◌≡◌, ◌↔◌, List, ◌++◌, Option, Some, None, map}
 use Rattle.std.specs.List.{flat_map}
 use Rattle.vlog_tree.specs.declared.item.Assign.{Assign}
 use Rattle.vlog_tree.specs.declared.module.Module.{Module}
@@ -10,11 +10,11 @@ use Rattle.vlog_runs.specs.declared.flat.Always.{Always}
 use Rattle.vlog_runs.specs.declared.flat.Flat.{Flat}
 use Rattle.vlog_runs.specs.declared.flat.Signal.{Signal}
 use Rattle.vlog_runs.specs.Places.{Name, Cycle, Among, Place}
-use Rattle.vlog_runs.specs.Contents.{Block, blocks_in, is_clocked, Inner, instances_in}
+use Rattle.vlog_runs.specs.Contents.{Block, blocks_in, is_clocked, Inner, instances_in, Decl, signals_in}
 use Rattle.vlog_runs.specs.Scopes.{Scope, IsScope, place_of, Link, links_of, child}
 use Rattle.vlog_runs.specs.Cycles.{IsInputFrom, IsCycleFrom, FollowsFrom, IsInput, IsCycle, Follows}
 use Rattle.flat_laws.specs.Moved.{moved, moved_left, moved_stmt, moved_signal}
-use Rattle.flat_laws.specs.Uses.{UsesDeclared, AssignsSignals, IsDeclared, known, AreConstants}
+use Rattle.flat_laws.specs.Uses.{UsesDeclared, AssignsSignals, IsDeclared, known, AreConstants, has_dot}
 
 abbrev pub moved_link : Link → Assign
 moved_link k = record { left = moved_left k.into.prefix k.into.params k.left; right = moved k.from.prefix k.from.params k.right }
@@ -54,6 +54,18 @@ abbrev pub AreApart : List Scope → Type 0
 AreApart ss =
     (s t : Scope) → Among ss s → Among ss t → (x y : Name) → Among (known (place_of s).signals) x → Among (known (place_of t).signals) y →
     t.prefix ++ y ≡ s.prefix ++ x → t ≡ s
+
+-- no name of an instance or a signal has a dot, as no identifier has
+pub record HasSimpleNames (m : Module) : Type 0 where
+  pub instances : (i : Inner) → Among (instances_in m) i → has_dot i.name ≡ false
+  pub signals : (d : Decl) → Among (signals_in m) d → has_dot d.name ≡ false
+
+abbrev pub HaveSimpleNames : List Module → Type 0
+HaveSimpleNames ms = (m : Module) → Among ms m → HasSimpleNames m
+
+-- a memory has at most 64 words
+abbrev pub AreShallow : List Scope → Type 0
+AreShallow ss = (s : Scope) (g : Signal) → Among ss s → Among (place_of s).signals g → g.depth ≤ 64
 
 -- both sides of a link use declared names of their texts
 pub record IsLinkDeclared (k : Link) : Type 0 where

@@ -11,7 +11,7 @@ use Rattle.vlog_tree.specs.declared.module.Module.{Module}
 use Rattle.vlog_runs.specs.declared.flat.Flat.{Flat}
 use Rattle.vlog_runs.specs.Places.{Name, Cycle, Place, valuation}
 use Rattle.vlog_runs.specs.Scopes.{Scope}
-use Rattle.flat_laws.specs.Flattened.{IsFlatOf, AreScopes, CanFlatten, KeepsRuns}
+use Rattle.flat_laws.specs.Flattened.{IsFlatOf, AreScopes, CanFlatten, KeepsRuns, HaveSimpleNames, AreShallow, AreApart}
 use Rattle.vlog_runs.specs.Blocks.{run, low_in}
 use Rattle.flat_laws.specs.Moved.{under, moved, moved_stmt}
 use Rattle.flat_laws.specs.Uses.{is_declared, IsSignal, IsDeclared}
@@ -52,3 +52,7 @@ MovedStatementsDo =
 -- the module without instances has the cycles of the list of modules, and the same cycles follow
 abbrev pub FlatKeepsRuns : Type 0
 FlatKeepsRuns = (ms : List Module) (top : Name) (ss : List Scope) (f : Flat) → IsFlatOf ms top ss f → AreScopes ms top ss → CanFlatten ms ss → KeepsRuns ms top f
+
+-- the names of scopes are different where no identifier has a dot
+abbrev pub ScopesAreApart : Type 0
+ScopesAreApart = (ms : List Module) (top : Name) (ss : List Scope) → HaveSimpleNames ms → AreShallow ss → AreScopes ms top ss → AreApart ss

@@ -95,3 +95,8 @@ known gs = flat_map names_of gs
 abbrev pub AreConstants : List Entry → Type 0
 AreConstants [] = Unit {0}
 AreConstants (e ∷ es) = (e.depth ≡ 0) × (e.value < 2 ^ e.width) × AreConstants es
+
+-- a dot (46) in a name
+abbrev pub has_dot : Name → Bool
+has_dot [] = false
+has_dot (n ∷ ns) = nat_eq n 46 || has_dot ns

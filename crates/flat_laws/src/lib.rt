@@ -3,4 +3,4 @@
 
 mod law;
 
-pub use law::{flat_keeps_runs, moved_texts_do_the_same};
+pub use law::{flat_keeps_runs, moved_texts_do_the_same, scopes_are_apart};

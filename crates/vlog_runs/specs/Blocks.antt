@@ -156,9 +156,9 @@ abbrev mutual
   Drives p (l.Select y a) x b = (y ≡ x) × (NamesOnly (is_parameter p) a → own_integer (operand_of p.params a) -ℤ pos (low_in p y) ≡ pos b)
   Drives p (l.Part y span a a') x b =
       (y ≡ x) × (NamesOnly (is_parameter p) a → NamesOnly (is_parameter p) a' →
-          let i = own_integer (operand_of p.params a) in
-          let j = own_integer (operand_of p.params a') in
-          IsWithin (part_low span i j -ℤ pos (low_in p y)) (part_width span i j) b)
+      let i = own_integer (operand_of p.params a) in
+      let j = own_integer (operand_of p.params a') in
+      IsWithin (part_low span i j -ℤ pos (low_in p y)) (part_width span i j) b)
   Drives p (l.Concat' h row) x b = AnyDrives p row x b
 
   pub AnyDrives : {m : _} → Place → Row_of-Lval m → Name → ℕ → Type 0

@@ -68,7 +68,7 @@ abbrev pub IsDrivenFrom : List Module → Name → Name → ℕ → Type 0
 IsDrivenFrom ms top x b =
     (s : Scope) × IsScope ms top s
     × (((k : Link) × Among (links_of ms s) k × DrivesFull k.into k.left x b)
-       ⊎ ((c : Block) × Among (blocks_in s.module') c × (is_clocked c.events ≡ false) × (left : Lval) × Among (lefts c.body) left × DrivesFull (place_of s) left x b))
+    ⊎ ((c : Block) × Among (blocks_in s.module') c × (is_clocked c.events ≡ false) × (left : Lval) × Among (lefts c.body) left × DrivesFull (place_of s) left x b))
 
 -- x is an input of the top
 abbrev pub IsInputFrom : List Module → Name → Name → Type 0

@@ -94,8 +94,8 @@ abbrev mutual
   pieces p c (l.Name x) = whole_piece (p.prefix ++ x) (named (valuation p c) (read x)) ∷ []
   pieces p c (l.Select x a) =
       (if nat_eq (depth_of (valuation p c) (read x)) 0
-        then bit_piece (p.prefix ++ x) (named (valuation p c) (read x)) (operand_of (valuation p c) a)
-        else word_piece p.prefix x (valuation p c) (operand_of (valuation p c) a)) ∷ []
+      then bit_piece (p.prefix ++ x) (named (valuation p c) (read x)) (operand_of (valuation p c) a)
+      else word_piece p.prefix x (valuation p c) (operand_of (valuation p c) a)) ∷ []
   pieces p c (l.Part x span a b) =
       record {
         name = p.prefix ++ x;
