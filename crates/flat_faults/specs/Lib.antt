@@ -1,0 +1,5 @@
+pub mod Texts
+pub mod Declaring
+pub mod Constants
+pub mod Clocks
+pub mod Stands
