@@ -1,0 +1,6 @@
+//! Which faults stand for a module without instances.
+#![tactic(auto)]
+
+mod fault;
+
+pub use fault::ElabFault;
