@@ -1,5 +1,6 @@
 -- The module without instances has the cycles of the list of modules, and the same cycles follow.
 use Rattle.std.proofs.Common.{◌≡◌, ℕ, ◌%◌, ◌^◌, ◌<◌, max, Bool, true, false, nat_eq, List, [], ◌∷◌, ◌++◌, Option, Some, None, sym, ap, ◌∙◌, refl, inl, inr, ⊎_elim, ◌⊎◌, map, subst}
+use Rattle.std.specs.Int.{bit_at}
 use Rattle.std.specs.List.{flat_map}
 use Rattle.std.proofs.lemmas.List.{append_cancel_left}
 use Rattle.vlog_tree.specs.declared.expr.Expr.TheVariants as e
@@ -16,7 +17,7 @@ use Rattle.vlog_runs.specs.Places.{read, Name, Cycle, Among, Place, holders, wor
 use Rattle.vlog_runs.specs.Blocks.{run, lefts, row_lefts, case_lefts, left_names, row_names}
 use Rattle.vlog_runs.specs.Contents.{Decl, Block, blocks_in, is_clocked, Inner, instances_in, signals_in, port_names, assigns_in}
 use Rattle.vlog_runs.specs.Scopes.{Scope, place_of, Link, links_of, own_link, inner_links, child, connections, connection, port_links, port_link, Given, given_to, decl_at, left_of}
-use Rattle.vlog_runs.specs.Cycles.{linked, IsAssigned, DrivesBit, DrivesWord, DrivesFull, bit_at, IsRegisterFrom, IsDrivenFrom, IsCycleFrom, IsClockedFrom, FollowsFrom, flat_place, IsRegister, IsDriven, IsInput, IsCycle, IsClocked, Follows}
+use Rattle.vlog_runs.specs.Cycles.{linked, IsAssigned, DrivesBit, DrivesWord, DrivesFull, IsRegisterFrom, IsDrivenFrom, IsCycleFrom, IsClockedFrom, FollowsFrom, flat_place, IsRegister, IsDriven, IsInput, IsCycle, IsClocked, Follows}
 use Rattle.flat_laws.specs.Moved.{moved_left, moved_stmt, moved_signal}
 use Rattle.flat_laws.specs.Uses.{IsSignal, AssignsSignals, AllAssignSignals, IsDeclared, AreDeclared, AreItemsDeclared, known, names_of}
 use Rattle.flat_laws.specs.Flattened.{moved_link, moved_block, flat_signals, flat_assigns, flat_blocks, IsFlatOf, AreScopes, IsLinkDeclared, CanFlatten, KeepsRuns}

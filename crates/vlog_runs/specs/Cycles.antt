@@ -1,6 +1,7 @@
 -- Cycles and runs, of a list of modules from its top and of one module without instances (IEEE 1364-2005, sections 6.1, 9.2 and 12.3;
 -- a bit has two values, and a register that isn't reset may start with any).
-use Rattle.std.specs.Prelude.{nat_eq, ℕ, ◌+◌, ◌/◌, ◌%◌, ◌^◌, ◌<◌, ◌≡◌, ◌⊎◌, true, false, List, [], ◌++◌, Some}
+use Rattle.std.specs.Prelude.{nat_eq, ℕ, ◌+◌, ◌^◌, ◌<◌, ◌≡◌, ◌⊎◌, true, false, List, [], ◌++◌, Some}
+use Rattle.std.specs.Int.{bit_at}
 use Rattle.std.specs.List.{flat_map}
 use Rattle.vlog_tree.specs.declared.item.Assign.{Assign}
 use Rattle.vlog_tree.specs.declared.module.Module.{Module}
@@ -51,10 +52,6 @@ DrivesWord p left x =
 
 abbrev pub DrivesFull : Place → Lval → Name → ℕ → Type 0
 DrivesFull p left x b = DrivesBit p left x b ⊎ DrivesWord p left x
-
--- the bit b of a number
-abbrev pub bit_at : ℕ → ℕ → ℕ
-bit_at n b = n / 2 ^ b % 2
 
 -- ---- a list of modules from its top
 
