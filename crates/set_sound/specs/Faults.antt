@@ -73,9 +73,8 @@ edges_faults set p = flat_map (edge_faults set p) (property_at set p).next
 -- all that may stand, in order
 abbrev pub candidates : Set → List GraphFault
 candidates set =
-    g.HandAtReset ∷ (invariant_faults set ++ (domain_faults set
-    ++ (flat_map (property_faults set) (positions 0 (suc (length set.operations)))
-    ++ flat_map (edges_faults set) (positions 0 (suc (length set.operations))))))
+    let all = positions 0 (suc (length set.operations)) in
+    g.HandAtReset ∷ invariant_faults set ++ (domain_faults set ++ (flat_map (property_faults set) all ++ flat_map (edges_faults set) all))
 
 -- a fault stands, and none of those before it does
 pub record IsFirst (set : Set) (fault : GraphFault) : Type 0 where

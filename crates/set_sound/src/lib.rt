@@ -3,7 +3,10 @@
 
 mod cover;
 mod fault;
+mod find;
 mod offset;
+mod sound;
 
 pub use fault::{GraphFault, Place};
 pub use offset::largest;
+pub use sound::{Sound, Unsound, faults_are_exact, structure};
