@@ -18,12 +18,16 @@ pub struct Sound {
 }
 
 impl Model for Sound {
+    ghost use Rattle.vlog_tree.specs.contracts.expr.Expr as expr;
+    ghost use Rattle.std.specs.Coded.{codes};
     ghost use Rattle.set_tree.specs.declared.set.Set.{Set};
     ghost use Rattle.set_tree.specs.Formulas.{meaning_of};
     ghost use Rattle.set_tree.specs.Structure.{IsSound};
     ghost use Rattle.set_sound.specs.Condition.{IsWellFormed};
 
     ghost Value = { Set };
+
+    ghost coded = { Prim.hlevel (codes, expr.the_row.coded) };
 
     ghost view = { λ s. s.set };
 
