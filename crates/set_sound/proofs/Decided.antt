@@ -1,8 +1,8 @@
 -- What the tests of offsets, covers and edges decide.
-use Rattle.std.proofs.Common.{◌≡◌, ℕ, zero, suc, ◌+◌, ◌<◌, ◌≤◌, ◌&&◌, ◌||◌, not, Bool, true, false, List, [], ◌∷◌, length, get_or, Option, Some, None, arith, refl, sym, ap, ◌∙◌, subst}
+use Rattle.std.proofs.Common.{◌≡◌, ℕ, ◌+◌, ◌≤◌, ◌||◌, not, Bool, true, false, List, get_or, Option, Some, None, arith, refl, sym, ap, ◌∙◌, subst}
 use Rattle.std.specs.Prelude.{nat_eq, nat_le, slice_get}
 use Rattle.std.specs.Bool.{Decides}
-use Rattle.std.specs.List.{All, Contains, list_all, list_any, count_by}
+use Rattle.std.specs.List.{All, Contains, list_all}
 use Rattle.std.proofs.lemmas.Bool.{leb-true, le-leb, eqb-true, eq-eqb}
 use Rattle.std.proofs.lemmas.Bool.Decides.{Decides-eqb, Decides-like, Decides-and, Decides-by_and}
 use Rattle.std.proofs.lemmas.List.Elements.{All-contains, Contains-get_or}
@@ -18,7 +18,7 @@ use Rattle.set_tree.specs.declared.set.Set.{Set}
 use Rattle.set_tree.specs.declared.set.To.{To}
 use Rattle.set_tree.specs.declared.set.To.TheVariants as to
 use Rattle.set_tree.specs.Formulas.{largest_offset}
-use Rattle.set_tree.specs.Parts.{property_at, window_of, cover_end, IsOutput}
+use Rattle.set_tree.specs.Parts.{property_at, cover_end, IsOutput}
 use Rattle.set_tree.specs.Structure.{IsCover}
 use Rattle.set_sound.specs.Faults.{KeepsWindow, HasCover, Meets}
 use Rattle.set_sound.specs.Tests.{passes, reads_within, all_read_within, reads_ahead, keeps_window, is_output, is_output_at, is_number, fits_cover, is_cover_of, has_cover, leads_to, ends_at, meets_all, meets}

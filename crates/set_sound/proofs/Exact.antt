@@ -1,17 +1,13 @@
 -- No fault stands exactly where the structure is sound.
-use Rattle.std.proofs.Common.{◌≡◌, ◌≢◌, ℕ, zero, suc, ◌+◌, ◌<◌, ◌≤◌, Bool, true, false, List, [], ◌∷◌, length, get_or, Option, Some, None, arith, refl, sym, ap, ◌∙◌, subst, ⊎_elim}
-use Rattle.std.specs.Prelude.{nat_eq, slice_get}
+use Rattle.std.proofs.Common.{◌≡◌, ◌≢◌, ℕ, zero, suc, ◌<◌, Bool, true, false, List, [], ◌∷◌, length, arith, refl, sym, ◌∙◌, subst, ⊎_elim}
 use Rattle.std.specs.Bool.{Decides}
-use Rattle.std.specs.List.{All, Contains}
+use Rattle.std.specs.List.{Contains}
 use Rattle.std.proofs.lemmas.Bool.{cases_Bool}
 use Rattle.std.proofs.lemmas.Option.{slice_get_read, slice_get_within, get_or_from_slice_get}
 use Rattle.vlog_tree.specs.declared.expr.Expr.{Expr}
-use Rattle.set_tree.specs.declared.set.Cover.{Cover}
-use Rattle.set_tree.specs.declared.set.Name.{Name}
-use Rattle.set_tree.specs.declared.set.Rule.{Rule}
 use Rattle.set_tree.specs.declared.set.Set.{Set}
 use Rattle.set_tree.specs.Formulas.{largest_offset, meaning_of}
-use Rattle.set_tree.specs.Parts.{property_at, IsPosition, IsOperation, IsOutput, cover_end}
+use Rattle.set_tree.specs.Parts.{property_at, IsPosition, IsOperation, IsOutput}
 use Rattle.set_tree.specs.Structure.{IsSound, KeepsOffsets}
 use Rattle.set_sound.specs.declared.fault.GraphFault.{GraphFault}
 use Rattle.set_sound.specs.declared.fault.GraphFault.TheVariants as g

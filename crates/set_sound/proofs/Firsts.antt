@@ -1,6 +1,6 @@
 -- The first of several faults that stands, as loops come to it.
 use Rattle.std.proofs.Common.{◌≡◌, ℕ, zero, suc, ◌+◌, ◌-◌, ◌<◌, ◌≤◌, ◌&&◌, not, Bool, true, false, List, [], ◌∷◌, ◌++◌, length, map, drop, get_or, Option, Some, None, arith, refl, sym, ap, ◌∙◌}
-use Rattle.std.specs.List.{find, flat_map, Contains}
+use Rattle.std.specs.List.{find, flat_map}
 use Rattle.std.specs.Option.{option_or}
 use Rattle.std.proofs.lemmas.List.{drop_more}
 use Rattle.std.proofs.lemmas.List.Folds.{find-append}
@@ -14,7 +14,7 @@ use Rattle.set_sound.specs.declared.fault.GraphFault.{GraphFault}
 use Rattle.set_sound.specs.declared.fault.GraphFault.TheVariants as g
 use Rattle.set_sound.specs.declared.fault.Place.TheVariants as at
 use Rattle.set_sound.specs.Faults.{positions}
-use Rattle.set_sound.specs.Tests.{find_property, reads_within, reads_ahead, keeps_window, leads_to, is_output_at, has_cover, meets, stands}
+use Rattle.set_sound.specs.Tests.{find_property, reads_within, reads_ahead, is_output_at, has_cover, stands}
 
 -- ---- positions
 

@@ -1,5 +1,5 @@
 -- Each form of an expression, as the code reads it, and its largest offset.
-use Rattle.std.proofs.Common.{◌≡◌, ℕ, max, List, [], ◌∷◌, refl, sym, ◌∙◌, ap}
+use Rattle.std.proofs.Common.{◌≡◌, ℕ, max, List, [], ◌∷◌, refl, ◌∙◌, ap}
 use Rattle.vlog_tree.specs.declared.expr.Binary.{Binary}
 use Rattle.vlog_tree.specs.declared.expr.Cast.{Cast}
 use Rattle.vlog_tree.specs.declared.expr.Constant.{Constant}

@@ -1,9 +1,9 @@
 -- Each test of a fault tells where it stands.
-use Rattle.std.proofs.Common.{◌≡◌, ◌≢◌, ℕ, zero, suc, ◌+◌, ◌<◌, ◌≤◌, ◌&&◌, ◌||◌, not, Bool, true, false, List, [], ◌∷◌, length, Option, Some, None, arith, refl, sym, ap, ◌∙◌, subst}
+use Rattle.std.proofs.Common.{◌≡◌, ◌≢◌, ℕ, suc, ◌<◌, ◌&&◌, not, Bool, true, false, List, [], ◌∷◌, length, Option, Some, None, arith, refl, sym, ap, ◌∙◌, subst}
 use Rattle.std.specs.Prelude.{nat_eq, nat_le, slice_get}
 use Rattle.std.specs.Bool.{Decides}
 use Rattle.std.specs.List.{Contains}
-use Rattle.std.proofs.lemmas.Bool.{leb-true, leb-false, lt-leb, ne_eqb}
+use Rattle.std.proofs.lemmas.Bool.{leb-false, lt-leb, ne_eqb}
 use Rattle.std.proofs.lemmas.Bool.Decides.{Decides-like, Decides-and, Decides-not}
 use Rattle.vlog_tree.specs.declared.expr.Expr.{Expr}
 use Rattle.set_tree.specs.declared.set.Name.{Name}

@@ -1,5 +1,5 @@
--- What holds of every set that a text spells, and is asked of a set before its structure is tested.
-use Rattle.std.specs.Prelude.{◌≡◌, ◌≢◌, ℕ, ◌+◌, ◌≤◌, false, List, [], ◌∷◌, ◌++◌, length, map, codes, None, Option, Some}
+-- What is asked of a set before its structure is tested: it holds of every set that is read.
+use Rattle.std.specs.Prelude.{◌≡◌, ◌≢◌, ℕ, ◌+◌, ◌^◌, ◌<◌, ◌≤◌, false, List, [], ◌∷◌, ◌++◌, length, map, codes, None}
 use Rattle.std.specs.List.{Contains, All, AllPairs, flat_map}
 use Rattle.std.specs.Option.{option_to_list}
 use Rattle.vlog_tree.specs.declared.expr.Binary.{Binary}
@@ -9,15 +9,22 @@ use Rattle.vlog_tree.specs.declared.expr.Expr.TheVariants as e
 use Rattle.vlog_tree.specs.Valuation.{IsLength as IsWidth}
 use Rattle.vlog_tree.specs.Value.{IsFormed, HasConstantParts}
 use Rattle.set_tree.specs.declared.set.Cover.{Cover}
-use Rattle.set_tree.specs.declared.set.Name.{Name}
 use Rattle.set_tree.specs.declared.set.Property.{Property}
-use Rattle.set_tree.specs.declared.set.Rule.{Rule}
 use Rattle.set_tree.specs.declared.set.Set.{Set}
 use Rattle.set_tree.specs.Formulas.{largest_offset, entries_from}
 use Rattle.set_tree.specs.Meaning.{Row}
 use Rattle.set_tree.specs.Parts.{property_at, window_of, IsPosition, IsOperation, IsOutput}
 use Rattle.set_tree.specs.Structure.{IsLength}
 use Rattle.set_tree.specs.Traces.{IsTrace}
+
+-- positions fit 32 bits, and successors are positions of properties
+pub record IsIndexed (set : Set) : Type 0 where
+  pub names : length set.names < 2 ^ 32
+  pub invariants : length set.invariants < 2 ^ 32
+  pub operations : length set.operations + 1 < 2 ^ 32
+  pub successors : (p q : ℕ) → IsPosition set p → Contains (property_at set p).next q → IsPosition set q
+
+-- ---- formulas
 
 -- neither `/` nor `%`
 abbrev pub IsNoDivision : Binary → Type 0
@@ -61,6 +68,8 @@ abbrev pub formulas_of : Set → List Expr
 formulas_of set =
     map (λ r. r.formula) set.constraints ++ map (λ r. r.formula) set.invariants ++ flat_map (λ n. option_to_list n.domain) set.names
     ++ property_formulas set.first ++ flat_map property_formulas set.operations
+
+-- ---- sets
 
 -- the names of properties, constraints and invariants
 abbrev pub rule_names : Set → List (List ℕ)

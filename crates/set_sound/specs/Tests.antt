@@ -1,14 +1,12 @@
 -- The faults of a set's structure as tests.
-use Rattle.std.specs.Prelude.{◌≡◌, ℕ, zero, suc, ◌+◌, ◌&&◌, ◌||◌, not, nat_eq, nat_le, Bool, true, false, List, length, Option, Some, None, slice_get}
+use Rattle.std.specs.Prelude.{ℕ, zero, suc, ◌+◌, ◌&&◌, ◌||◌, not, nat_eq, nat_le, Bool, true, false, List, length, Option, Some, None, slice_get}
 use Rattle.std.specs.List.{find, list_any, list_all, count_by}
 use Rattle.vlog_tree.specs.declared.expr.Expr.{Expr}
 use Rattle.set_tree.specs.declared.set.Cover.{Cover}
 use Rattle.set_tree.specs.declared.set.Length.{Length}
-use Rattle.set_tree.specs.declared.set.Name.{Name}
 use Rattle.set_tree.specs.declared.set.Property.{Property}
 use Rattle.set_tree.specs.declared.set.Role.{Role}
 use Rattle.set_tree.specs.declared.set.Role.TheVariants as role
-use Rattle.set_tree.specs.declared.set.Rule.{Rule}
 use Rattle.set_tree.specs.declared.set.Set.{Set}
 use Rattle.set_tree.specs.declared.set.To.{To}
 use Rattle.set_tree.specs.declared.set.To.TheVariants as to

@@ -4,7 +4,7 @@ ghost use Rattle.std.specs.Prelude.{◌≡◌, ℕ, suc, ◌+◌, ◌<◌, ◌�
 ghost use Rattle.std.specs.List.{find, flat_map, Contains};
 ghost use Rattle.set_tree.specs.Parts.{IsPosition};
 ghost use Rattle.set_sound.specs.declared.fault.GraphFault.TheVariants as GraphFault;
-ghost use Rattle.set_sound.specs.Condition.{IsWellFormed};
+ghost use Rattle.set_sound.specs.Condition.{IsIndexed};
 ghost use Rattle.set_sound.specs.Faults.{positions, invariant_faults, domain_faults, cover_faults, property_faults, edge_faults, edges_faults};
 ghost use Rattle.set_sound.specs.Tests.{find_property, stands, first_fault};
 
@@ -14,7 +14,7 @@ use crate::offset::{keeps_window, reads_ahead, reads_within};
 use set_tree::{Property, Set};
 
 fn invariant_fault(set: &Set) -> Option<GraphFault>
-    requires { IsWellFormed set.now }
+    requires { IsIndexed set.now }
     ensures { result ≡ find (stands set.now) (invariant_faults set.now) }
 {
     for (at, rule) in set.invariants.as_slice().iter().enumerate() {
@@ -26,7 +26,7 @@ fn invariant_fault(set: &Set) -> Option<GraphFault>
 }
 
 fn domain_fault(set: &Set) -> Option<GraphFault>
-    requires { IsWellFormed set.now }
+    requires { IsIndexed set.now }
     ensures { result ≡ find (stands set.now) (domain_faults set.now) }
 {
     for (at, name) in set.names.as_slice().iter().enumerate() {
@@ -56,7 +56,7 @@ fn lacks_cover(set: &Set, at: u32, output: u32) -> bool
 }
 
 fn cover_fault(set: &Set, at: u32) -> Option<GraphFault>
-    requires formed { IsWellFormed set.now }
+    requires indexed { IsIndexed set.now }
     requires within { IsPosition set.now at }
     ensures { result ≡ find (stands set.now) (cover_faults set.now at) }
 {
@@ -70,7 +70,7 @@ fn cover_fault(set: &Set, at: u32) -> Option<GraphFault>
 
 // The first fault of a property by itself.
 fn property_fault(set: &Set, at: u32) -> Option<GraphFault>
-    requires formed { IsWellFormed set.now }
+    requires indexed { IsIndexed set.now }
     requires within { IsPosition set.now at }
     ensures { result ≡ find (stands set.now) (property_faults set.now at) }
 {
@@ -85,7 +85,7 @@ fn property_fault(set: &Set, at: u32) -> Option<GraphFault>
 }
 
 fn properties_fault(set: &Set) -> Option<GraphFault>
-    requires { IsWellFormed set.now }
+    requires { IsIndexed set.now }
     ensures { result ≡ find (stands set.now) (flat_map (property_faults set.now) (positions 0 (suc (length set.now.operations)))) }
 {
     for at in 0..set.operations.len() as u32 + 1 {
@@ -108,7 +108,7 @@ fn is_apart(set: &Set, from: u32, to: u32, output: u32) -> bool
 }
 
 fn edge_fault(set: &Set, from: u32, to: u32) -> Option<GraphFault>
-    requires formed { IsWellFormed set.now }
+    requires indexed { IsIndexed set.now }
     requires from { IsPosition set.now from }
     requires to { IsPosition set.now to }
     ensures { result ≡ find (stands set.now) (edge_faults set.now from to) }
@@ -123,7 +123,7 @@ fn edge_fault(set: &Set, from: u32, to: u32) -> Option<GraphFault>
 
 // The first fault of the edges from a property.
 fn edges_fault(set: &Set, at: u32) -> Option<GraphFault>
-    requires formed { IsWellFormed set.now }
+    requires indexed { IsIndexed set.now }
     requires within { IsPosition set.now at }
     ensures { result ≡ find (stands set.now) (edges_faults set.now at) }
 {
@@ -136,7 +136,7 @@ fn edges_fault(set: &Set, at: u32) -> Option<GraphFault>
 }
 
 fn all_edges_fault(set: &Set) -> Option<GraphFault>
-    requires { IsWellFormed set.now }
+    requires { IsIndexed set.now }
     ensures { result ≡ find (stands set.now) (flat_map (edges_faults set.now) (positions 0 (suc (length set.now.operations)))) }
 {
     for at in 0..set.operations.len() as u32 + 1 {
@@ -147,9 +147,9 @@ fn all_edges_fault(set: &Set) -> Option<GraphFault>
     None
 }
 
-/// The first fault of a set's structure. None: its structure is sound.
+/// The first fault of a set's structure, in the order in which `structure` tells them. None: no fault stands.
 pub fn first_fault(set: &Set) -> Option<GraphFault>
-    requires { IsWellFormed set.now }
+    requires { IsIndexed set.now }
     ensures { result ≡ first_fault set.now }
 {
     if set.first.hand.len() != 0 {

@@ -8,5 +8,6 @@ mod offset;
 mod sound;
 
 pub use fault::{GraphFault, Place};
+pub use find::first_fault;
 pub use offset::largest;
 pub use sound::{Sound, Unsound, faults_are_exact, structure};

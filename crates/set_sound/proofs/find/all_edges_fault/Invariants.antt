@@ -1,8 +1,6 @@
-use Rattle.std.proofs.Common.{◌≡◌, suc, ◌+◌, ◌-◌, length, map, drop}
+use Rattle.std.proofs.Common.{◌≡◌, suc, ◌-◌, length}
 use Rattle.std.specs.List.{find, flat_map}
-use Rattle.set_sound.specs.declared.fault.GraphFault.TheVariants as g
-use Rattle.set_sound.specs.declared.fault.Place.TheVariants as at
-use Rattle.set_sound.specs.Faults.{positions, invariant_faults, domain_faults, cover_faults, property_faults, edge_faults, edges_faults}
+use Rattle.set_sound.specs.Faults.{positions, edges_faults}
 use Rattle.set_sound.specs.Tests.{stands}
 use Rattle.set_sound.proofs.find.all_edges_fault.Given as goal
 

@@ -1,9 +1,7 @@
-use Rattle.std.proofs.Common.{◌≡◌, ℕ, suc, ◌+◌, ◌<◌, ◌≤◌, not, true, false, length, map, Some, None, arith, refl, sym, ap, ◌∙◌}
+use Rattle.std.proofs.Common.{◌≡◌, true, false, length, sym, ◌∙◌}
 use Rattle.set_sound.specs.declared.fault.GraphFault.TheVariants as g
-use Rattle.set_sound.specs.declared.fault.Place.TheVariants as at
-use Rattle.set_sound.specs.Faults.{positions, invariant_faults, domain_faults, cover_faults, property_faults, edge_faults, edges_faults}
 use Rattle.set_sound.specs.Tests.{stands}
-use Rattle.set_sound.proofs.Firsts.{map_next, map_here, flat_next, flat_here, each_next, each_here, invariant_stands, domain_stands}
+use Rattle.set_sound.proofs.Firsts.{map_next, map_here}
 use Rattle.set_sound.proofs.find.cover_fault.Goals as goal
 
 pub returns-then-lacks_cover : goal.returns-then-lacks_cover

@@ -1,8 +1,8 @@
-use Rattle.std.proofs.Common.{◌≡◌, ◌+◌, ◌-◌, length, map, drop}
-use Rattle.std.specs.List.{find, flat_map}
+use Rattle.std.proofs.Common.{◌≡◌, ◌-◌, length, map}
+use Rattle.std.specs.List.{find}
 use Rattle.set_sound.specs.declared.fault.GraphFault.TheVariants as g
 use Rattle.set_sound.specs.declared.fault.Place.TheVariants as at
-use Rattle.set_sound.specs.Faults.{positions, invariant_faults, domain_faults, cover_faults, property_faults, edge_faults, edges_faults}
+use Rattle.set_sound.specs.Faults.{positions, domain_faults}
 use Rattle.set_sound.specs.Tests.{stands}
 use Rattle.set_sound.proofs.find.domain_fault.Given as goal
 

@@ -3,12 +3,10 @@ use Rattle.std.specs.List.{Contains}
 use Rattle.std.proofs.lemmas.List.Elements.{Contains-get_or}
 use Rattle.set_tree.specs.Parts.{property_at}
 use Rattle.set_sound.proofs.Firsts.{find_is_at}
-use Rattle.std.proofs.Common.{◌≡◌, ℕ, suc, ◌+◌, ◌<◌, ◌≤◌, not, true, false, length, map, Some, None, arith, refl, sym, ap, ◌∙◌}
-use Rattle.set_sound.specs.declared.fault.GraphFault.TheVariants as g
-use Rattle.set_sound.specs.declared.fault.Place.TheVariants as at
-use Rattle.set_sound.specs.Faults.{positions, invariant_faults, domain_faults, cover_faults, property_faults, edge_faults, edges_faults}
+use Rattle.std.proofs.Common.{refl, sym, ◌∙◌}
+use Rattle.set_sound.specs.Faults.{edge_faults}
 use Rattle.set_sound.specs.Tests.{stands}
-use Rattle.set_sound.proofs.Firsts.{map_next, map_here, flat_next, flat_here, each_next, each_here, invariant_stands, domain_stands}
+use Rattle.set_sound.proofs.Firsts.{each_next, each_here}
 use Rattle.set_sound.proofs.find.edges_fault.Goals as goal
 
 pub returns-in-Some : goal.returns-in-Some
@@ -24,4 +22,4 @@ edge_fault-requires-clause-to c =
     let at = find_is_at c.args.set.now c.args.at c.property_at.result.now c.property_at.ensures in
     let edge : Contains (property_at c.args.set.now c.args.at).next (get_or c.as_slice-next-items.result.now c.loop-next.next-index 0) =
         rw (at, sym c.as_slice-next-items.ensures) (Contains-get_or c.as_slice-next-items.result.now c.loop-next.next-index 0 c.loop-next-test.true) in
-    c.requires.formed.successors c.args.at _ c.requires.within edge
+    c.requires.indexed.successors c.args.at _ c.requires.within edge

@@ -1,5 +1,4 @@
-use Rattle.std.proofs.Common.{◌≡◌, ℕ, suc, ◌+◌, ◌<◌, ◌≤◌, not, true, false, length, map, Some, None, arith, refl, sym, ap, ◌∙◌}
-use Rattle.std.specs.Prelude.{nat_eq}
+use Rattle.std.proofs.Common.{suc, length, sym, ◌∙◌}
 use Rattle.std.specs.List.{flat_map}
 
 use Rattle.set_sound.specs.declared.fault.GraphFault.TheVariants as g

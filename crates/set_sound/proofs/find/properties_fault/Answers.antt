@@ -1,10 +1,8 @@
-use Rattle.std.proofs.Common.{◌≡◌, ℕ, suc, ◌+◌, ◌-◌, ◌<◌, ◌≤◌, not, true, false, length, map, Some, None, arith, refl, sym, ap, ◌∙◌}
+use Rattle.std.proofs.Common.{◌≡◌, ℕ, suc, ◌-◌, ◌<◌, length, arith, sym, ap, ◌∙◌}
 use Rattle.std.specs.List.{find, flat_map}
-use Rattle.set_sound.specs.declared.fault.GraphFault.TheVariants as g
-use Rattle.set_sound.specs.declared.fault.Place.TheVariants as at
-use Rattle.set_sound.specs.Faults.{positions, invariant_faults, domain_faults, cover_faults, property_faults, edge_faults, edges_faults}
+use Rattle.set_sound.specs.Faults.{positions, property_faults}
 use Rattle.set_sound.specs.Tests.{stands}
-use Rattle.set_sound.proofs.Firsts.{map_next, map_here, flat_next, flat_here, each_next, each_here, invariant_stands, domain_stands}
+use Rattle.set_sound.proofs.Firsts.{flat_next, flat_here}
 use Rattle.set_sound.proofs.find.properties_fault.Goals as goal
 
 pub returns-in-Some : goal.returns-in-Some

@@ -1,5 +1,4 @@
-use Rattle.std.proofs.Common.{◌≡◌, ℕ, max, refl, sym, ◌∙◌, arith}
-use Rattle.set_tree.specs.Formulas.{largest_offset}
+use Rattle.std.proofs.Common.{◌≡◌, max, sym, ◌∙◌, arith}
 use Rattle.set_sound.proofs.Offsets.{select_largest, part_largest, constant_select_largest, constant_part_largest, cast_largest, paren_largest, unary_largest, binary_largest, choice_largest, concat_largest, repeat_largest, largest_of}
 use Rattle.set_sound.proofs.offset.+largest.Goals as goal
 

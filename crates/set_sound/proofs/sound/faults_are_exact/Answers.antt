@@ -1,4 +1,3 @@
-use Rattle.set_sound.proofs.Standing.{Decides-fault}
 use Rattle.set_sound.proofs.Exact.{sound, none_stands}
 use Rattle.set_sound.proofs.sound.faults_are_exact.Goals as goal
 
