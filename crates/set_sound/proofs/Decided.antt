@@ -112,6 +112,7 @@ Decides-leads q x = (found, reached)
         let a = Any-from_list_any (λ y. nat_eq y q) x.next h in
         let same = eqb-true a.1 q a.4 in
         (a.0, a.2, subst (λ (z : ℕ). get_or x.next a.0 z ≡ z) same a.3)
+
     reached : Contains x.next q → leads_to q x ≡ true
     reached c = list_any-from_Any (λ y. nat_eq y q) x.next (c.0, q, c.1, c.2, eq-eqb q q refl)
 

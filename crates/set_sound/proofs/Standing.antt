@@ -54,9 +54,10 @@ Decides-domain (Some x) = (λ h. (x, refl, (Decides-ahead x).0 h), λ h. let sam
 
 Decides-name : (o : Option Name) → Decides (passes (λ n. reads_ahead n.domain) o) ((name : Name) × (e : Expr) × (o ≡ Some name) × (name.domain ≡ Some e) × (0 < largest_offset e))
 Decides-name None = (λ h. cc, λ h. let e = h.2 in cc)
-Decides-name (Some n) =
-    (λ h. let d = (Decides-domain n.domain).0 h in (n, d.0, refl, d.1, d.2),
-    λ h. let same : n ≡ h.0 = cc in (Decides-domain n.domain).1 (h.1, ap (λ (m : Name). m.domain) same ∙ h.3, h.4))
+Decides-name (Some n) = (
+  λ h. let d = (Decides-domain n.domain).0 h in (n, d.0, refl, d.1, d.2),
+  λ h. let same : n ≡ h.0 = cc in (Decides-domain n.domain).1 (h.1, ap (λ (m : Name). m.domain) same ∙ h.3, h.4),
+)
 
 pub Decides-fault : (set : Set) → IsWellFormed set → (f : GraphFault) → Decides (stands set f) (Stands set f)
 Decides-fault set formed g.HandAtReset = Decides-hand set.first.hand

@@ -18,8 +18,8 @@ loop-next-preserved c =
     each_next (stands c.args.set.now) (edge_faults c.args.set.now c.args.at) c.as_slice-next-items.result.now c.loop-next.next-index _ _ c.loop-next-test.true refl (sym c.in_default.is ∙ c.edge_fault.ensures) c.loop-next.invariant
 
 pub edge_fault-requires-clause-to : goal.edge_fault-requires-clause-to
-edge_fault-requires-clause-to c = 
+edge_fault-requires-clause-to c =
     let at = find_is_at c.args.set.now c.args.at c.property_at.result.now c.property_at.ensures in
     let edge : Contains (property_at c.args.set.now c.args.at).next (get_or c.as_slice-next-items.result.now c.loop-next.next-index 0) =
-        rw (at, sym c.as_slice-next-items.ensures) (Contains-get_or c.as_slice-next-items.result.now c.loop-next.next-index 0 c.loop-next-test.true) in
+    rw (at, sym c.as_slice-next-items.ensures) (Contains-get_or c.as_slice-next-items.result.now c.loop-next.next-index 0 c.loop-next-test.true) in
     c.requires.indexed.successors c.args.at _ c.requires.within edge

@@ -1,6 +1,5 @@
 use Rattle.std.proofs.Common.{suc, length, sym, ◌∙◌}
 use Rattle.std.specs.List.{flat_map}
-
 use Rattle.set_sound.specs.declared.fault.GraphFault.TheVariants as g
 use Rattle.set_sound.specs.Faults.{positions, invariant_faults, domain_faults, property_faults, edges_faults}
 use Rattle.set_sound.specs.Tests.{stands}

@@ -44,6 +44,15 @@ returns-in-Binary t c =
 
 pub returns-in-Choice : goal.returns-in-Choice
 returns-in-Choice t c =
-    rw (c.in-Choice.is, c.max-in-Choice-2.ensures, c.max-in-Choice.ensures, c.largest-in-Choice.ensures, c.largest-in-Choice-2.ensures, c.largest-in-Choice-3.ensures,
-        c.get-in-Choice.ensures, c.get-in-Choice-2.ensures, c.get-in-Choice-3.ensures)
+    rw (
+      c.in-Choice.is,
+      c.max-in-Choice-2.ensures,
+      c.max-in-Choice.ensures,
+      c.largest-in-Choice.ensures,
+      c.largest-in-Choice-2.ensures,
+      c.largest-in-Choice-3.ensures,
+      c.get-in-Choice.ensures,
+      c.get-in-Choice-2.ensures,
+      c.get-in-Choice-3.ensures,
+    )
     (sym (choice_largest c.in-Choice.condition c.in-Choice.a c.in-Choice.b))
