@@ -5,6 +5,9 @@
     sat.py time FOLDER LIMIT COMMAND..
                                     runs each command on each formula, for at most LIMIT seconds.
                                     In a command {} stands for the file; without it the file is standard input.
+    sat.py table FOLDER LIMIT RUNS COMMAND MINISAT CADICAL
+                                    runs each of the three RUNS times, and writes the rows of the README's table: the least
+                                    seconds and the most memory of each, and how many times MINISAT's the first one's are
 """
 
 import os
@@ -131,6 +134,24 @@ def shifts(width):
     return c.unequal(c.shift(x, amount, stages), c.shift(x, amount, reversed(stages)))
 
 
+TITLES = {
+    "pigeons-8-7": "pigeons 8 in 7",
+    "pigeons-9-8": "pigeons 9 in 8",
+    "uniform-150": "random 3-SAT, 150 variables",
+    "uniform-180": "180",
+    "uniform-200": "200",
+    "uniform-220": "220",
+    "multiply-5": "multiplier commutes, 5 bits",
+    "multiply-6": "6 bits",
+    "multiply-7": "7 bits",
+    "add-8": "adders associate, 8 bits",
+    "add-12": "12 bits",
+    "add-16": "16 bits",
+    "shift-32": "barrel shifters, 32 bits",
+    "shift-64": "64 bits",
+    "chain-600000": "chain of 600,000 clauses",
+}
+
 FORMULAS = {
     "pigeons-8-7": lambda: pigeons(8, 7),
     "pigeons-9-8": lambda: pigeons(9, 8),
@@ -178,6 +199,19 @@ def run(command, path, limit):
     return after.ru_utime - before.ru_utime, kilobytes / 1024, words[0] if words else "none"
 
 
+def best(command, path, limit, runs):
+    """The least seconds and the most megabytes of several runs."""
+    results = [run(command, path, limit) for _ in range(runs)]
+    return min(r[0] for r in results), max(r[1] for r in results)
+
+
+def row(name, path, limit, runs, commands):
+    """A row of the README's table."""
+    (ours, mine), (theirs, other), (third, _) = (best(c, path, limit, runs) for c in commands)
+    ratios = f"{ours / max(theirs, 0.001):.1f}, {mine / max(other, 0.1):.1f}"
+    return f"| {TITLES[name]} | {ours:.3f} s, {mine:.0f} MB | {theirs:.3f}, {other:.1f} | {third:.3f} | {ratios} |"
+
+
 def main(args):
     if args[:1] == ["make"] and len(args) == 2:
         os.makedirs(args[1], exist_ok=True)
@@ -188,6 +222,10 @@ def main(args):
             for command in args[3:]:
                 seconds, megabytes, answer = run(command, os.path.join(args[1], name + ".cnf"), float(args[2]))
                 print(f"{name:14} {seconds:8.3f} s {megabytes:8.1f} MB  {answer:15} {command}", flush=True)
+    elif args[:1] == ["table"] and len(args) == 7:
+        for name in FORMULAS:
+            path = os.path.join(args[1], name + ".cnf")
+            print(row(name, path, float(args[2]), int(args[3]), args[4:]), flush=True)
     else:
         print(__doc__)
 

@@ -9,6 +9,7 @@ use Rattle.cdcl.specs.declared.trail.Entry.{Entry}
 use Rattle.cdcl.specs.declared.watches.Watch.{Watch}
 use Rattle.cdcl.specs.Trails.{lits_of, IsTrail}
 use Rattle.cdcl.specs.Watching.{IsTrueAt, IsGuarded, IsKept, IsWatchOf}
+use Rattle.cdcl.specs.Finding.{NoneOther}
 use Rattle.cdcl.specs.Leaving.{Leaves}
 use Rattle.cdcl.proofs.EndLemmas.{value_cases}
 use Rattle.cdcl.specs.Turns.{Rests, Moves}
@@ -58,6 +59,15 @@ apart_in clause l m c h k ne e =
         | inr ge ↦ c k.0 h.0 l (omega arith) h.1 (ap (λ (x : Lit). x.var) at_m ∙ (e ∙ ap (λ (x : Lit). x.var) (sym at_l)))
       ]
     ]
+
+-- a literal of the clause is the one at its place
+pub none_other : (clause : List Lit) (var : ℕ) (values : List (Option Bool)) → NoneOther clause var values 0 (length clause) → (m : Lit) → Contains clause m → m.var ≢ var → IsFalseIn values m
+none_other clause var values h m c ne =
+    let at : get_or clause c.0 m ≡ m = c.2 in
+    subst (IsFalseIn values) at (h c.0 m (omega arith) c.1 (subst (λ (l : Lit). l.var ≢ var) (sym at) ne))
+
+pub contains_place : (clause : List Lit) (i : ℕ) (d : Lit) → i < length clause → Contains clause (get_or clause i d)
+contains_place clause i d lt = (i, lt, get_or_default clause i (get_or clause i d) d lt)
 
 bool_other : (b n : Bool) → (b ≡ n) ⊎ (b ≡ not n)
 bool_other true true = inl refl

@@ -7,6 +7,7 @@ mod learn;
 mod lists;
 mod order;
 mod restarts;
+mod resumes;
 mod search;
 mod solver;
 #[cfg(test)]

@@ -24,9 +24,9 @@ returns c =
     let entries = c.args.trail.now.entries in
     let conflict = c.reduce.new.self in
     let cut = c.in_ok-cut.cut in
-    let hints : c.reverse.new.self.items ≡ reverse conflict.hints.items = c.reverse.ensures.items ∙ ap (λ (v : Vec ℕ Global). reverse v.items) c.into_hints-hints.ensures in
+    let hints : c.shrink_to_fit.new.self.items ≡ reverse conflict.hints.items = c.shrink_to_fit.ensures.items ∙ (c.reverse.ensures.items ∙ ap (λ (v : Vec ℕ Global). reverse v.items) c.into_hints-hints.ensures) in
     let lit : c.negated-lit.result ≡ negated (get_or entries cut z).lit = c.negated-lit.ensures ∙ ap (λ es. negated (get_or es cut z).lit) c.entries.ensures.entries in
-    let step : Step = record { clause = c.in_ok-clause.clause; hints = c.reverse.new.self } in
+    let step : Step = record { clause = c.in_ok-clause.clause; hints = c.shrink_to_fit.new.self } in
     let learnt : IsLearnt entries c.args.start cut conflict.seen.items step.clause c.in_ok-clause.bound =
     subst (λ s. IsLearnt entries c.args.start cut s step.clause c.in_ok-clause.bound) c.as_slice.ensures.value c.in_ok-clause.ensures in
     subst (λ (l : Lit). IsLesson c.args.cnf.now c.args.steps.now entries c.args.start (record { step = step; lit = l; bound = c.in_ok-clause.bound })) (sym lit)

@@ -56,5 +56,5 @@ loop-place-preserved c =
 pub returns : goal.returns
 returns c =
     let at : c.loop-place.place ≡ c.args.start = omega arith in
-    subst (λ ls. IsLearnt c.args.trail.now.entries c.args.start c.args.cut c.args.seen.now ls c.loop-place.bound) (sym c.new.ensures)
+    subst (λ ls. IsLearnt c.args.trail.now.entries c.args.start c.args.cut c.args.seen.now ls c.loop-place.bound) (sym (c.new.ensures ∙ c.shrink_to_fit.ensures.items))
     (subst (λ n. IsLearnt c.args.trail.now.entries n c.args.cut c.args.seen.now c.loop-place.lits.items c.loop-place.bound) at c.loop-place.invariant.learnt)

@@ -1,4 +1,4 @@
-use Rattle.std.proofs.Common.{◌≡◌, ◌<◌, Contains, subst, sym, inl, inr}
+use Rattle.std.proofs.Common.{false, ◌≡◌, ◌<◌, Contains, get_or, subst, sym, inl, inr}
 use Rattle.std.proofs.lemmas.List.Elements.{All-contains}
 use Rattle.clause_check.specs.declared.literal.Lit.{Lit}
 use Rattle.clause_check.specs.Clauses.{negated}
@@ -6,8 +6,11 @@ use Rattle.clause_check.specs.Derivations.{clauses_of, clause_at, IsClauseAt}
 use Rattle.clause_check.proofs.RefuteLemmas.{false_known, true_known, known_false, cases_lit}
 use Rattle.cdcl.specs.Trails.{lits_of}
 use Rattle.cdcl.proofs.TrailLemmas.{avoids_from_free}
-use Rattle.cdcl.proofs.VisitLemmas.{rests_from, apart_in, false_otherwise, among_leaves}
+use Rattle.cdcl.proofs.VisitLemmas.{rests_from, apart_in, contains_place, none_other, false_otherwise, among_leaves}
 use Rattle.cdcl.proofs.solver.look_for.Goals as goal
+
+abbrev z : Lit
+z = record { var = 0; negative = false }
 
 pub returns-then-is_true : goal.returns-then-is_true
 returns-then-is_true c =
@@ -20,12 +23,15 @@ returns-in-Some-find_other c =
     let s = c.args.search.now in
     let at = subst (λ b. IsClauseAt c.args.cnf.now.vars (clauses_of c.args.cnf.now.clauses.items b) c.args.number c.clause_at-clause.result.now) c.as_slice.ensures.value c.clause_at-clause.ensures in
     let found = c.in-Some-find_other.ensures in
+    let clause = c.clause_at-clause.result.now in
+    let first = get_or clause c.in-Some-find_other.place z in
+    let among = contains_place clause c.in-Some-find_other.place z found.within in
     record {
       leaves = c.in-Some.ensures;
-      in_range = All-contains (λ (l : Lit). l.var < c.args.cnf.now.vars) c.clause_at-clause.result.now c.in-Some-find_other.lit at.in_range found.0;
-      among = subst (λ k. Contains k c.in-Some-find_other.lit) at.is found.0;
-      apart = found.1;
-      not_false = λ h. found.2 (known_false c.values-values.result.now (lits_of s.trail.entries) c.values-values.ensures.shows c.in-Some-find_other.lit h);
+      in_range = All-contains (λ (l : Lit). l.var < c.args.cnf.now.vars) clause first at.in_range among;
+      among = subst (λ k. Contains k first) at.is among;
+      apart = found.apart z;
+      not_false = λ h. found.not_false z (known_false c.values-values.result.now (lits_of s.trail.entries) c.values-values.ensures.shows first h);
     }
 
 pub returns-then-is_free : goal.returns-then-is_free
@@ -43,7 +49,7 @@ returns-then-is_free c =
         among = among;
         others = λ m h ne.
             let here = subst (λ k. Contains k m) (sym at.is) h in
-            false_known values (lits_of s.trail.entries) shows m (c.in-None.ensures m here (apart_in clause other m at.distinct (subst (λ k. Contains k other) (sym at.is) among) here ne));
+            false_known values (lits_of s.trail.entries) shows m (none_other clause other.var values c.in-None.ensures m here (apart_in clause other m at.distinct (subst (λ k. Contains k other) (sym at.is) among) here ne));
       };
     }
 
@@ -62,6 +68,6 @@ returns-else-is_free c =
             (false_known values (lits_of s.trail.entries) shows other (false_otherwise values other (λ t. let f : c.is_true.result ≡ _ = c.is_true.ensures.1 t in let g = c.if-is_true.false in cc) (λ t. let f : c.is_free.result ≡ _ = c.is_free.ensures.1 t in let g = c.if-is_free.false in cc)))
         | inr ne ↦
             let here = subst (λ k. Contains k m) (sym at.is) h in
-            false_known values (lits_of s.trail.entries) shows m (c.in-None.ensures m here (apart_in clause other m at.distinct (subst (λ k. Contains k other) (sym at.is) among) here ne))
+            false_known values (lits_of s.trail.entries) shows m (none_other clause other.var values c.in-None.ensures m here (apart_in clause other m at.distinct (subst (λ k. Contains k other) (sym at.is) among) here ne))
       ];
     }
