@@ -1,0 +1,4 @@
+//! Lengths, signs and values of expressions.
+#![tactic(auto)]
+
+mod operators;
