@@ -1,11 +1,11 @@
 -- The operators by what they make of their operands' numbers (IEEE 1364-2005, section 5.1 and table 5-22). The crate's lemmas show that
 -- these are the operators of vlog_tree's definition.
-use Rattle.std.specs.Prelude.{ℕ, ◌+◌, ◌-◌, ◌*◌, ◌/◌, ◌%◌, ◌^◌, ◌&&◌, ◌||◌, not, nat_eq, Bool, true, false, ℤ, pos, int_lt, int_le, int_div, int_rem, bit_and, bit_or, bit_xor, count_ones, if◌then◌else◌}
+use Rattle.std.specs.Prelude.{◌≡◌, ℕ, ◌+◌, ◌-◌, ◌*◌, ◌/◌, ◌%◌, ◌^◌, ◌&&◌, ◌||◌, not, nat_eq, Bool, true, false, ℤ, pos, int_lt, int_le, int_div, int_rem, max, min, bit_and, bit_or, bit_xor, count_ones, if◌then◌else◌}
 use Rattle.vlog_tree.specs.declared.expr.Binary.{Binary}
 use Rattle.vlog_tree.specs.declared.expr.Binary.TheVariants as b
 use Rattle.vlog_tree.specs.declared.expr.Unary.{Unary}
 use Rattle.vlog_tree.specs.declared.expr.Unary.TheVariants as u
-use Rattle.vlog_tree.specs.Value.{is_negative}
+use Rattle.vlog_tree.specs.Value.{is_negative, integer, cut, bit}
 use Rattle.vlog_value.specs.declared.operators.Family.{Family}
 use Rattle.vlog_value.specs.declared.operators.Family.TheVariants as f
 
@@ -102,3 +102,93 @@ reduction_of u.ReduceNor n x = nat_eq x 0
 reduction_of u.ReduceXor n x = nat_eq (count_ones x % 2) 1
 reduction_of u.ReduceXnor n x = nat_eq (count_ones x % 2) 0
 reduction_of op n x = false
+
+-- ---- where an operator of a family takes its operands, of m and n bits and with the signs t and u, in an expression of L bits and the sign s
+
+abbrev pub left_width : Family → ℕ → ℕ → ℕ → ℕ
+left_width f.Arithmetic L m n = L
+left_width f.Division L m n = L
+left_width f.Shift L m n = L
+left_width f.Order L m n = max m n
+left_width f.Equality L m n = max m n
+left_width f.Logic L m n = m
+
+abbrev pub right_width : Family → ℕ → ℕ → ℕ → ℕ
+right_width f.Arithmetic L m n = L
+right_width f.Division L m n = L
+right_width f.Shift L m n = n
+right_width f.Order L m n = max m n
+right_width f.Equality L m n = max m n
+right_width f.Logic L m n = n
+
+abbrev pub left_sign : Family → Bool → Bool → Bool → Bool
+left_sign f.Arithmetic s t u = s
+left_sign f.Division s t u = s
+left_sign f.Shift s t u = s
+left_sign f.Order s t u = t && u
+left_sign f.Equality s t u = t && u
+left_sign f.Logic s t u = t
+
+abbrev pub right_sign : Family → Bool → Bool → Bool → Bool
+right_sign f.Arithmetic s t u = s
+right_sign f.Division s t u = s
+right_sign f.Shift s t u = u
+right_sign f.Order s t u = t && u
+right_sign f.Equality s t u = t && u
+right_sign f.Logic s t u = u
+
+-- the length and the sign of the whole
+abbrev pub joined_width : Family → ℕ → ℕ → ℕ
+joined_width f.Arithmetic m n = max m n
+joined_width f.Division m n = max m n
+joined_width f.Shift m n = m
+joined_width f m n = 1
+
+abbrev pub joined_sign : Family → Bool → Bool → Bool
+joined_sign f.Arithmetic t u = t && u
+joined_sign f.Division t u = t && u
+joined_sign f.Shift t u = t
+joined_sign f t u = false
+
+-- its number, where the operands have the numbers x and y, the left one at k bits and the sign t
+abbrev pub joined_number : Family → Binary → ℕ → Bool → ℕ → Bool → ℕ → ℕ → ℕ
+joined_number f.Arithmetic op L s k t x y = arithmetic_of op L x y
+joined_number f.Division op L s k t x y = cut L (quotient_of op (integer s L x) (integer s L y))
+joined_number f.Shift op L s k t x y = shift_of op L s x (min y L)
+joined_number f.Order op L s k t x y = bit (order_of op (integer t k x) (integer t k y))
+joined_number f.Equality op L s k t x y = bit (equality_of op x y)
+joined_number f.Logic op L s k t x y = bit (logic_of op (not (nat_eq x 0)) (not (nat_eq y 0)))
+
+-- whether it is defined, where the operands are so by these tests and y is the right one's number
+abbrev pub is_joined : Family → Bool → Bool → ℕ → Bool
+is_joined f.Arithmetic a b y = a && b
+is_joined f.Division a b y = a && b && not (nat_eq y 0)
+is_joined f.Shift a b y = a && b
+is_joined f.Order a b y = a && b
+is_joined f.Equality a b y = a && b
+is_joined f.Logic a b y = a && b
+
+-- the same of a unary operator
+abbrev pub inner_width : Unary → ℕ → ℕ → ℕ
+inner_width op L m = if is_reduction op then m else L
+
+abbrev pub inner_sign : Unary → Bool → Bool → Bool
+inner_sign op s t = if is_reduction op then t else s
+
+abbrev pub made_width : Unary → ℕ → ℕ
+made_width op m = if is_reduction op then 1 else m
+
+abbrev pub made_sign : Unary → Bool → Bool
+made_sign op t = if is_reduction op then false else t
+
+abbrev pub made_number : Unary → ℕ → ℕ → ℕ
+made_number op n x = if is_reduction op then bit (reduction_of op n x) else sign_change_of op n x
+
+-- the operands' lengths suit the expression's
+abbrev pub PlacesFit : Family → ℕ → ℕ → ℕ → Type 0
+PlacesFit f.Arithmetic L m n = (m ≡ L) × (n ≡ L)
+PlacesFit f.Division L m n = (m ≡ L) × (n ≡ L)
+PlacesFit f.Shift L m n = m ≡ L
+PlacesFit f.Order L m n = m ≡ n
+PlacesFit f.Equality L m n = m ≡ n
+PlacesFit f.Logic L m n = Unit {0}

@@ -1,9 +1,9 @@
 // What operators make of words.
 
-ghost use Rattle.std.specs.Prelude.{◌≡◌, ◌≢◌, ◌+◌, ◌-◌, ◌%◌, ◌^◌, ◌≤◌, ◌<◌, min, nat_eq, nat_le, not, true, false, Bool, int_lt, ℤ, pos, negsuc, ◌≤ℤ◌, ◌<ℤ◌, if◌then◌else◌};
+ghost use Rattle.std.specs.Prelude.{◌≡◌, ◌≢◌, ◌+◌, ◌-◌, ◌%◌, ◌^◌, ◌≤◌, ◌<◌, min, max, ◌&&◌, IfSome, IfNone, nat_eq, nat_le, not, true, false, Bool, int_lt, ℤ, pos, negsuc, ◌≤ℤ◌, ◌<ℤ◌, if◌then◌else◌};
 ghost use Rattle.word_core.specs.Words.{word, flag, IsWord};
 ghost use Rattle.vlog_tree.specs.Value.{integer, cut, bit, extend};
-ghost use Rattle.vlog_value.specs.Operators.{family_of, arithmetic_of, quotient_of, shift_of, order_of, equality_of, logic_of, is_reduction, sign_change_of, reduction_of};
+ghost use Rattle.vlog_value.specs.Operators.{family_of, arithmetic_of, quotient_of, shift_of, order_of, equality_of, logic_of, is_reduction, sign_change_of, reduction_of, left_width, right_width, left_sign, right_sign, joined_width, joined_sign, joined_number, is_joined, inner_width, inner_sign, made_width, made_sign, made_number, PlacesFit};
 
 use vlog_tree::{Binary, Unary};
 use word_core::Word;
@@ -274,4 +274,124 @@ pub fn quotient(op: Binary, a: Word, b: Word, signed: bool) -> Word
         Binary::Rem => cut(a.width(), dividend % divisor),
         _ => unreachable!(),
     }
+}
+
+/// The length and the sign at which an operator of this family takes its left operand, from those of the expression and of both operands.
+pub fn left_place(family: Family, here: (u8, bool), left: (u8, bool), right: (u8, bool)) -> (u8, bool)
+    ensures width { result.0 ≡ left_width family here.0 left.0 right.0 }
+    ensures sign { result.1 ≡ left_sign family here.1 left.1 right.1 }
+{
+    match family {
+        Family::Arithmetic | Family::Division | Family::Shift => here,
+        Family::Order | Family::Equality => longer(left, right),
+        Family::Logic => left,
+    }
+}
+
+/// The same of its right operand.
+pub fn right_place(family: Family, here: (u8, bool), left: (u8, bool), right: (u8, bool)) -> (u8, bool)
+    ensures width { result.0 ≡ right_width family here.0 left.0 right.0 }
+    ensures sign { result.1 ≡ right_sign family here.1 left.1 right.1 }
+{
+    match family {
+        Family::Arithmetic | Family::Division => here,
+        Family::Order | Family::Equality => longer(left, right),
+        Family::Shift | Family::Logic => right,
+    }
+}
+
+/// The longer length, and whether both are signed.
+pub fn longer(left: (u8, bool), right: (u8, bool)) -> (u8, bool)
+    ensures width { result.0 ≡ max left.0 right.0 }
+    ensures sign { result.1 ≡ (left.1 && right.1) }
+{
+    (left.0.max(right.0), left.1 && right.1)
+}
+
+/// The length and the sign of two operands' expression by itself.
+pub fn joined_shape(family: Family, left: (u8, bool), right: (u8, bool)) -> (u8, bool)
+    ensures width { result.0 ≡ joined_width family left.0 right.0 }
+    ensures sign { result.1 ≡ joined_sign family left.1 right.1 }
+{
+    match family {
+        Family::Arithmetic | Family::Division => longer(left, right),
+        Family::Shift => left,
+        Family::Order | Family::Equality | Family::Logic => (1, false),
+    }
+}
+
+// One bit at a length.
+fn one_bit(test: bool, length: u8) -> Word
+    requires some { 1 ≤ length }
+    requires most { length ≤ 64 }
+    ensures { result ≡ record { width = length; value = bit test } }
+{
+    extended(flag(test), length, false)
+}
+
+/// The word of an operator at the length and the sign of its expression, from those of its operands, the left one being taken at the
+/// sign `sign`; none where the right one is a divisor and 0.
+pub fn joined(op: Binary, here: (u8, bool), sign: bool, left: Word, right: Word) -> Option<Word>
+    requires some { 1 ≤ here.0 }
+    requires most { here.0 ≤ 64 }
+    requires fits { PlacesFit (family_of op) here.0 left.width right.width }
+    ensures some { IfSome result (λ w. (is_joined (family_of op) true true right.value ≡ true) × (w ≡ record { width = here.0; value = joined_number (family_of op) op here.0 here.1 left.width sign left.value right.value })) }
+    ensures none { IfNone result (is_joined (family_of op) true true right.value ≡ false) }
+{
+    match family_of(op) {
+        Family::Arithmetic => Some(arithmetic(op, left, right)),
+        Family::Division => divided(op, left, right, here.1),
+        Family::Shift => Some(shifted(op, left, right, here.1)),
+        Family::Order => Some(one_bit(is_ordered(op, left, right, sign), here.0)),
+        Family::Equality => Some(one_bit(is_equal(op, left, right), here.0)),
+        Family::Logic => {
+            let both = holds(op, left.value() != 0, right.value() != 0);
+            Some(one_bit(both, here.0))
+        }
+    }
+}
+
+fn divided(op: Binary, left: Word, right: Word, signed: bool) -> Option<Word>
+    requires family { family_of op ≡ Family.Division }
+    requires same { left.width ≡ right.width }
+    ensures some { IfSome result (λ w. (nat_eq right.value 0 ≡ false) × (w ≡ record { width = left.width; value = joined_number Family.Division op left.width signed left.width signed left.value right.value })) }
+    ensures none { IfNone result (nat_eq right.value 0 ≡ true) }
+{
+    if right.value() == 0 {
+        return None;
+    }
+    Some(quotient(op, left, right, signed))
+}
+
+/// Where a unary operator takes its operand, from the length and the sign of the expression and the operand's.
+pub fn inner_place(op: Unary, here: (u8, bool), inner: (u8, bool)) -> (u8, bool)
+    ensures width { result.0 ≡ inner_width op here.0 inner.0 }
+    ensures sign { result.1 ≡ inner_sign op here.1 inner.1 }
+{
+    if is_reduction(op) { inner } else { here }
+}
+
+/// The length and the sign of a unary operator's expression by itself.
+pub fn made_shape(op: Unary, inner: (u8, bool)) -> (u8, bool)
+    ensures width { result.0 ≡ made_width op inner.0 }
+    ensures sign { result.1 ≡ made_sign op inner.1 }
+{
+    if is_reduction(op) {
+        (1, false)
+    } else {
+        inner
+    }
+}
+
+/// The word of a unary operator at a length.
+pub fn made(op: Unary, length: u8, inner: Word) -> Word
+    requires some { 1 ≤ length }
+    requires most { length ≤ 64 }
+    requires fits { is_reduction op ≡ false → inner.width ≡ length }
+    ensures { result ≡ record { width = length; value = made_number op inner.width inner.value } }
+{
+    if is_reduction(op) {
+        return one_bit(reduction(op, inner), length);
+    }
+    sign_change(op, inner)
 }
