@@ -230,7 +230,9 @@ pub fn holds(op: Binary, a: bool, b: bool) -> bool
 
 /// The integer that a word stands for by its sign.
 pub fn integer(a: Word, signed: bool) -> i128
-    ensures { result ≡ integer signed a.width a.value }
+    ensures value { result ≡ integer signed a.width a.value }
+    ensures low { negsuc (2 ^ 64) ≤ℤ result }
+    ensures high { result <ℤ pos (2 ^ 64) }
 {
     if signed && is_top_set(a) {
         return -1 - i128::from(Word::not(a).value());
