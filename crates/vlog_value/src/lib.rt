@@ -4,3 +4,5 @@
 mod operators;
 mod selects;
 mod names;
+mod evaluate;
+pub use evaluate::{own_value, shape_of, value};

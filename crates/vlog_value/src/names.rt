@@ -1,8 +1,9 @@
 // Numbers and names.
 
-ghost use Rattle.std.specs.Prelude.{◌≡◌, ◌^◌, ◌<◌, ◌≤◌, IfSome, IfNone, Some, None};
+ghost use Rattle.std.specs.Prelude.{◌≡◌, ◌^◌, ◌<◌, ◌≤◌, IfSome, IfNone, Some, None, codes, decimal, ◌++◌, [], ◌∷◌};
+ghost use Rattle.std.specs.Str.{bytes_eq};
 ghost use Rattle.std.specs.Bool.{MatchBool};
-ghost use Rattle.vlog_tree.specs.Valuation.{IsLength, meaning_of, meant, named, depth_of};
+ghost use Rattle.vlog_tree.specs.Valuation.{IsLength, meaning_of, meant, named, depth_of, word_name};
 ghost use Rattle.vlog_tree.specs.Value.{number_width, Stands};
 
 use vlog_tree::{Constant, Entry, Name, Number, Valuation};
@@ -55,4 +56,57 @@ pub fn depth_of(name: &Name, valuation: &Valuation) -> u8
         Some(entry) => entry.depth,
         None => 0,
     }
+}
+
+// Whether bytes spell a number in decimal digits.
+fn is_decimal(bytes: &[u8], number: u64) -> bool
+    ensures { result ≡ bytes_eq bytes.now (decimal number) }
+{
+    let length = bytes.len();
+    if length == 0 {
+        return false;
+    }
+    let last = length - 1;
+    if u64::from(bytes[last]) != 48 + number % 10 {
+        return false;
+    }
+    if number < 10 {
+        return last == 0;
+    }
+    is_decimal(&bytes[..last], number / 10)
+}
+
+fn is_same(a: &[u8], b: &[u8]) -> bool
+    ensures { result ≡ bytes_eq a.now b.now }
+{
+    a == b
+}
+
+// Whether bytes are the name of a memory's word.
+fn is_word_name(bytes: &[u8], name: &[u8], index: u64) -> bool
+    ensures { result ≡ bytes_eq bytes.now (name.now ++ codes "$" ++ decimal index) }
+{
+    let split = name.len();
+    if bytes.len() <= split {
+        return false;
+    }
+    if !is_same(&bytes[..split], name) {
+        return false;
+    }
+    if bytes[split] != b'$' {
+        return false;
+    }
+    is_decimal(&bytes[split + 1..], index)
+}
+
+// The value of a memory's word, and 0 where it doesn't stand in the valuation.
+pub fn word_value(name: &Name, index: u64, valuation: &Valuation) -> u64
+    ensures { result ≡ (named valuation.now (word_name name.now index)).value }
+{
+    for entry in valuation.entries() {
+        if entry.offset == name.offset && is_word_name(entry.name.bytes(), name.text.bytes(), index) {
+            return entry.value;
+        }
+    }
+    0
 }
