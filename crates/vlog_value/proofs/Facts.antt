@@ -1,5 +1,5 @@
 -- Lengths and signs of each form.
-use Rattle.std.proofs.Common.{◌≡◌, ℕ, zero, suc, ◌+◌, ◌*◌, ◌^◌, ◌≤◌, max, Bool, true, false, refl, sym, ap, ◌∙◌, subst, List, [], ◌∷◌, ◌&&◌, IsTrue, Option, Some, None, ⊎_elim, arith, ℤ, pos, negsuc, ◌≤ℤ◌, ◌<ℤ◌}
+use Rattle.std.proofs.Common.{◌≡◌, ℕ, zero, suc, ◌+◌, ◌*◌, ◌≤◌, max, Bool, true, false, refl, sym, ap, ◌∙◌, List, [], ◌∷◌, ◌&&◌, IsTrue, Option, Some, None, arith, ℤ}
 use Rattle.std.specs.Prelude.{nat_eq, if◌then◌else◌, IfSome, IfNone}
 use Rattle.vlog_tree.specs.declared.expr.Binary.{Binary}
 use Rattle.vlog_tree.specs.declared.expr.Cast.{Cast}
@@ -12,13 +12,12 @@ use Rattle.vlog_tree.specs.declared.expr.Span.TheVariants as w
 use Rattle.vlog_tree.specs.declared.expr.Unary.{Unary}
 use Rattle.vlog_tree.specs.declared.valuation.Entry.{Entry}
 use Rattle.vlog_tree.specs.Valuation.{IsLength, named, depth_of}
-use Rattle.vlog_tree.specs.Value.{Operand, operand_of, bit_of, word_of, part_of, cast_of, cast_sign, unary_of, binary_of, choice_of, repeated, copies, joined, own, own_defined, own_integer, own_value, integer, width_of, sign_of, value_of, part_width, natural, IsFormed, IsDefined, Stands, IsPart}
+use Rattle.vlog_tree.specs.Value.{Operand, operand_of, bit_of, word_of, part_of, cast_sign, repeated, copies, own_defined, own_integer, integer, width_of, sign_of, part_width, natural, IsFormed, IsDefined, Stands, IsPart}
 use Rattle.word_core.specs.Words.{Bits}
 use Rattle.vlog_value.specs.declared.operators.Family.{Family}
 use Rattle.vlog_value.specs.declared.operators.Family.TheVariants as f
 use Rattle.vlog_value.specs.Operators.{family_of, joined_width, joined_sign, is_reduction, made_width, made_sign}
-use Rattle.vlog_value.specs.Shapes.{HasShape, HasOwn, HasBound, NeedsBound, FitsPart, HasRow, each_row, each_formed}
-use Rattle.vlog_value.proofs.Numbers.{bool_cases}
+use Rattle.vlog_value.specs.Shapes.{HasShape, HasOwn, HasBound, NeedsBound, FitsPart, HasRow, each_row}
 use Rattle.vlog_value.proofs.Forms.{select_operand, part_operand, constant_select_operand, constant_part_operand, cast_operand, paren_operand, unary_operand, binary_operand, choice_operand, concat_operand, repeat_operand, formed_select, formed_part, formed_constant_select, formed_constant_part, formed_cast, formed_paren, formed_unary, formed_binary, formed_choice, formed_concat, formed_repeat, paren_formed}
 use Rattle.vlog_value.proofs.Families.{binary_width, binary_sign, unary_width, unary_sign}
 

@@ -1,14 +1,13 @@
 -- The operators of vlog_tree's definition by their families.
-use Rattle.std.proofs.Common.{◌≡◌, ℕ, Bool, true, false, refl, ap, ◌∙◌}
-use Rattle.std.specs.Prelude.{if◌then◌else◌}
+use Rattle.std.proofs.Common.{◌≡◌, ℕ, Bool, refl, ap, ◌∙◌}
 use Rattle.vlog_tree.specs.declared.expr.Binary.{Binary}
 use Rattle.vlog_tree.specs.declared.expr.Binary.TheVariants as b
 use Rattle.vlog_tree.specs.declared.expr.Unary.{Unary}
 use Rattle.vlog_tree.specs.declared.expr.Unary.TheVariants as u
-use Rattle.vlog_tree.specs.Value.{Operand, unary_of, binary_of, context, alone, in_context, divided, compared, matched, both_alone, shifted}
+use Rattle.vlog_tree.specs.Value.{Operand, unary_of, binary_of, in_context, divided, compared, matched, both_alone, shifted}
 use Rattle.vlog_value.specs.declared.operators.Family.{Family}
 use Rattle.vlog_value.specs.declared.operators.Family.TheVariants as f
-use Rattle.vlog_value.specs.Operators.{family_of, arithmetic_of, quotient_of, shift_of, order_of, equality_of, logic_of, is_reduction, sign_change_of, reduction_of, left_width, right_width, left_sign, right_sign, joined_width, joined_sign, joined_number, is_joined, inner_width, inner_sign, made_width, made_sign, made_number}
+use Rattle.vlog_value.specs.Operators.{family_of, arithmetic_of, quotient_of, shift_of, order_of, equality_of, logic_of, left_width, right_width, left_sign, right_sign, joined_width, joined_sign, joined_number, is_joined, inner_width, inner_sign, made_width, made_sign, made_number}
 
 abbrev pub by_family : Family → Binary → Operand → Operand → Operand
 by_family f.Arithmetic op a c = in_context a c (λ n s x y. arithmetic_of op n x y)

@@ -1,5 +1,5 @@
 -- Each form of an expression, as the code reads it; and what the definitions say of it.
-use Rattle.std.proofs.Common.{◌≡◌, ℕ, Bool, true, false, refl, sym, ap, ◌∙◌, List, [], ◌∷◌, ◌&&◌, IsTrue}
+use Rattle.std.proofs.Common.{◌≡◌, refl, ap, ◌∙◌, List, IsTrue}
 use Rattle.std.specs.Prelude.{nat_eq, if◌then◌else◌}
 use Rattle.vlog_tree.specs.declared.expr.Binary.{Binary}
 use Rattle.vlog_tree.specs.declared.expr.Cast.{Cast}
@@ -12,7 +12,7 @@ use Rattle.vlog_tree.specs.declared.expr.Span.{Span}
 use Rattle.vlog_tree.specs.declared.expr.Unary.{Unary}
 use Rattle.vlog_tree.specs.declared.valuation.Entry.{Entry}
 use Rattle.vlog_tree.specs.Valuation.{IsLength, named, depth_of}
-use Rattle.vlog_tree.specs.Value.{Operand, operand_of, row_of, bit_of, word_of, part_of, cast_of, unary_of, binary_of, choice_of, repeated, joined, own_defined, IsFormed, AllFormed, Stands, IsPart}
+use Rattle.vlog_tree.specs.Value.{operand_of, row_of, bit_of, word_of, part_of, cast_of, unary_of, binary_of, choice_of, repeated, joined, own_defined, IsFormed, AllFormed, Stands, IsPart}
 use Rattle.vlog_value.specs.Shapes.{each_row, each_formed}
 use denote.Hole.Carrier
 

@@ -1,11 +1,11 @@
 -- One more part of a concatenation.
-use Rattle.std.proofs.Common.{◌≡◌, ℕ, suc, ◌+◌, ◌*◌, ◌^◌, ◌<◌, ◌≤◌, Bool, true, false, refl, sym, ap, ◌∙◌, List, [], ◌∷◌, ◌&&◌, IsTrue, drop, get_or, length, add-one, arith}
+use Rattle.std.proofs.Common.{◌≡◌, ℕ, suc, ◌+◌, ◌*◌, ◌^◌, ◌<◌, Bool, true, false, refl, sym, ap, ◌∙◌, List, ◌∷◌, ◌&&◌, IsTrue, drop, get_or, length, add-one, arith}
 use Rattle.std.proofs.Math.Nat.{add-mul, mul_assoc}
 use Rattle.std.proofs.Math.Seq.{drop-cons}
 use Rattle.std.proofs.lemmas.Nat.{pow-add}
 use Rattle.vlog_tree.specs.declared.expr.Expr.{Expr}
 use Rattle.vlog_tree.specs.declared.valuation.Entry.{Entry}
-use Rattle.vlog_tree.specs.Value.{Operand, operand_of, own, own_defined, joined}
+use Rattle.vlog_tree.specs.Value.{operand_of, own, own_defined}
 use Rattle.word_core.specs.Words.{Bits}
 use Rattle.vlog_value.specs.Shapes.{HasOwn, each_row, each_formed}
 

@@ -1,12 +1,12 @@
 -- What operators make of words, as vlog_tree's definition says it of numbers.
-use Rattle.std.proofs.Common.{◌≡◌, ℕ, suc, ◌+◌, ◌-◌, ◌*◌, ◌/◌, ◌%◌, ◌^◌, ◌<◌, ◌≤◌, ◌&&◌, not, min, Bool, true, false, inl, inr, ◌⊎◌, ⊎_elim, sym, ap, ◌∙◌, refl, subst, arith, cond}
+use Rattle.std.proofs.Common.{◌≡◌, ℕ, ◌+◌, ◌-◌, ◌*◌, ◌/◌, ◌%◌, ◌^◌, ◌<◌, ◌≤◌, not, Bool, true, false, sym, ap, ◌∙◌, refl, subst, arith}
 use Rattle.std.specs.Prelude.{nat_le, nat_lt, nat_eq, if◌then◌else◌, ℤ, pos, negsuc, int_lt, int_le}
 use Rattle.std.proofs.Math.Pow.{pow_mono}
 use Rattle.std.proofs.lemmas.Bool.{leb-true, leb-false}
 use Rattle.std.proofs.lemmas.Bool.Decides.{nat_tests}
-use Rattle.word_core.specs.Words.{Bits, IsWord, word, turned, sign_of, reach, sub_of, shr_of, sar_of, sext_of, zext_of}
-use Rattle.vlog_tree.specs.Value.{is_negative, extend, integer, cut}
-use Rattle.vlog_value.proofs.Numbers.{bool_cases, twice, top_bit, top_times, low_of, high_of}
+use Rattle.word_core.specs.Words.{Bits, IsWord, turned, reach, shr_of, sar_of, sext_of, zext_of}
+use Rattle.vlog_tree.specs.Value.{is_negative, extend, integer}
+use Rattle.vlog_value.proofs.Numbers.{twice, top_bit, top_times, low_of, high_of}
 
 -- a word below twice its top bit
 below_twice : (n x : ℕ) → 0 < n → x < 2 ^ n → x < 2 ^ (n - 1) + 2 ^ (n - 1)

@@ -1,5 +1,5 @@
 -- Values of each form.
-use Rattle.std.proofs.Common.{◌≡◌, ℕ, zero, suc, ◌+◌, ◌*◌, ◌^◌, ◌%◌, ◌≤◌, ◌<◌, max, Bool, true, false, refl, sym, ap, ◌∙◌, subst, List, [], ◌∷◌, ◌&&◌, IsTrue, Option, Some, None, ⊎_elim, arith, ℤ, pos, negsuc}
+use Rattle.std.proofs.Common.{◌≡◌, ℕ, zero, suc, ◌+◌, ◌*◌, ◌^◌, ◌%◌, ◌≤◌, max, Bool, true, false, refl, sym, ap, ◌∙◌, List, [], ◌∷◌, ◌&&◌, IsTrue, Option, Some, None, arith, ℤ}
 use Rattle.std.specs.Prelude.{nat_eq, nat_lt, if◌then◌else◌, IfSome, IfNone}
 use Rattle.vlog_tree.specs.declared.expr.Binary.{Binary}
 use Rattle.vlog_tree.specs.declared.expr.Cast.{Cast}
@@ -12,15 +12,14 @@ use Rattle.vlog_tree.specs.declared.expr.Span.TheVariants as w
 use Rattle.vlog_tree.specs.declared.expr.Unary.{Unary}
 use Rattle.vlog_tree.specs.declared.valuation.Entry.{Entry}
 use Rattle.vlog_tree.specs.Valuation.{IsLength, named, depth_of, word_name}
-use Rattle.vlog_tree.specs.Value.{Operand, operand_of, bit_of, word_of, part_of, cast_of, unary_of, binary_of, choice_of, repeated, copies, joined, own, own_defined, own_integer, own_value, integer, extend, width_of, sign_of, value_of, part_width, part_low, bits_of, natural, IsFormed, IsDefined, Stands, IsPart}
+use Rattle.vlog_tree.specs.Value.{Operand, operand_of, bit_of, word_of, part_of, repeated, copies, own, own_defined, own_integer, integer, extend, width_of, sign_of, value_of, bits_of, natural, IsDefined, IsPart}
 use Rattle.word_core.specs.Words.{Bits}
 use Rattle.vlog_value.specs.declared.operators.Family.{Family}
 use Rattle.vlog_value.specs.declared.operators.Family.TheVariants as f
 use Rattle.vlog_value.specs.Operators.{family_of, is_joined, joined_number, joined_width, left_width, right_width, left_sign, right_sign, is_reduction, inner_width, inner_sign, made_width, made_number, PlacesFit}
-use Rattle.vlog_value.specs.Shapes.{HasShape, HasOwn, HasValue, IsReady, FitsPart, part_word, select_word, HasRowWord, each_row, each_formed, copy_number}
-use Rattle.vlog_value.proofs.Numbers.{bool_cases}
+use Rattle.vlog_value.specs.Shapes.{HasShape, HasOwn, HasValue, IsReady, FitsPart, part_word, select_word, HasRowWord, each_row, copy_number}
 use Rattle.vlog_value.proofs.Facts.{both_true, and_true, own_is, own_defined_is, copies_width}
-use Rattle.vlog_value.proofs.Forms.{select_operand, part_operand, constant_select_operand, constant_part_operand, cast_operand, paren_operand, unary_operand, binary_operand, choice_operand, concat_operand, repeat_operand, select_formed, part_formed, constant_select_formed, constant_part_formed, cast_formed, paren_formed, unary_formed, binary_formed, choice_formed, concat_formed, repeat_formed}
+use Rattle.vlog_value.proofs.Forms.{select_operand, part_operand, constant_select_operand, constant_part_operand, cast_operand, paren_operand, unary_operand, binary_operand, choice_operand, concat_operand, repeat_operand, paren_formed, unary_formed, binary_formed, choice_formed}
 use Rattle.vlog_value.proofs.Families.{binary_width, binary_number, binary_defined, unary_width, unary_number, unary_defined}
 
 -- ---- what has to be defined of the parts

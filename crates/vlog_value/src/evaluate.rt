@@ -27,7 +27,6 @@ fn select_shape(vector: Constant, depth: u8) -> (u8, bool)
     if depth == 0 { (1, false) } else { (vector.width, false) }
 }
 
-#[tactic(auto, using(crate::proofs::Facts::unformed, crate::proofs::Values::choice_ready, crate::proofs::WordNames::differs))]
 fn is_signed(cast: Cast) -> bool
     ensures { result ≡ cast_sign cast }
 {

@@ -1,8 +1,9 @@
-//! Lengths, signs and values of expressions.
+//! The evaluator: lengths, signs and values of expressions, by IEEE 1364-2005 sections 5.1, 5.2, 5.4 and 5.5. It takes no memory.
 #![tactic(auto)]
 
+mod evaluate;
+mod names;
 mod operators;
 mod selects;
-mod names;
-mod evaluate;
+
 pub use evaluate::{own_value, shape_of, value};

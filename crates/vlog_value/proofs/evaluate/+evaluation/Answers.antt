@@ -1,12 +1,12 @@
 -- What each form of an expression gives.
-use Rattle.std.proofs.Common.{◌≡◌, ap, sym, ◌∙◌, to_z, of_z, arith}
+use Rattle.std.proofs.Common.{◌≡◌, to_z, of_z, arith}
 use Rattle.std.proofs.lemmas.Int.{ints}
 use mir.Syntax.{w128}
-use Rattle.vlog_value.proofs.Forms.{select_formed, part_formed, constant_select_formed, constant_part_formed, cast_formed, paren_formed, unary_formed, binary_formed, choice_formed, concat_formed, repeat_formed}
-use Rattle.vlog_value.proofs.Facts.{unformed, undefined, paren_some, paren_none, needs_bound, needs_second, part_fits, part_shape, part_has, constant_part_has, select_has, constant_select_has, cast_has, paren_has, unary_has, binary_has, choice_has, concat_has, repeat_has, row_short, repeat_fits}
+use Rattle.vlog_value.proofs.Forms.{select_formed, part_formed, constant_select_formed, constant_part_formed, cast_formed, unary_formed, binary_formed, choice_formed, concat_formed, repeat_formed}
+use Rattle.vlog_value.proofs.Facts.{unformed, undefined, paren_some, paren_none, needs_bound, needs_second, part_fits, part_shape, part_has, constant_part_has, select_has, constant_select_has, cast_has, unary_has, binary_has, choice_has, concat_has, repeat_has, row_short, repeat_fits}
+use Rattle.vlog_value.proofs.Rows.{next_part, next_formed, next_defined, next_width, next_fits, next_number}
 use Rattle.vlog_tree.specs.Valuation.{named}
 use Rattle.vlog_tree.specs.Value.{operand_of}
-use Rattle.vlog_value.specs.Operators.{left_width}
 use Rattle.vlog_value.proofs.Values.{select_defined, constant_select_defined, part_defined, constant_part_defined, cast_defined, unary_defined_at, choice_defined, concat_defined, repeat_defined, constant_select_value, part_value_is, paren_value_some, paren_value_none, binary_some, binary_none, constant_part_value, part_ready, part_long, constant_part_long, select_value, select_long, cast_value, cast_long, paren_ready, unary_ready, made_fits_word, unary_value, binary_ready, taken_by, binary_left, binary_right, places_fit, choice_ready, choice_value, concat_value, concat_long, repeat_value, repeat_long, repeat_suits, shape_width, shape_sign, row_length}
 use Rattle.vlog_value.proofs.evaluate.+evaluation.Goals as goal
 
@@ -329,6 +329,12 @@ value_at-row-requires-in-Repeat t c = let p = (repeat_formed _ _ _ _ c.in-Repeat
 
 pub row_word-loop-item-preserved : goal.row_word-loop-item-preserved
 row_word-loop-item-preserved t c =
-    let q = c.item-item.is in
     let o = c.in_ok-low.ensures.some in
-    ?
+    let d = next_part c.args.items.now c.loop-item.item-index c.item-item.result c.item-item.result (omega arith) c.item-item.is in
+    record {
+      formed = next_formed _ _ _ _ d c.loop-item.invariant.formed;
+      defined = next_defined _ _ _ _ _ _ _ d o c.loop-item.invariant.defined;
+      width = next_width _ _ _ _ _ _ _ _ _ d o c.width.ensures c.loop-item.invariant.width;
+      fits = next_fits _ _ _ c.in_ok-low.field-0.word c.width.ensures c.appended-number.ensures.fits;
+      number = next_number _ _ _ _ _ _ _ _ _ d o c.appended-number.ensures.value c.loop-item.invariant.number;
+    }

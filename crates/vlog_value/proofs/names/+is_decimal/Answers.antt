@@ -1,4 +1,4 @@
-use Rattle.std.proofs.Common.{◌≡◌, ◌-◌, suc, length, sym, ◌∙◌, arith}
+use Rattle.std.proofs.Common.{◌-◌, length, sym, ◌∙◌, arith}
 use Rattle.vlog_value.proofs.WordNames.{no_digits, other_digit, one_digit, more_digits}
 use Rattle.vlog_value.proofs.names.+is_decimal.Goals as goal
 

@@ -1,4 +1,4 @@
-use Rattle.std.proofs.Common.{◌≡◌, ◌<◌, length, sym, ◌∙◌, ap, arith, decimal}
+use Rattle.std.proofs.Common.{length, sym, ◌∙◌, ap, arith, decimal}
 use Rattle.std.specs.Str.{bytes_eq}
 use Rattle.vlog_value.proofs.WordNames.{all_after, other_name, other_sign, word_digits}
 use Rattle.vlog_value.proofs.names.is_word_name.Goals as goal
