@@ -174,7 +174,7 @@ repeat_has v a items row tree y r i s n m is ya ri o iw h nn len =
     let h' = rw ri at h in
     let count : i ≡ own_integer (operand_of v a) = iw ∙ own_is v a y r s ya o in
     let wide : n ≡ (repeated (operand_of v a) (each_row v items)).width =
-        nn ∙ ap (λ j. natural i * j) h'.width ∙ ap (λ j. natural j * (each_row v items).width) count ∙ sym (copies_width (natural (own_integer (operand_of v a))) (each_row v items)) in
+    nn ∙ ap (λ j. natural i * j) h'.width ∙ ap (λ j. natural j * (each_row v items).width) count ∙ sym (copies_width (natural (own_integer (operand_of v a))) (each_row v items)) in
     record {
       formed = formed_repeat v a items tree is (own_formed v a y r s ya o, own_defined_is v a y r s ya o, h'.formed, rw wide at len);
       width = rw (is, width_of, repeat_operand) wide;
@@ -220,7 +220,8 @@ part_shape v k w.Fixed a b y z i j r s n ya zb h o jn f nn =
     let second : j ≡ own_integer (operand_of v b) = jn ∙ own_is v b z r s zb o in
     let f' = rw (first, second) at f in
     record {
-      first = rw ya at h.0; second = own_formed v b z r s zb o;
+      first = rw ya at h.0;
+      second = own_formed v b z r s zb o;
       suits = (and_true _ _ (rw ya at h.1) (own_defined_is v b z r s zb o), f'.0, f'.1);
       width = rw (first, second) at nn;
     }

@@ -12,26 +12,26 @@ use Rattle.vlog_value.proofs.Numbers.{bool_cases}
 down_64 : (x d : ℕ) → x < 2 ^ 64 → x / 2 ^ (min d 64) ≡ x / 2 ^ d
 down_64 x d lt =
     ⊎_elim
-      (λ (h : nat_le d 64 ≡ true).
-        let e : min d 64 ≡ d = omega (arith, leb-true d 64 h) in
-        ap (λ k. x / 2 ^ k) e)
-      (λ (h : nat_le d 64 ≡ false).
-        let l : 64 ≤ d = omega (arith, leb-false d 64 h) in
-        let e : min d 64 ≡ 64 = omega arith in
-        ap (λ k. x / 2 ^ k) e ∙ sym (shr_whole x 64 64 lt (omega arith)) ∙ shr_whole x d 64 lt l)
-      (bool_cases (nat_le d 64))
+    (λ (h : nat_le d 64 ≡ true).
+    let e : min d 64 ≡ d = omega (arith, leb-true d 64 h) in
+    ap (λ k. x / 2 ^ k) e)
+    (λ (h : nat_le d 64 ≡ false).
+    let l : 64 ≤ d = omega (arith, leb-false d 64 h) in
+    let e : min d 64 ≡ 64 = omega arith in
+    ap (λ k. x / 2 ^ k) e ∙ sym (shr_whole x 64 64 lt (omega arith)) ∙ shr_whole x d 64 lt l)
+    (bool_cases (nat_le d 64))
 
 up_64 : (x d n : ℕ) → n ≤ 64 → x * 2 ^ (min d 64) % 2 ^ n ≡ x * 2 ^ d % 2 ^ n
 up_64 x d n le =
     ⊎_elim
-      (λ (h : nat_le d 64 ≡ true).
-        let e : min d 64 ≡ d = omega (arith, leb-true d 64 h) in
-        ap (λ k. x * 2 ^ k % 2 ^ n) e)
-      (λ (h : nat_le d 64 ≡ false).
-        let l : n ≤ d = omega (arith, leb-false d 64 h) in
-        let e : min d 64 ≡ 64 = omega (arith, leb-false d 64 h) in
-        ap (λ k. x * 2 ^ k % 2 ^ n) e ∙ sym (shl_gone x 64 n le) ∙ shl_gone x d n l)
-      (bool_cases (nat_le d 64))
+    (λ (h : nat_le d 64 ≡ true).
+    let e : min d 64 ≡ d = omega (arith, leb-true d 64 h) in
+    ap (λ k. x * 2 ^ k % 2 ^ n) e)
+    (λ (h : nat_le d 64 ≡ false).
+    let l : n ≤ d = omega (arith, leb-false d 64 h) in
+    let e : min d 64 ≡ 64 = omega (arith, leb-false d 64 h) in
+    ap (λ k. x * 2 ^ k % 2 ^ n) e ∙ sym (shl_gone x 64 n le) ∙ shl_gone x d n l)
+    (bool_cases (nat_le d 64))
 
 same_word : (n r t : ℕ) → r % 2 ^ n ≡ t % 2 ^ n → word n r ≡ word n t
 same_word n r t e = ap (λ v. let w : Bits = record { width = n; value = v } in w) e

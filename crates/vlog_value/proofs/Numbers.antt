@@ -26,9 +26,9 @@ quotient_one x h le lt =
 pub top_bit : (x h : ℕ) → x < h + h → x / h ≡ (if nat_le h x then 1 else 0)
 top_bit x h lt =
     ⊎_elim
-      (λ (e : nat_le h x ≡ true). rw e (quotient_one x h (leb-true h x e) lt))
-      (λ (e : nat_le h x ≡ false). rw e (div-eq_of_lt (leb-false h x e)))
-      (bool_cases (nat_le h x))
+    (λ (e : nat_le h x ≡ true). rw e (quotient_one x h (leb-true h x e) lt))
+    (λ (e : nat_le h x ≡ false). rw e (div-eq_of_lt (leb-false h x e)))
+    (bool_cases (nat_le h x))
 
 -- so many bits come in, or none
 pub top_times : (x h k : ℕ) → x < h + h → x / h * k ≡ (if nat_le h x then k else 0)

@@ -34,11 +34,11 @@ pub next_number : (v : List Entry) (l m : List Expr) (x : Expr) (r : Bits) (s : 
     t * 2 ^ (each_row v m).width + own (each_row v m) ≡ w
 next_number v l m x r s n t w d o tn h =
     let wide : 2 ^ (each_row v l).width ≡ 2 ^ r.width * 2 ^ (each_row v m).width =
-        ap (λ j. 2 ^ (each_row v j).width) d ∙ ap (λ j. 2 ^ (j + (each_row v m).width)) (sym o.shape.width) ∙ pow-add 2 r.width (each_row v m).width in
+    ap (λ j. 2 ^ (each_row v j).width) d ∙ ap (λ j. 2 ^ (j + (each_row v m).width)) (sym o.shape.width) ∙ pow-add 2 r.width (each_row v m).width in
     let value : own (each_row v l) ≡ r.value * 2 ^ (each_row v m).width + own (each_row v m) =
-        ap (λ j. own (each_row v j)) d ∙ ap (λ j. j * 2 ^ (each_row v m).width + own (each_row v m)) (sym o.value) in
+    ap (λ j. own (each_row v j)) d ∙ ap (λ j. j * 2 ^ (each_row v m).width + own (each_row v m)) (sym o.value) in
     ap (λ j. j * 2 ^ (each_row v m).width + own (each_row v m)) tn ∙ expand n (2 ^ r.width) r.value (2 ^ (each_row v m).width) (own (each_row v m))
-      ∙ sym (ap (λ j. n * j + own (each_row v l)) wide ∙ ap (λ j. n * (2 ^ r.width * 2 ^ (each_row v m).width) + j) value) ∙ h
+    ∙ sym (ap (λ j. n * j + own (each_row v l)) wide ∙ ap (λ j. n * (2 ^ r.width * 2 ^ (each_row v m).width) + j) value) ∙ h
 
 pub next_fits : (n k t : ℕ) (r : Bits) → k ≡ r.width → t < 2 ^ (n + r.width) → t < 2 ^ (n + k)
 next_fits n k t r kn lt = rw kn lt

@@ -78,7 +78,7 @@ pub signed_less : (a b : Bits) → a.width ≡ b.width → IsWord a → IsWord b
 signed_less a b e v w =
     let fits : b.value < 2 ^ a.width = subst (λ n. b.value < 2 ^ n) (sym e) w.fits in
     let h = order (nat_le (2 ^ (a.width - 1)) a.value) (nat_le (2 ^ (a.width - 1)) b.value) a.value b.value (2 ^ (a.width - 1)) (2 ^ a.width)
-              ((a.value + 2 ^ (a.width - 1)) % 2 ^ a.width) ((b.value + 2 ^ (a.width - 1)) % 2 ^ a.width) refl refl (twice a.width v.some) v.fits fits refl refl in
+    ((a.value + 2 ^ (a.width - 1)) % 2 ^ a.width) ((b.value + 2 ^ (a.width - 1)) % 2 ^ a.width) refl refl (twice a.width v.some) v.fits fits refl refl in
     subst (λ n. nat_lt ((a.value + 2 ^ (a.width - 1)) % 2 ^ a.width) ((b.value + 2 ^ (n - 1)) % 2 ^ n) ≡ int_lt (integer true a.width a.value) (integer true n b.value)) e h
 
 pub le_is : (i j : ℤ) → int_le i j ≡ not (int_lt j i)

@@ -256,8 +256,10 @@ taken_at v op a b y u L j k m n s p q t o ya ub h g jn kn pn qn =
     let h' = rw ya at h in
     let g' = rw ub at g in
     record {
-      left = rw (h'.width, g'.width) at jn; right = rw (h'.width, g'.width) at kn;
-      left_signed = rw (h'.sign, g'.sign) at pn; right_signed = rw (h'.sign, g'.sign) at qn;
+      left = rw (h'.width, g'.width) at jn;
+      right = rw (h'.width, g'.width) at kn;
+      left_signed = rw (h'.sign, g'.sign) at pn;
+      right_signed = rw (h'.sign, g'.sign) at qn;
     }
 
 pub binary_left : (v : List Entry) (op : Binary) (a b tree y : Expr) (L j k : ℕ) (s p q : Bool) → tree ≡ e.Binary op a b → y ≡ a → AreTaken v op a b L j k s p q → IsDefined v tree L s → IsDefined v y j p

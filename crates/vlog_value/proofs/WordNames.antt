@@ -16,20 +16,20 @@ use Rattle.vlog_value.proofs.Numbers.{bool_cases}
 same : (ps qs xs ys : List ℕ) → (ps ≡ qs → xs ≡ ys) → (xs ≡ ys → ps ≡ qs) → bytes_eq ps qs ≡ bytes_eq xs ys
 same ps qs xs ys there back =
     ⊎_elim
-      (λ (h : bytes_eq ps qs ≡ true). h ∙ sym ((bytes_eq-Decides xs ys).1 (there ((bytes_eq-Decides ps qs).0 h))))
-      (λ (h : bytes_eq ps qs ≡ false).
-        ⊎_elim
-          (λ (k : bytes_eq xs ys ≡ true). let t : bytes_eq ps qs ≡ true = (bytes_eq-Decides ps qs).1 (back ((bytes_eq-Decides xs ys).0 k)) in cc)
-          (λ (k : bytes_eq xs ys ≡ false). h ∙ sym k)
-          (bool_cases (bytes_eq xs ys)))
-      (bool_cases (bytes_eq ps qs))
+    (λ (h : bytes_eq ps qs ≡ true). h ∙ sym ((bytes_eq-Decides xs ys).1 (there ((bytes_eq-Decides ps qs).0 h))))
+    (λ (h : bytes_eq ps qs ≡ false).
+    ⊎_elim
+    (λ (k : bytes_eq xs ys ≡ true). let t : bytes_eq ps qs ≡ true = (bytes_eq-Decides ps qs).1 (back ((bytes_eq-Decides xs ys).0 k)) in cc)
+    (λ (k : bytes_eq xs ys ≡ false). h ∙ sym k)
+    (bool_cases (bytes_eq xs ys)))
+    (bool_cases (bytes_eq ps qs))
 
 pub differs : (xs ys : List ℕ) → (xs ≡ ys → ⊥) → false ≡ bytes_eq xs ys
 differs xs ys no_ =
     ⊎_elim
-      (λ (h : bytes_eq xs ys ≡ true). absurd (no_ ((bytes_eq-Decides xs ys).0 h)))
-      (λ (h : bytes_eq xs ys ≡ false). sym h)
-      (bool_cases (bytes_eq xs ys))
+    (λ (h : bytes_eq xs ys ≡ true). absurd (no_ ((bytes_eq-Decides xs ys).0 h)))
+    (λ (h : bytes_eq xs ys ≡ false). sym h)
+    (bool_cases (bytes_eq xs ys))
 
 -- a list by its front and its last element
 by_last : (xs : List ℕ) (n : ℕ) → length xs ≡ suc n → xs ≡ take n xs ++ get_or xs n 0 ∷ []
@@ -90,8 +90,8 @@ one_digit bs n (suc k) l e d =
 pub more_digits : (bs : List ℕ) (n k : ℕ) → 10 ≤ n → n < 2 ^ 64 → length bs ≡ suc k → get_or bs k 0 ≡ 48 + n % 10 → bytes_eq (take k bs) (decimal (n / 10)) ≡ bytes_eq bs (decimal n)
 more_digits bs n k l lt e d =
     same (take k bs) (decimal (n / 10)) bs (decimal n)
-      (λ h. by_last bs k e ∙ ap (λ m. take k bs ++ m ∷ []) d ∙ ap (λ f. f ++ (48 + n % 10) ∷ []) h ∙ sym (decimal_step n l lt))
-      (λ h. (ends (take k bs) (decimal (n / 10)) (get_or bs k 0) (48 + n % 10) (sym (by_last bs k e) ∙ h ∙ decimal_step n l lt)).0)
+    (λ h. by_last bs k e ∙ ap (λ m. take k bs ++ m ∷ []) d ∙ ap (λ f. f ++ (48 + n % 10) ∷ []) h ∙ sym (decimal_step n l lt))
+    (λ h. (ends (take k bs) (decimal (n / 10)) (get_or bs k 0) (48 + n % 10) (sym (by_last bs k e) ∙ h ∙ decimal_step n l lt)).0)
 
 -- a name, a `$` and digits
 pub too_short : (bs nm ds : List ℕ) → length bs ≤ length nm → false ≡ bytes_eq bs (nm ++ 36 ∷ [] ++ ds)
@@ -104,28 +104,28 @@ regroup nm ds = append_snoc nm 36 ds
 pub other_name : (bs nm ds : List ℕ) → bytes_eq (take (length nm) bs) nm ≡ false → false ≡ bytes_eq bs (nm ++ 36 ∷ [] ++ ds)
 other_name bs nm ds apart =
     differs bs (nm ++ 36 ∷ [] ++ ds) (λ h.
-      let t : bytes_eq (take (length nm) bs) nm ≡ true = (bytes_eq-Decides (take (length nm) bs) nm).1 (ap (λ l. take (length nm) l) (h ∙ regroup nm ds) ∙ take-append_seam nm (36 ∷ ds)) in
-      cc)
+    let t : bytes_eq (take (length nm) bs) nm ≡ true = (bytes_eq-Decides (take (length nm) bs) nm).1 (ap (λ l. take (length nm) l) (h ∙ regroup nm ds) ∙ take-append_seam nm (36 ∷ ds)) in
+    cc)
 
 pub other_sign : (bs nm ds : List ℕ) → length nm < length bs → (get_or bs (length nm) 0 ≡ 36 → ⊥) → false ≡ bytes_eq bs (nm ++ 36 ∷ [] ++ ds)
 other_sign bs nm ds lt apart =
     differs bs (nm ++ 36 ∷ [] ++ ds) (λ h.
-      let d : get_or bs (length nm) 0 ∷ drop (suc (length nm)) bs ≡ 36 ∷ ds =
-          sym (drop-cons bs (length nm) 0 lt) ∙ ap (λ l. drop (length nm) l) (h ∙ regroup nm ds) ∙ drop-append_seam nm (36 ∷ ds) in
-      let e : get_or bs (length nm) 0 ≡ 36 = cc in
-      apart e)
+    let d : get_or bs (length nm) 0 ∷ drop (suc (length nm)) bs ≡ 36 ∷ ds =
+    sym (drop-cons bs (length nm) 0 lt) ∙ ap (λ l. drop (length nm) l) (h ∙ regroup nm ds) ∙ drop-append_seam nm (36 ∷ ds) in
+    let e : get_or bs (length nm) 0 ≡ 36 = cc in
+    apart e)
 
 pub word_digits : (bs nm ds : List ℕ) → length nm < length bs → bytes_eq (take (length nm) bs) nm ≡ true → get_or bs (length nm) 0 ≡ 36 → bytes_eq (drop (suc (length nm)) bs) ds ≡ bytes_eq bs (nm ++ 36 ∷ [] ++ ds)
 word_digits bs nm ds lt is sign =
     let f : take (length nm) bs ≡ nm = (bytes_eq-Decides (take (length nm) bs) nm).0 is in
     let whole : bs ≡ nm ++ 36 ∷ drop (suc (length nm)) bs =
-        sym (take-append-drop (length nm) bs) ∙ ap (λ l. l ++ drop (length nm) bs) f ∙ ap (λ l. nm ++ l) (drop-cons bs (length nm) 0 lt ∙ ap (λ k. k ∷ drop (suc (length nm)) bs) sign) in
+    sym (take-append-drop (length nm) bs) ∙ ap (λ l. l ++ drop (length nm) bs) f ∙ ap (λ l. nm ++ l) (drop-cons bs (length nm) 0 lt ∙ ap (λ k. k ∷ drop (suc (length nm)) bs) sign) in
     same (drop (suc (length nm)) bs) ds bs (nm ++ 36 ∷ [] ++ ds)
-      (λ h. whole ∙ ap (λ l. nm ++ 36 ∷ l) h ∙ sym (regroup nm ds))
-      (λ h.
-        let c : 36 ∷ drop (suc (length nm)) bs ≡ 36 ∷ ds = append_cancel_left nm _ _ (sym whole ∙ h ∙ regroup nm ds) in
-        let e : drop (suc (length nm)) bs ≡ ds = cc in
-        e)
+    (λ h. whole ∙ ap (λ l. nm ++ 36 ∷ l) h ∙ sym (regroup nm ds))
+    (λ h.
+    let c : 36 ∷ drop (suc (length nm)) bs ≡ 36 ∷ ds = append_cancel_left nm _ _ (sym whole ∙ h ∙ regroup nm ds) in
+    let e : drop (suc (length nm)) bs ≡ ds = cc in
+    e)
 
 pub all_after : (bs : List ℕ) (n : ℕ) → take (length bs - (n + 1)) (drop (n + 1) bs) ≡ drop (suc n) bs
 all_after bs n = rw add-one (ap (λ k. take k (drop (suc n) bs)) (sym (length-drop (suc n) bs)) ∙ take-length (drop (suc n) bs))

@@ -6,7 +6,10 @@ ghost use Rattle.vlog_tree.specs.Value.{IsFormed, IsDefined, width_of, sign_of, 
 ghost use Rattle.vlog_value.specs.Shapes.{HasShape, HasOwn, HasValue, IsReady, HasBound, NeedsBound, HasRow, each_formed, each_row, copy_number, HasRowWord, FitsPart, part_word, select_word, IsRow};
 
 use crate::names::{depth_of, is_length, number_width, standing, word_value};
-use crate::operators::{extended, family_of, inner_place, integer, joined, joined_shape, left_place, longer, low_bits, made, made_shape, right_place};
+use crate::operators::{
+    extended, family_of, inner_place, integer, joined, joined_shape, left_place, longer, low_bits,
+    made, made_shape, right_place,
+};
 use crate::selects::{bits, part_low, part_width};
 use sqlite_items::{Boxed, Items};
 use vlog_tree::{Cast, Constant, Expr, Name, Span, Valuation};
@@ -24,7 +27,11 @@ fn select_shape(vector: Constant, depth: u8) -> (u8, bool)
     ensures width { result.0 ≡ (if nat_eq depth 0 then 1 else vector.width) }
     ensures sign { result.1 ≡ false }
 {
-    if depth == 0 { (1, false) } else { (vector.width, false) }
+    if depth == 0 {
+        (1, false)
+    } else {
+        (vector.width, false)
+    }
 }
 
 fn is_signed(cast: Cast) -> bool

@@ -104,7 +104,9 @@ pub fn word_value(name: &Name, index: u64, valuation: &Valuation) -> u64
     ensures { result ≡ (named valuation.now (word_name name.now index)).value }
 {
     for entry in valuation.entries() {
-        if entry.offset == name.offset && is_word_name(entry.name.bytes(), name.text.bytes(), index) {
+        if entry.offset == name.offset
+            && is_word_name(entry.name.bytes(), name.text.bytes(), index)
+        {
             return entry.value;
         }
     }

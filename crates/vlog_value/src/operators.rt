@@ -170,7 +170,11 @@ fn moved_down(a: Word, b: Word, signed: bool) -> Word
 {
     // a word's number fits its width
     let _fits = a.value();
-    if signed { Word::sar(a, b) } else { Word::shr(a, b) }
+    if signed {
+        Word::sar(a, b)
+    } else {
+        Word::shr(a, b)
+    }
 }
 
 #[tactic(auto, using(crate::proofs::Signs::signed_less))]
@@ -279,7 +283,12 @@ pub fn quotient(op: Binary, a: Word, b: Word, signed: bool) -> Word
 }
 
 /// The length and the sign at which an operator of this family takes its left operand, from those of the expression and of both operands.
-pub fn left_place(family: Family, here: (u8, bool), left: (u8, bool), right: (u8, bool)) -> (u8, bool)
+pub fn left_place(
+    family: Family,
+    here: (u8, bool),
+    left: (u8, bool),
+    right: (u8, bool),
+) -> (u8, bool)
     ensures width { result.0 ≡ left_width family here.0 left.0 right.0 }
     ensures sign { result.1 ≡ left_sign family here.1 left.1 right.1 }
 {
@@ -291,7 +300,12 @@ pub fn left_place(family: Family, here: (u8, bool), left: (u8, bool), right: (u8
 }
 
 /// The same of its right operand.
-pub fn right_place(family: Family, here: (u8, bool), left: (u8, bool), right: (u8, bool)) -> (u8, bool)
+pub fn right_place(
+    family: Family,
+    here: (u8, bool),
+    left: (u8, bool),
+    right: (u8, bool),
+) -> (u8, bool)
     ensures width { result.0 ≡ right_width family here.0 left.0 right.0 }
     ensures sign { result.1 ≡ right_sign family here.1 left.1 right.1 }
 {
@@ -378,11 +392,7 @@ pub fn made_shape(op: Unary, inner: (u8, bool)) -> (u8, bool)
     ensures width { result.0 ≡ made_width op inner.0 }
     ensures sign { result.1 ≡ made_sign op inner.1 }
 {
-    if is_reduction(op) {
-        (1, false)
-    } else {
-        inner
-    }
+    if is_reduction(op) { (1, false) } else { inner }
 }
 
 /// The word of a unary operator at a length.

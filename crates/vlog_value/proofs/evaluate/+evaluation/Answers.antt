@@ -26,11 +26,11 @@ pub shape_of-returns-in_err-b-in-Part-clause-none : goal.shape_of-returns-in_err
 shape_of-returns-in_err-b-in-Part-clause-none t c = unformed c.args.valuation.now c.args.expr.now c.from_residual-in_err-b-in-Part.result (λ h. let p = (part_formed _ _ _ _ _ _ c.in-Part.is h) in c.in_err-b-in-Part.ensures.none (rw c.get-in-Part-2.ensures p.2) (rw c.get-in-Part-2.ensures (needs_second (named c.args.valuation.now c.in-Part.name) _ _ _ p.3)))
 
 pub shape_of-returns-in_err-width-in-Part-clause-none : goal.shape_of-returns-in_err-width-in-Part-clause-none
-shape_of-returns-in_err-width-in-Part-clause-none t c = unformed c.args.valuation.now c.args.expr.now c.from_residual-in_err-width-in-Part.result (λ h. 
-      let p = (part_formed _ _ _ _ _ _ c.in-Part.is h) in
-      let i : to_z w128 (of_z w128 c.in_ok-a-in-Part.a) ≡ c.in_ok-a-in-Part.a = omega (arith, ints) in
-      let j : to_z w128 (of_z w128 c.integer.result) ≡ c.integer.result = omega (arith, ints) in
-      c.in_err-width-in-Part.ensures.none (rw (c.in_ok-vector-in-Part.ensures.some.1, i, j) (part_fits _ (named c.args.valuation.now c.in-Part.name) _ _ _ _ _ _ _ _ _ c.get-in-Part.ensures c.get-in-Part-2.ensures c.in_ok-a-in-Part.ensures.some c.in_ok-b-in-Part.ensures.some c.integer.ensures.value p.3 p.4)))
+shape_of-returns-in_err-width-in-Part-clause-none t c = unformed c.args.valuation.now c.args.expr.now c.from_residual-in_err-width-in-Part.result (λ h.
+    let p = (part_formed _ _ _ _ _ _ c.in-Part.is h) in
+    let i : to_z w128 (of_z w128 c.in_ok-a-in-Part.a) ≡ c.in_ok-a-in-Part.a = omega (arith, ints) in
+    let j : to_z w128 (of_z w128 c.integer.result) ≡ c.integer.result = omega (arith, ints) in
+    c.in_err-width-in-Part.ensures.none (rw (c.in_ok-vector-in-Part.ensures.some.1, i, j) (part_fits _ (named c.args.valuation.now c.in-Part.name) _ _ _ _ _ _ _ _ _ c.get-in-Part.ensures c.get-in-Part-2.ensures c.in_ok-a-in-Part.ensures.some c.in_ok-b-in-Part.ensures.some c.integer.ensures.value p.3 p.4)))
 
 pub shape_of-returns-then-not-is_length-2-clause-none : goal.shape_of-returns-then-not-is_length-2-clause-none
 shape_of-returns-then-not-is_length-2-clause-none t c = λ h. c.if-not-is_length-2.ensures (constant_select_formed _ _ _ _ c.in-ConstantSelect.is h).0
@@ -48,11 +48,11 @@ pub shape_of-returns-in_err-b-in-ConstantPart-clause-none : goal.shape_of-return
 shape_of-returns-in_err-b-in-ConstantPart-clause-none t c = unformed c.args.valuation.now c.args.expr.now c.from_residual-in_err-b-in-ConstantPart.result (λ h. let p = (constant_part_formed _ _ _ _ _ _ c.in-ConstantPart.is h) in c.in_err-b-in-ConstantPart.ensures.none (rw c.get-in-ConstantPart-2.ensures p.2) (rw c.get-in-ConstantPart-2.ensures (needs_second c.in-ConstantPart.vector _ _ _ p.3)))
 
 pub shape_of-returns-in_err-width-in-ConstantPart-clause-none : goal.shape_of-returns-in_err-width-in-ConstantPart-clause-none
-shape_of-returns-in_err-width-in-ConstantPart-clause-none t c = unformed c.args.valuation.now c.args.expr.now c.from_residual-in_err-width-in-ConstantPart.result (λ h. 
-      let p = (constant_part_formed _ _ _ _ _ _ c.in-ConstantPart.is h) in
-      let i : to_z w128 (of_z w128 c.in_ok-a-in-ConstantPart.a) ≡ c.in_ok-a-in-ConstantPart.a = omega (arith, ints) in
-      let j : to_z w128 (of_z w128 c.integer-in-ConstantPart.result) ≡ c.integer-in-ConstantPart.result = omega (arith, ints) in
-      c.in_err-width-in-ConstantPart.ensures.none (rw (i, j) (part_fits _ c.in-ConstantPart.vector _ _ _ _ _ _ _ _ _ c.get-in-ConstantPart.ensures c.get-in-ConstantPart-2.ensures c.in_ok-a-in-ConstantPart.ensures.some c.in_ok-b-in-ConstantPart.ensures.some c.integer-in-ConstantPart.ensures.value p.3 p.4)))
+shape_of-returns-in_err-width-in-ConstantPart-clause-none t c = unformed c.args.valuation.now c.args.expr.now c.from_residual-in_err-width-in-ConstantPart.result (λ h.
+    let p = (constant_part_formed _ _ _ _ _ _ c.in-ConstantPart.is h) in
+    let i : to_z w128 (of_z w128 c.in_ok-a-in-ConstantPart.a) ≡ c.in_ok-a-in-ConstantPart.a = omega (arith, ints) in
+    let j : to_z w128 (of_z w128 c.integer-in-ConstantPart.result) ≡ c.integer-in-ConstantPart.result = omega (arith, ints) in
+    c.in_err-width-in-ConstantPart.ensures.none (rw (i, j) (part_fits _ c.in-ConstantPart.vector _ _ _ _ _ _ _ _ _ c.get-in-ConstantPart.ensures c.get-in-ConstantPart-2.ensures c.in_ok-a-in-ConstantPart.ensures.some c.in_ok-b-in-ConstantPart.ensures.some c.integer-in-ConstantPart.ensures.value p.3 p.4)))
 
 pub shape_of-returns-in_err-inner-in-Cast-clause-none : goal.shape_of-returns-in_err-inner-in-Cast-clause-none
 shape_of-returns-in_err-inner-in-Cast-clause-none t c = unformed c.args.valuation.now c.args.expr.now c.from_residual-in_err-inner-in-Cast.result (λ h. c.in_err-inner-in-Cast.ensures.none (rw c.get-in-Cast.ensures (cast_formed _ _ _ _ c.in-Cast.is h)))
@@ -88,34 +88,34 @@ pub shape_of-returns-in_err-row-in-Repeat-clause-none : goal.shape_of-returns-in
 shape_of-returns-in_err-row-in-Repeat-clause-none t c = unformed c.args.valuation.now c.args.expr.now c.from_residual-in_err-row-in-Repeat.result (λ h. let p = (repeat_formed _ _ _ _ c.in-Repeat.is h) in c.in_err-row-in-Repeat.ensures.none (rw c.as_slice-in-Repeat.ensures p.2) (rw c.as_slice-in-Repeat.ensures (row_short _ (operand_of c.args.valuation.now c.in-Repeat.count) _ p.3)))
 
 pub shape_of-returns-in_err-width-in-Repeat-clause-none : goal.shape_of-returns-in_err-width-in-Repeat-clause-none
-shape_of-returns-in_err-width-in-Repeat-clause-none t c = unformed c.args.valuation.now c.args.expr.now c.from_residual-in_err-width-in-Repeat.result (λ h. 
-      let p = (repeat_formed _ _ _ _ c.in-Repeat.is h) in
-      let i : to_z w128 (of_z w128 c.integer-in-Repeat.result) ≡ c.integer-in-Repeat.result = omega (arith, ints) in
-      c.in_err-width-in-Repeat.ensures.none (rw i (repeat_fits _ _ _ _ _ _ _ _ _ c.get-in-Repeat.ensures c.as_slice-in-Repeat.ensures c.in_ok-count-in-Repeat.ensures.some c.integer-in-Repeat.ensures.value c.in_ok-row-in-Repeat.ensures.some p.3)))
+shape_of-returns-in_err-width-in-Repeat-clause-none t c = unformed c.args.valuation.now c.args.expr.now c.from_residual-in_err-width-in-Repeat.result (λ h.
+    let p = (repeat_formed _ _ _ _ c.in-Repeat.is h) in
+    let i : to_z w128 (of_z w128 c.integer-in-Repeat.result) ≡ c.integer-in-Repeat.result = omega (arith, ints) in
+    c.in_err-width-in-Repeat.ensures.none (rw i (repeat_fits _ _ _ _ _ _ _ _ _ c.get-in-Repeat.ensures c.as_slice-in-Repeat.ensures c.in_ok-count-in-Repeat.ensures.some c.integer-in-Repeat.ensures.value c.in_ok-row-in-Repeat.ensures.some p.3)))
 
 pub shape_of-returns-in_ok-shape_of-in-Select-clause-some : goal.shape_of-returns-in_ok-shape_of-in-Select-clause-some
 shape_of-returns-in_ok-shape_of-in-Select-clause-some t c = select_has _ _ _ _ _ _ _ _ _ c.in-Select.is c.in_ok-vector-in-Select.ensures.some.0 c.in_ok-vector-in-Select.ensures.some.1 c.in_ok-vector-in-Select.ensures.fits.0 c.get.ensures c.in_ok-shape_of-in-Select.ensures.some.formed c.depth_of.ensures c.select_shape.ensures.width c.select_shape.ensures.sign
 
 pub shape_of-returns-in_ok-width-in-Part-clause-some : goal.shape_of-returns-in_ok-width-in-Part-clause-some
-shape_of-returns-in_ok-width-in-Part-clause-some t c = 
-      let i : to_z w128 (of_z w128 c.in_ok-a-in-Part.a) ≡ c.in_ok-a-in-Part.a = omega (arith, ints) in
-      let j : to_z w128 (of_z w128 c.integer.result) ≡ c.integer.result = omega (arith, ints) in
-      let f = rw (i, j) at c.in_ok-width-in-Part.ensures.some.0 in
-      let n = rw (i, j) at c.in_ok-width-in-Part.ensures.some.1 in
-      part_has _ _ _ _ _ _ _ _ _ _ c.in-Part.is c.in_ok-vector-in-Part.ensures.some.0 c.in_ok-vector-in-Part.ensures.some.1
-        (part_shape _ _ _ _ _ _ _ _ _ _ _ _ c.get-in-Part.ensures c.get-in-Part-2.ensures c.in_ok-a-in-Part.ensures.some c.in_ok-b-in-Part.ensures.some c.integer.ensures.value f n) f n
+shape_of-returns-in_ok-width-in-Part-clause-some t c =
+    let i : to_z w128 (of_z w128 c.in_ok-a-in-Part.a) ≡ c.in_ok-a-in-Part.a = omega (arith, ints) in
+    let j : to_z w128 (of_z w128 c.integer.result) ≡ c.integer.result = omega (arith, ints) in
+    let f = rw (i, j) at c.in_ok-width-in-Part.ensures.some.0 in
+    let n = rw (i, j) at c.in_ok-width-in-Part.ensures.some.1 in
+    part_has _ _ _ _ _ _ _ _ _ _ c.in-Part.is c.in_ok-vector-in-Part.ensures.some.0 c.in_ok-vector-in-Part.ensures.some.1
+    (part_shape _ _ _ _ _ _ _ _ _ _ _ _ c.get-in-Part.ensures c.get-in-Part-2.ensures c.in_ok-a-in-Part.ensures.some c.in_ok-b-in-Part.ensures.some c.integer.ensures.value f n) f n
 
 pub shape_of-returns-in_ok-shape_of-in-ConstantSelect-clause-some : goal.shape_of-returns-in_ok-shape_of-in-ConstantSelect-clause-some
 shape_of-returns-in_ok-shape_of-in-ConstantSelect-clause-some t c = constant_select_has _ _ _ _ _ c.in-ConstantSelect.is c.if-not-is_length-2.ensures c.get-in-ConstantSelect.ensures c.in_ok-shape_of-in-ConstantSelect.ensures.some.formed
 
 pub shape_of-returns-in_ok-width-in-ConstantPart-clause-some : goal.shape_of-returns-in_ok-width-in-ConstantPart-clause-some
-shape_of-returns-in_ok-width-in-ConstantPart-clause-some t c = 
-      let i : to_z w128 (of_z w128 c.in_ok-a-in-ConstantPart.a) ≡ c.in_ok-a-in-ConstantPart.a = omega (arith, ints) in
-      let j : to_z w128 (of_z w128 c.integer-in-ConstantPart.result) ≡ c.integer-in-ConstantPart.result = omega (arith, ints) in
-      let f = rw (i, j) at c.in_ok-width-in-ConstantPart.ensures.some.0 in
-      let n = rw (i, j) at c.in_ok-width-in-ConstantPart.ensures.some.1 in
-      constant_part_has _ _ _ _ _ _ _ _ _ c.in-ConstantPart.is c.if-not-is_length-3.ensures
-        (part_shape _ _ _ _ _ _ _ _ _ _ _ _ c.get-in-ConstantPart.ensures c.get-in-ConstantPart-2.ensures c.in_ok-a-in-ConstantPart.ensures.some c.in_ok-b-in-ConstantPart.ensures.some c.integer-in-ConstantPart.ensures.value f n) f n
+shape_of-returns-in_ok-width-in-ConstantPart-clause-some t c =
+    let i : to_z w128 (of_z w128 c.in_ok-a-in-ConstantPart.a) ≡ c.in_ok-a-in-ConstantPart.a = omega (arith, ints) in
+    let j : to_z w128 (of_z w128 c.integer-in-ConstantPart.result) ≡ c.integer-in-ConstantPart.result = omega (arith, ints) in
+    let f = rw (i, j) at c.in_ok-width-in-ConstantPart.ensures.some.0 in
+    let n = rw (i, j) at c.in_ok-width-in-ConstantPart.ensures.some.1 in
+    constant_part_has _ _ _ _ _ _ _ _ _ c.in-ConstantPart.is c.if-not-is_length-3.ensures
+    (part_shape _ _ _ _ _ _ _ _ _ _ _ _ c.get-in-ConstantPart.ensures c.get-in-ConstantPart-2.ensures c.in_ok-a-in-ConstantPart.ensures.some c.in_ok-b-in-ConstantPart.ensures.some c.integer-in-ConstantPart.ensures.value f n) f n
 
 pub shape_of-returns-in_ok-inner-in-Cast-clause-some : goal.shape_of-returns-in_ok-inner-in-Cast-clause-some
 shape_of-returns-in_ok-inner-in-Cast-clause-some t c = cast_has _ _ _ _ _ _ _ _ c.in-Cast.is c.get-in-Cast.ensures c.in_ok-inner-in-Cast.ensures.some c.is_signed.ensures
@@ -139,10 +139,10 @@ pub shape_of-returns-else-not-is_length-4-clause-some : goal.shape_of-returns-el
 shape_of-returns-else-not-is_length-4-clause-some t c = concat_has _ _ _ _ _ c.in-Concat.is c.as_slice.ensures c.in_ok-width-in-Concat.ensures.some c.if-not-is_length-4.ensures
 
 pub shape_of-returns-in_ok-width-in-Repeat-clause-some : goal.shape_of-returns-in_ok-width-in-Repeat-clause-some
-shape_of-returns-in_ok-width-in-Repeat-clause-some t c = 
-      let i : to_z w128 (of_z w128 c.integer-in-Repeat.result) ≡ c.integer-in-Repeat.result = omega (arith, ints) in
-      let n = rw i at c.in_ok-width-in-Repeat.ensures.some.0 in
-      repeat_has _ _ _ _ _ _ _ _ _ _ _ c.in-Repeat.is c.get-in-Repeat.ensures c.as_slice-in-Repeat.ensures c.in_ok-count-in-Repeat.ensures.some c.integer-in-Repeat.ensures.value c.in_ok-row-in-Repeat.ensures.some n c.in_ok-width-in-Repeat.ensures.some.1
+shape_of-returns-in_ok-width-in-Repeat-clause-some t c =
+    let i : to_z w128 (of_z w128 c.integer-in-Repeat.result) ≡ c.integer-in-Repeat.result = omega (arith, ints) in
+    let n = rw i at c.in_ok-width-in-Repeat.ensures.some.0 in
+    repeat_has _ _ _ _ _ _ _ _ _ _ _ c.in-Repeat.is c.get-in-Repeat.ensures c.as_slice-in-Repeat.ensures c.in_ok-count-in-Repeat.ensures.some c.integer-in-Repeat.ensures.value c.in_ok-row-in-Repeat.ensures.some n c.in_ok-width-in-Repeat.ensures.some.1
 
 pub value_at-returns-in_err-vector-in-Select-clause-none : goal.value_at-returns-in_err-vector-in-Select-clause-none
 value_at-returns-in_err-vector-in-Select-clause-none t c = undefined c.args.valuation.now c.args.expr.now c.args.here.0 c.args.here.1 c.from_residual-in_err-vector-in-Select.result (λ h. c.in_err-vector-in-Select.ensures.none (select_formed _ _ _ _ c.in-Select.is c.requires.formed).0)
@@ -259,16 +259,16 @@ pub value_at-returns-in_err-row-in-Repeat-clause-none : goal.value_at-returns-in
 value_at-returns-in_err-row-in-Repeat-clause-none t c = undefined c.args.valuation.now c.args.expr.now c.args.here.0 c.args.here.1 c.from_residual-in_err-row-in-Repeat.result (λ h. c.in_err-row-in-Repeat.ensures.none (rw c.row-in-Repeat.ensures.same (repeat_defined _ _ _ _ _ _ c.in-Repeat.is h).1))
 
 pub value_at-returns-in_err-all-in-Repeat-clause-none : goal.value_at-returns-in_err-all-in-Repeat-clause-none
-value_at-returns-in_err-all-in-Repeat-clause-none t c = undefined c.args.valuation.now c.args.expr.now c.args.here.0 c.args.here.1 c.from_residual-in_err-all-in-Repeat.result (λ h. 
-      let p = (repeat_formed _ _ _ _ c.in-Repeat.is c.requires.formed) in
-      let i : to_z w128 (of_z w128 c.integer.result) ≡ c.integer.result = omega (arith, ints) in
-      c.in_err-all-in-Repeat.ensures.none (rw i (repeat_suits _ _ _ _ _ _ _ _ _ c.get-in-Repeat.ensures c.row-in-Repeat.ensures.same c.in_ok-count-in-Repeat.ensures.some c.integer.ensures.value c.in_ok-row-in-Repeat.ensures.some p.3)))
+value_at-returns-in_err-all-in-Repeat-clause-none t c = undefined c.args.valuation.now c.args.expr.now c.args.here.0 c.args.here.1 c.from_residual-in_err-all-in-Repeat.result (λ h.
+    let p = (repeat_formed _ _ _ _ c.in-Repeat.is c.requires.formed) in
+    let i : to_z w128 (of_z w128 c.integer.result) ≡ c.integer.result = omega (arith, ints) in
+    c.in_err-all-in-Repeat.ensures.none (rw i (repeat_suits _ _ _ _ _ _ _ _ _ c.get-in-Repeat.ensures c.row-in-Repeat.ensures.same c.in_ok-count-in-Repeat.ensures.some c.integer.ensures.value c.in_ok-row-in-Repeat.ensures.some p.3)))
 
 pub value_at-extended-requires-in-Repeat-clause-wider : goal.value_at-extended-requires-in-Repeat-clause-wider
-value_at-extended-requires-in-Repeat-clause-wider t c = 
-      let i : to_z w128 (of_z w128 c.integer.result) ≡ c.integer.result = omega (arith, ints) in
-      let n = rw i at c.in_ok-all-in-Repeat.ensures.some.0 in
-      repeat_long _ _ _ _ _ _ _ _ _ _ _ c.in_ok-all-in-Repeat.all c.in-Repeat.is c.get-in-Repeat.ensures c.row-in-Repeat.ensures.same c.in_ok-count-in-Repeat.ensures.some c.integer.ensures.value c.in_ok-row-in-Repeat.ensures.some n c.requires.long
+value_at-extended-requires-in-Repeat-clause-wider t c =
+    let i : to_z w128 (of_z w128 c.integer.result) ≡ c.integer.result = omega (arith, ints) in
+    let n = rw i at c.in_ok-all-in-Repeat.ensures.some.0 in
+    repeat_long _ _ _ _ _ _ _ _ _ _ _ c.in_ok-all-in-Repeat.all c.in-Repeat.is c.get-in-Repeat.ensures c.row-in-Repeat.ensures.same c.in_ok-count-in-Repeat.ensures.some c.integer.ensures.value c.in_ok-row-in-Repeat.ensures.some n c.requires.long
 
 pub value_at-returns-in_ok-index-in-Select-clause-some : goal.value_at-returns-in_ok-index-in-Select-clause-some
 value_at-returns-in_ok-index-in-Select-clause-some t c = select_value _ _ _ _ _ _ _ _ _ _ _ _ c.in-Select.is c.in_ok-vector-in-Select.ensures.some.1 c.get.ensures c.in_ok-index-in-Select.ensures.some c.selected.ensures c.extended-in-Select.ensures
@@ -307,10 +307,10 @@ pub value_at-returns-in_ok-row-in-Concat-clause-some : goal.value_at-returns-in_
 value_at-returns-in_ok-row-in-Concat-clause-some t c = concat_value _ _ _ _ _ _ _ _ c.in-Concat.is c.row.ensures.same c.in_ok-row-in-Concat.ensures.some c.extended-in-Concat.ensures
 
 pub value_at-returns-in_ok-all-in-Repeat-clause-some : goal.value_at-returns-in_ok-all-in-Repeat-clause-some
-value_at-returns-in_ok-all-in-Repeat-clause-some t c = 
-      let i : to_z w128 (of_z w128 c.integer.result) ≡ c.integer.result = omega (arith, ints) in
-      let n = rw i at c.in_ok-all-in-Repeat.ensures.some.1 in
-      repeat_value _ _ _ _ _ _ _ _ _ _ _ _ c.in_ok-all-in-Repeat.all _ c.in-Repeat.is c.get-in-Repeat.ensures c.row-in-Repeat.ensures.same c.in_ok-count-in-Repeat.ensures.some c.integer.ensures.value c.in_ok-row-in-Repeat.ensures.some n c.extended-in-Repeat.ensures
+value_at-returns-in_ok-all-in-Repeat-clause-some t c =
+    let i : to_z w128 (of_z w128 c.integer.result) ≡ c.integer.result = omega (arith, ints) in
+    let n = rw i at c.in_ok-all-in-Repeat.ensures.some.1 in
+    repeat_value _ _ _ _ _ _ _ _ _ _ _ _ c.in_ok-all-in-Repeat.all _ c.in-Repeat.is c.get-in-Repeat.ensures c.row-in-Repeat.ensures.same c.in_ok-count-in-Repeat.ensures.some c.integer.ensures.value c.in_ok-row-in-Repeat.ensures.some n c.extended-in-Repeat.ensures
 
 pub value_at-bit_at-requires : goal.value_at-bit_at-requires
 value_at-bit_at-requires t c = (constant_select_formed _ _ _ _ c.in-ConstantSelect.is c.requires.formed).0

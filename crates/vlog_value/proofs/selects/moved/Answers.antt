@@ -11,7 +11,7 @@ returns-then-distance-lt0 c =
     let is : z ≡ pos 0 -ℤ c.args.distance = omega (arith, ints) in
     let below : c.args.distance <ℤ pos 0 = omega (arith, ints) in
     c.low_bits.ensures ∙ raised_by c.args.distance z c.args.number c.args.width c.value.result c.new-word.result c.steps.result c.requires.most below
-      c.new-word.ensures c.steps.ensures is (c.value.ensures.value ∙ ap (λ (w : Bits). w.value) c.shl.ensures)
+    c.new-word.ensures c.steps.ensures is (c.value.ensures.value ∙ ap (λ (w : Bits). w.value) c.shl.ensures)
 
 pub returns : goal.returns
 returns c =
@@ -19,4 +19,4 @@ returns c =
     let is : z ≡ c.args.distance = omega (arith, ints) in
     let above : pos 0 ≤ℤ c.args.distance = omega (arith, ints) in
     c.low_bits-2.ensures ∙ lowered_by c.args.distance z c.args.number c.args.width c.value-2.result c.new-word.result c.steps-2.result c.ranges.number.fits above
-      c.new-word.ensures c.steps-2.ensures is (c.value-2.ensures.value ∙ ap (λ (w : Bits). w.value) c.shr.ensures)
+    c.new-word.ensures c.steps-2.ensures is (c.value-2.ensures.value ∙ ap (λ (w : Bits). w.value) c.shr.ensures)
