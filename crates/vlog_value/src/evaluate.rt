@@ -420,3 +420,26 @@ fn operand<'a>(boxed: &'a Boxed<Expr>, length: u8, valuation: &Valuation) -> &'a
     let _length = length;
     boxed.get()
 }
+
+/// The value of an expression at a length and a sign; none where a divisor is 0 there.
+pub fn checked_value(expr: &Expr, length: u8, signed: bool, valuation: &Valuation) -> Option<Word>
+    requires formed { IsFormed valuation.now expr.now }
+    requires long { width_of valuation.now expr.now ≤ length }
+    requires most { length ≤ 64 }
+    ensures some { IfSome result (λ w. HasValue valuation.now expr.now length signed w) }
+    ensures none { IfNone result (IsDefined valuation.now expr.now length signed → ⊥) }
+{
+    match shape_of(expr, valuation) {
+        Some(_) => value_at(expr, (length, signed), valuation),
+        None => unreachable!(),
+    }
+}
+
+/// The value of an expression by itself, and its sign; none where it isn't well formed or a divisor is 0.
+pub fn checked_own_value(expr: &Expr, valuation: &Valuation) -> Option<(Word, bool)>
+    ensures some { IfSome result (λ own. HasOwn valuation.now expr.now own.0 own.1) }
+    ensures none { IfNone result (IsFormed valuation.now expr.now → IsDefined valuation.now expr.now (width_of valuation.now expr.now) (sign_of valuation.now expr.now) → ⊥) }
+{
+    let own = taken(expr, valuation)?;
+    Some((own.word, own.signed))
+}

@@ -6,4 +6,4 @@ mod names;
 mod operators;
 mod selects;
 
-pub use evaluate::{own_value, shape_of, value};
+pub use evaluate::{checked_own_value, checked_value, own_value, shape_of, value};
