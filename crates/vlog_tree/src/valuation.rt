@@ -76,6 +76,14 @@ impl Valuation {
         None
     }
 
+    /// The entries, in order.
+    pub fn entries(&self) -> &[Entry]
+        ensures same { result.now ≡ self.now }
+        ensures fit { AllFit self.now }
+    {
+        self.entries.as_slice()
+    }
+
     /// Writes these values in place of those of the first entries, each at its entry's length.
     pub fn write(&mut self, values: &[u64])
         requires few { length values.now ≤ length self.old }

@@ -1,0 +1,130 @@
+ghost use Rattle.std.specs.Prelude.{◌^◌, ◌<◌, ◌≤◌};
+
+use super::*;
+use outside::Text;
+use std::process::Abort;
+use std::test::Fail;
+use vlog_tree::Entry;
+
+// A name of a row, with its lowest bit.
+fn add(
+    alloc: Global,
+    valuation: &mut Valuation,
+    name: &[u8],
+    width: u8,
+    low: u64,
+    value: u64,
+) -> Result<(), AllocError>
+    requires some { 1 ≤ width }
+    requires most { width ≤ 64 }
+    requires fits { value < 2 ^ width }
+{
+    valuation.push(Entry {
+        name: Text::copy(alloc, name)?,
+        offset: 0,
+        width,
+        low,
+        signed: false,
+        depth: 0,
+        value,
+    })
+}
+
+// A memory of two words of four bits.
+fn add_memory(alloc: Global, valuation: &mut Valuation) -> Result<(), AllocError> {
+    valuation.push(Entry {
+        name: Text::copy(alloc, b"m")?,
+        offset: 0,
+        width: 4,
+        low: 0,
+        signed: false,
+        depth: 2,
+        value: 0,
+    })?;
+    add(alloc, valuation, b"m$0", 4, 0, 9)?;
+    add(alloc, valuation, b"m$1", 4, 0, 5)
+}
+
+// a is 11 and b is 01; v[11:4] is 1010_0110.
+fn names(alloc: Global) -> Result<Valuation, AllocError> {
+    let mut valuation = Valuation::new(alloc);
+    add(alloc, &mut valuation, b"a", 2, 0, 3)?;
+    add(alloc, &mut valuation, b"b", 2, 0, 1)?;
+    add(alloc, &mut valuation, b"v", 8, 4, 166)?;
+    add_memory(alloc, &mut valuation)?;
+    Ok(valuation)
+}
+
+fn rows(rt: &(impl Abort + AllocGlobal), rows: &[(&str, u8, &str)]) -> Result<(), Fail> {
+    let valuation = names(rt.alloc())?;
+    for (text, length, want) in rows {
+        let line = shown(rt.alloc(), text.as_bytes(), (*length).min(64), &valuation)?;
+        assert_eq!(rt; line.as_str(), *want, "{text}");
+    }
+    Ok(())
+}
+
+// Each line of the table of lengths, by hand from IEEE 1364-2005 sections 5.1, 5.4 and 5.5.
+#[test]
+fn lengths_and_contexts(rt: HostRuntime) -> Result<(), Fail> {
+    rows(
+        &rt,
+        &[
+            ("a + b == 4", 0, "1u 1"),
+            ("a + b == 2'd0", 0, "1u 1"),
+            ("{a + b} == 4", 0, "1u 0"),
+            ("a + b", 0, "2u 0"),
+            ("a + b", 4, "2u 4"),
+            ("a * a", 4, "2u 9"),
+            ("b - a", 4, "2u 14"),
+            ("-b", 0, "2u 3"),
+            ("~b", 4, "2u 14"),
+            ("a & b | 2'b10 ^ b", 0, "2u 3"),
+            ("a ~^ b", 0, "2u 1"),
+            ("a << 2", 0, "2u 0"),
+            ("a << 2", 4, "2u 12"),
+            ("a >> 1", 0, "2u 1"),
+            ("$signed(a) < 0", 0, "1u 1"),
+            ("a < 0", 0, "1u 0"),
+            ("$signed(a) >>> 1", 0, "2s 3"),
+            ("$signed(a) >>> 1", 4, "2s 15"),
+            ("$signed(a) + b", 4, "2u 4"),
+            ("$signed(a) + $signed(b)", 4, "2s 0"),
+            ("$unsigned($signed(a))", 4, "2u 3"),
+            ("b ? a : 4'd9", 0, "4u 3"),
+            ("{a, b}", 0, "4u 13"),
+            ("{3{b}}", 0, "6u 21"),
+            ("{0{b}}", 0, "none"),
+            ("{33{a}}", 0, "none"),
+            ("!a || &a && ^a", 0, "1u 0"),
+            ("-7 / 2", 0, "32s 4294967293"),
+            ("-7 % 2", 0, "32s 4294967295"),
+            ("7 % -2", 0, "32s 1"),
+            ("7 / (1 - 1)", 0, "divided by 0"),
+        ],
+    )
+}
+
+#[test]
+fn selects(rt: HostRuntime) -> Result<(), Fail> {
+    rows(
+        &rt,
+        &[
+            ("v[11]", 0, "1u 1"),
+            ("v[4]", 0, "1u 0"),
+            ("v[12]", 0, "1u 0"),
+            ("v[3]", 0, "1u 0"),
+            ("v[-1]", 0, "1u 0"),
+            ("v[8:5]", 0, "4u 3"),
+            ("v[12:5]", 0, "none"),
+            ("v[8:3]", 0, "none"),
+            ("v[10 +: 4]", 0, "4u 2"),
+            ("v[5 -: 4]", 0, "4u 8"),
+            ("v[5 +: 0]", 0, "none"),
+            ("m[1]", 0, "4u 5"),
+            ("m[b - 1]", 0, "4u 9"),
+            ("m[2]", 0, "4u 0"),
+            ("c", 0, "none"),
+        ],
+    )
+}

@@ -1,0 +1,9 @@
+pub mod Numbers
+pub mod Signs
+pub mod Moves
+pub mod Forms
+pub mod Families
+pub mod Facts
+pub mod Values
+pub mod WordNames
+pub mod Rows

@@ -1,0 +1,9 @@
+//! The evaluator: lengths, signs and values of expressions, by IEEE 1364-2005 sections 5.1, 5.2, 5.4 and 5.5. It takes no memory.
+#![tactic(auto)]
+
+mod evaluate;
+mod names;
+mod operators;
+mod selects;
+
+pub use evaluate::{checked_own_value, checked_value, own_value, shape_of, value};
