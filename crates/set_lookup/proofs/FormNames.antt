@@ -1,5 +1,5 @@
 -- The names in each form of a formula, as the code reads it, and searches among them.
-use Rattle.std.proofs.Common.{◌≡◌, List, [], ◌∷◌, ◌++◌, Option, Some, None, Bool, Bor, refl, sym, ap, ◌∙◌}
+use Rattle.std.proofs.Common.{◌≡◌, List, [], ◌∷◌, ◌++◌, Option, Bool, Bor, refl, sym, ap, ◌∙◌}
 use Rattle.std.specs.List.{find, flat_map}
 use Rattle.std.specs.Option.{option_copied, option_or}
 use Rattle.vlog_tree.specs.declared.expr.Name.{Name}

@@ -1,13 +1,9 @@
 -- A text whose names are declared and whose quantities keep their bounds means a set.
-use Rattle.std.proofs.Common.{◌≡◌, ℕ, suc, ◌+◌, ◌-◌, ◌<◌, ◌≤◌, ◌^◌, ◌⊎◌, inl, inr, List, [], ◌∷◌, ◌++◌, length, map, Option, Some, None, Bool, true, false, not, cond, refl, sym, ap, subst, ◌∙◌, arith}
-use Rattle.std.specs.Prelude.{◌||◌, ◌&&◌, nat_lt, nat_le, if◌then◌else◌, is_some, codes}
+use Rattle.std.proofs.Common.{◌≡◌, ℕ, ◌<◌, ◌≤◌, ◌^◌, inl, inr, List, [], ◌∷◌, ◌++◌, length, map, Option, Some, None, Bool, true, false, not, refl, ap, arith}
+use Rattle.std.specs.Prelude.{nat_lt, is_some}
 use Rattle.std.specs.List.{list_any, list_all, flat_map}
 use Rattle.std.specs.Option.{option_map}
-use Rattle.std.proofs.lemmas.Bool.{ltb-true, ltb-false, lt-ltb, le-ltb, and_parts, or_parts, not-false}
-use Rattle.set_tree.specs.declared.set.Cover.{Cover}
-use Rattle.set_tree.specs.declared.set.Name.{Name}
-use Rattle.set_tree.specs.declared.set.Set.{Set}
-use Rattle.set_tree.specs.declared.set.To.{To}
+use Rattle.std.proofs.lemmas.Bool.{ltb-true, ltb-false, lt-ltb, and_parts, or_parts, not-false}
 use Rattle.set_tree.specs.declared.set.To.TheVariants as to
 use Rattle.set_tree.specs.declared.text.CoverText.{CoverText}
 use Rattle.set_tree.specs.declared.text.Declaration.{Declaration}
@@ -15,11 +11,9 @@ use Rattle.set_tree.specs.declared.text.EndText.{EndText}
 use Rattle.set_tree.specs.declared.text.EndText.TheVariants as end
 use Rattle.set_tree.specs.declared.text.PropertyText.{PropertyText}
 use Rattle.set_tree.specs.declared.text.SetText.{SetText}
-use Rattle.set_lookup.specs.declared.looked.Looked.{Looked}
-use Rattle.set_lookup.specs.declared.looked.Sizes.{Sizes}
 use Rattle.set_lookup.specs.declared.quantity.Quantity.TheVariants as q
-use Rattle.set_lookup.specs.Meaning.{within, width_of, low_of, name_with, name_of, each, joined, output_from, end_of, cover_with, cover_of, successor_of, high_from, window_from, sizes_with, sizes_of, looked_with, looked_of, property_of, properties_of, constraints_of, invariants_of, Means, MeansNothing, AreProperties}
-use Rattle.set_lookup.specs.Faults.{Has, is_outside, leaves_width, leaves_length, leaves_window, leaves, is_no_output, is_no_property, outputs_of, outputs_used, successors_used, properties_in, is_small_end, is_small_cover, HasSmallNumbers, IsValid, StandsLimit}
+use Rattle.set_lookup.specs.Meaning.{within, width_of, low_of, name_with, name_of, each, joined, output_from, end_of, cover_with, cover_of, successor_of, high_from, window_from, sizes_with, sizes_of, looked_with, looked_of, property_of, properties_of, constraints_of, invariants_of, MeansNothing}
+use Rattle.set_lookup.specs.Faults.{Has, is_outside, leaves_width, leaves_length, leaves_window, leaves, is_no_output, is_no_property, outputs_of, properties_in, is_small_end, is_small_cover, HasSmallNumbers, IsValid, StandsLimit}
 
 -- a value that is there
 abbrev pub Is : {A : Type 0} → Option A → Type 0

@@ -1,6 +1,6 @@
 -- Searches through lists: what they find stands there, and they miss nothing.
-use Rattle.std.proofs.Common.{◌≡◌, ℕ, suc, ◌+◌, ◌-◌, ◌<◌, ◌⊎◌, inl, inr, List, [], ◌∷◌, ◌++◌, length, map, take, drop, get_or, drop-cons, add-one, Option, Some, None, Result, Ok, Err, Bool, true, false, not, cond, Bor, refl, sym, ap, subst, ◌∙◌, arith}
-use Rattle.std.specs.Prelude.{◌||◌, if◌then◌else◌, IfOk}
+use Rattle.std.proofs.Common.{◌≡◌, ℕ, suc, ◌+◌, ◌-◌, ◌<◌, inl, inr, List, [], ◌∷◌, ◌++◌, length, take, drop, get_or, drop-cons, add-one, Option, Some, None, Result, Ok, Err, Bool, true, false, not, Bor, refl, sym, ap, subst, ◌∙◌}
+use Rattle.std.specs.Prelude.{IfOk}
 use Rattle.std.specs.List.{find, flat_map, list_any}
 use Rattle.std.specs.Option.{option_copied, option_or}
 use Rattle.std.specs.Str.{bytes_eq}
@@ -12,11 +12,10 @@ use Rattle.vlog_tree.specs.declared.expr.Name.{Name}
 use Rattle.set_tree.specs.declared.text.Declaration.{Declaration}
 use Rattle.set_tree.specs.declared.text.PropertyText.{PropertyText}
 use Rattle.set_tree.specs.declared.text.SetText.{SetText}
-use Rattle.set_lookup.specs.declared.names.Wanted.{Wanted}
 use Rattle.set_lookup.specs.declared.names.Wanted.TheVariants as w
 use Rattle.set_lookup.specs.declared.quantity.Quantity.{Quantity}
 use Rattle.set_lookup.specs.declared.quantity.Quantity.TheVariants as q
-use Rattle.set_lookup.specs.Faults.{Has, HasTwice, LeadsTwice, Finds, first_twice, first_next_twice, is_declared, is_wanted, is_no_output, is_no_property, names_used, outputs_used, successors_used, properties_in, signal_names, property_names, UsesUndeclared, StandsUnknown, StandsTwice, StandsLimit, leaves}
+use Rattle.set_lookup.specs.Faults.{Has, HasTwice, LeadsTwice, Finds, first_twice, first_next_twice, is_declared, is_wanted, is_no_output, is_no_property, names_used, outputs_used, successors_used, properties_in, signal_names, property_names, StandsUnknown, StandsTwice, StandsLimit, leaves}
 
 pub by_test : (b : Bool) {P : Type 0} → (b ≡ true → P) → (b ≡ false → P) → P
 by_test true y n = y refl

@@ -1,6 +1,6 @@
 -- What a set's text may have against it once it is spelt: names that aren't declared, names that are declared twice, and
 -- quantities that leave their bounds.
-use Rattle.std.specs.Prelude.{ℕ, ◌≡◌, ◌⊎◌, ◌++◌, ◌&&◌, ◌||◌, not, List, [], ◌∷◌, length, map, Option, Some, None, Bool, true, false, IsTrue, nat_lt, is_some, codes, if◌then◌else◌, ◌^◌}
+use Rattle.std.specs.Prelude.{ℕ, ◌≡◌, ◌⊎◌, ◌++◌, ◌&&◌, ◌||◌, not, List, [], ◌∷◌, length, map, Option, Some, None, Bool, false, IsTrue, nat_lt, is_some, codes, if◌then◌else◌, ◌^◌}
 use Rattle.std.specs.List.{list_any, list_all, find, flat_map}
 use Rattle.std.specs.Option.{option_to_list, option_map, option_or}
 use Rattle.std.specs.Str.{bytes_eq}
@@ -181,7 +181,7 @@ abbrev pub Finds : {A : Type 0} → (A → Type 0) → Option A → Type 0
 Finds P None = (a : _) → P a → ⊥
 Finds P (Some a) = P a
 
--- the place of the first name that stands twice in a list, and in the lists of successors
+-- the first name that stands again behind its place in a list, and in a list of successors
 abbrev pub first_twice : List (List ℕ) → Option (List ℕ)
 first_twice [] = None
 first_twice (n ∷ ns) = if list_any (λ m. bytes_eq m n) ns then Some n else first_twice ns

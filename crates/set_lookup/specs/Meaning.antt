@@ -3,7 +3,6 @@ use Rattle.std.specs.Prelude.{ℕ, ◌+◌, ◌-◌, ◌^◌, ◌≡◌, ◌&&�
 use Rattle.std.specs.Option.{option_map}
 use Rattle.std.specs.Str.{bytes_eq}
 use Rattle.set_tree.specs.declared.set.Cover.{Cover}
-use Rattle.set_tree.specs.declared.set.Length.{Length}
 use Rattle.set_tree.specs.declared.set.Name.{Name}
 use Rattle.set_tree.specs.declared.set.Property.{Property}
 use Rattle.set_tree.specs.declared.set.Role.{Role}
@@ -17,7 +16,6 @@ use Rattle.set_tree.specs.declared.text.CoverText.{CoverText}
 use Rattle.set_tree.specs.declared.text.Declaration.{Declaration}
 use Rattle.set_tree.specs.declared.text.EndText.{EndText}
 use Rattle.set_tree.specs.declared.text.EndText.TheVariants as end
-use Rattle.set_tree.specs.declared.text.LengthText.{LengthText}
 use Rattle.set_tree.specs.declared.text.PropertyText.{PropertyText}
 use Rattle.set_tree.specs.declared.text.RuleKind.{RuleKind}
 use Rattle.set_tree.specs.declared.text.RuleKind.TheVariants as rule

@@ -56,6 +56,6 @@ module _ (ts : List Token) (small : (i : ℕ) (n : Number) → kind_at ts i ≡ 
   text_small x s = record {
     names = all_by (SpellsDeclaration ts) (λ d. nat_lt (low_of d.bits) (2 ^ 32)) declaration_small x.declarations 11 s.0 s.4;
     covers = and_from (list_all is_small_cover x.first.covers) (list_all (λ p. list_all is_small_cover p.covers) x.operations)
-      (property_small (s.1 + 2) x.first s.2 s.6.5)
-      (all_by (SpellsOperation ts) (λ p. list_all is_small_cover p.covers) operation_small x.operations s.2 _ s.7);
+        (property_small (s.1 + 2) x.first s.2 s.6.5)
+        (all_by (SpellsOperation ts) (λ p. list_all is_small_cover p.covers) operation_small x.operations s.2 _ s.7);
   }

@@ -207,7 +207,10 @@ fn texts_that_spell_no_set_are_refused(rt: HostRuntime) -> Result<(), Fail> {
 
 #[test]
 fn a_formula_that_is_too_high_is_refused(rt: HostRuntime) -> Result<(), Fail> {
-    let mut text = Text::copy(rt.alloc(), b"block m; clock c; reset r high 1; output q when ")?;
+    let mut text = Text::copy(
+        rt.alloc(),
+        b"block m; clock c; reset r high 1; output q when ",
+    )?;
     for _turn in 0..501 {
         text.append(b"!")?;
     }
@@ -219,28 +222,103 @@ const GO: &[u8] = b"length 1; next go;";
 
 #[test]
 fn names_are_declared_once(rt: HostRuntime) -> Result<(), Fail> {
-    wrong(&rt, (b"output q when p;", b"next go;", GO), b"unknown", b"p")?;
-    wrong(&rt, (b"output q;", b"cover p from 0 to 1; next go;", GO), b"unknown", b"p")?;
-    wrong(&rt, (b"output q; state s;", b"cover s from 0 to 1; next go;", GO), b"unknown", b"s")?;
+    wrong(
+        &rt,
+        (b"output q when p;", b"next go;", GO),
+        b"unknown",
+        b"p",
+    )?;
+    wrong(
+        &rt,
+        (b"output q;", b"cover p from 0 to 1; next go;", GO),
+        b"unknown",
+        b"p",
+    )?;
+    wrong(
+        &rt,
+        (b"output q; state s;", b"cover s from 0 to 1; next go;", GO),
+        b"unknown",
+        b"s",
+    )?;
     wrong(&rt, (b"output q;", b"next stop;", GO), b"unknown", b"stop")?;
-    wrong(&rt, (b"output q; state q;", b"next go;", GO), b"twice", b"q")?;
-    wrong(&rt, (b"output q; invariant go : q;", b"next go;", GO), b"twice", b"go")?;
-    wrong(&rt, (b"output q; constraint reset : q;", b"next go;", GO), b"twice", b"reset")?;
+    wrong(
+        &rt,
+        (b"output q; state q;", b"next go;", GO),
+        b"twice",
+        b"q",
+    )?;
+    wrong(
+        &rt,
+        (b"output q; invariant go : q;", b"next go;", GO),
+        b"twice",
+        b"go",
+    )?;
+    wrong(
+        &rt,
+        (b"output q; constraint reset : q;", b"next go;", GO),
+        b"twice",
+        b"reset",
+    )?;
     wrong(&rt, (b"output q;", b"next go, go;", GO), b"twice", b"go")
 }
 
 #[test]
 fn quantities_keep_their_bounds(rt: HostRuntime) -> Result<(), Fail> {
-    let window = set_of(rt.alloc(), b"output q;", b"next go;", b"length 1; window 64; next go;")?;
+    let window = set_of(
+        rt.alloc(),
+        b"output q;",
+        b"next go;",
+        b"length 1; window 64; next go;",
+    )?;
     is_read(&rt, window.bytes(), 1)?;
-    wrong(&rt, (b"output q;", b"next go;", b"length 1; window 65; next go;"), b"limit", b"window")?;
-    wrong(&rt, (b"output q;", b"next go;", b"length 0; next go;"), b"limit", b"length")?;
-    wrong(&rt, (b"output q;", b"next go;", b"length 3 to 2 until q; next go;"), b"limit", b"length")?;
-    wrong(&rt, (b"output [64:0] q;", b"next go;", GO), b"limit", b"width")?;
-    wrong(&rt, (b"output [0:1] q;", b"next go;", GO), b"limit", b"width")?;
-    wrong(&rt, (b"output q; constraint c : q@65;", b"next go;", GO), b"limit", b"window")?;
+    wrong(
+        &rt,
+        (b"output q;", b"next go;", b"length 1; window 65; next go;"),
+        b"limit",
+        b"window",
+    )?;
+    wrong(
+        &rt,
+        (b"output q;", b"next go;", b"length 0; next go;"),
+        b"limit",
+        b"length",
+    )?;
+    wrong(
+        &rt,
+        (
+            b"output q;",
+            b"next go;",
+            b"length 3 to 2 until q; next go;",
+        ),
+        b"limit",
+        b"length",
+    )?;
+    wrong(
+        &rt,
+        (b"output [64:0] q;", b"next go;", GO),
+        b"limit",
+        b"width",
+    )?;
+    wrong(
+        &rt,
+        (b"output [0:1] q;", b"next go;", GO),
+        b"limit",
+        b"width",
+    )?;
+    wrong(
+        &rt,
+        (b"output q; constraint c : q@65;", b"next go;", GO),
+        b"limit",
+        b"window",
+    )?;
     wrong(&rt, (b"", b"next go;", GO), b"limit", b"names")?;
-    refused(&rt, b"block m; clock c; reset r low 17; output q; property reset { length 0; next reset; } operation go { length 1; next go; }", b"limit", b"cycles", 0)
+    refused(
+        &rt,
+        b"block m; clock c; reset r low 17; output q; property reset { length 0; next reset; } operation go { length 1; next go; }",
+        b"limit",
+        b"cycles",
+        0,
+    )
 }
 
 #[test]

@@ -1,4 +1,4 @@
-use Rattle.std.proofs.Common.{◌≡◌, ◌+◌, ◌≤◌, drop, length}
+use Rattle.std.proofs.Common.{◌≡◌, ◌+◌, drop, length}
 use Rattle.set_lookup.specs.Meaning.{constraints_of, invariants_of}
 use Rattle.set_lookup.proofs.limit.counts_of.Given as goal
 

@@ -1,6 +1,6 @@
-use Rattle.std.proofs.Common.{◌≡◌, ◌≤◌, length, arith}
-use Rattle.set_lookup.specs.Faults.{StandsLimit, StandsTwice, StandsUnknown}
-use Rattle.set_lookup.proofs.Searches.{finds_none, finds_none_copied}
+use Rattle.std.proofs.Common.{arith}
+use Rattle.set_lookup.specs.Faults.{StandsLimit}
+use Rattle.set_lookup.proofs.Searches.{finds_none}
 use Rattle.set_lookup.proofs.Meant.{few_operations}
 use Rattle.set_lookup.proofs.looked.check.Goals as goal
 

@@ -1,4 +1,4 @@
-use Rattle.std.proofs.Common.{◌≡◌, ◌<◌, length, arith, ap, subst}
+use Rattle.std.proofs.Common.{arith, subst}
 use Rattle.std.specs.Option.{MatchOption}
 use Rattle.set_lookup.specs.Meaning.{Means, MeansNothing}
 use Rattle.set_lookup.proofs.Meant.{few_cycles, few_names, few_operations, meant}

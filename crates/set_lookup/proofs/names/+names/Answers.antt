@@ -1,4 +1,3 @@
-use Rattle.std.proofs.Common.{◌≡◌}
 use Rattle.set_lookup.specs.Faults.{is_wanted, names_in}
 use Rattle.set_lookup.proofs.Searches.{passes_at, stops_at}
 use Rattle.set_lookup.proofs.FormNames.{select_gives, part_gives, constant_select_gives, constant_part_gives, cast_gives, paren_gives, concat_gives, repeat_gives, unary_gives, binary_gives, choice_gives}

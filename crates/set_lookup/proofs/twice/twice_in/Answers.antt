@@ -1,4 +1,3 @@
-use Rattle.std.proofs.Common.{◌≡◌}
 use Rattle.set_lookup.specs.Faults.{first_twice}
 use Rattle.set_lookup.proofs.Searches.{stands_again, stands_once}
 use Rattle.set_lookup.proofs.twice.twice_in.Goals as goal

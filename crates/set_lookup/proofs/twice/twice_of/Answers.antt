@@ -1,4 +1,4 @@
-use Rattle.std.proofs.Common.{◌≡◌, sym, ◌∙◌}
+use Rattle.std.proofs.Common.{sym, ◌∙◌}
 use Rattle.set_lookup.proofs.Searches.{signal_stands, property_stands, twice_ok, none_is}
 use Rattle.set_lookup.proofs.twice.twice_of.Goals as goal
 

@@ -1,7 +1,7 @@
 use Rattle.std.proofs.Common.{◌≡◌, drop}
 use Rattle.std.specs.List.{find, flat_map}
 use Rattle.std.specs.Option.{option_to_list}
-use Rattle.set_lookup.specs.Faults.{names_in, names_of, is_wanted}
+use Rattle.set_lookup.specs.Faults.{names_in, is_wanted}
 use Rattle.set_lookup.proofs.unknown.in_domains.Given as goal
 
 abbrev pub invariant-loop-declaration : goal.invariant-loop-declaration

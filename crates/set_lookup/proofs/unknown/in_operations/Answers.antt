@@ -1,4 +1,3 @@
-use Rattle.std.proofs.Common.{◌≡◌}
 use Rattle.set_lookup.specs.Faults.{names_of, is_wanted}
 use Rattle.set_lookup.proofs.Searches.{passes_at, stops_at}
 use Rattle.set_lookup.proofs.unknown.in_operations.Goals as goal

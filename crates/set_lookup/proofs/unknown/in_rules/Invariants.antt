@@ -1,7 +1,6 @@
 use Rattle.std.proofs.Common.{◌≡◌, drop}
 use Rattle.std.specs.List.{find, flat_map}
-use Rattle.std.specs.Option.{option_to_list}
-use Rattle.set_lookup.specs.Faults.{names_in, names_of, is_wanted}
+use Rattle.set_lookup.specs.Faults.{names_in, is_wanted}
 use Rattle.set_lookup.proofs.unknown.in_rules.Given as goal
 
 abbrev pub invariant-loop-rule : goal.invariant-loop-rule

@@ -1,4 +1,4 @@
-use Rattle.std.proofs.Common.{◌≡◌, ap, ◌∙◌, map}
+use Rattle.std.proofs.Common.{ap, ◌∙◌, map}
 use Rattle.std.specs.List.{find}
 use Rattle.set_lookup.specs.Faults.{outputs_of, is_no_output}
 use Rattle.set_lookup.proofs.Searches.{passes_at, stops_at}

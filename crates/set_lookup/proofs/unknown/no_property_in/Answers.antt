@@ -1,4 +1,4 @@
-use Rattle.std.proofs.Common.{◌≡◌, ap, ◌∙◌}
+use Rattle.std.proofs.Common.{ap, ◌∙◌}
 use Rattle.std.specs.List.{find}
 use Rattle.set_lookup.specs.Faults.{is_no_property}
 use Rattle.set_lookup.proofs.Searches.{passes_at, stops_at}

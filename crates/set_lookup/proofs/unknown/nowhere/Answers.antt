@@ -1,4 +1,4 @@
-use Rattle.std.proofs.Common.{◌≡◌, ◌∙◌}
+use Rattle.std.proofs.Common.{◌∙◌}
 use Rattle.std.specs.List.{find, flat_map}
 use Rattle.set_lookup.specs.Faults.{is_no_property}
 use Rattle.set_lookup.proofs.Searches.{or_finds}

@@ -1,4 +1,4 @@
-use Rattle.std.proofs.Common.{◌≡◌, ◌∙◌, map}
+use Rattle.std.proofs.Common.{◌∙◌, map}
 use Rattle.std.specs.List.{find, flat_map}
 use Rattle.set_lookup.specs.Faults.{is_no_output, outputs_of}
 use Rattle.set_lookup.proofs.Searches.{or_finds}

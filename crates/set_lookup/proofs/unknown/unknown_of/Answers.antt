@@ -1,4 +1,3 @@
-use Rattle.std.proofs.Common.{◌≡◌}
 use Rattle.std.specs.Option.{option_copied}
 use Rattle.set_lookup.proofs.Searches.{undeclared_stands, uncovered_stands, unknown_all, none_copied}
 use Rattle.set_lookup.proofs.unknown.unknown_of.Goals as goal
