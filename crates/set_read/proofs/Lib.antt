@@ -1,2 +1,4 @@
-pub mod Each
+pub mod PlainNumbers
 pub mod Sequences
+pub mod SmallNumbers
+pub mod Answers

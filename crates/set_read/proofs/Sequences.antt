@@ -1,6 +1,6 @@
 -- One more element at the end of what is spelt so far.
-use Rattle.std.proofs.Common.{◌≡◌, ℕ, ◌+◌, List, [], ◌∷◌, ◌++◌, refl, sym, subst}
-use Rattle.vlog_tree.specs.Lists.{More, Separated, Sequence}
+use Rattle.std.proofs.Common.{◌≡◌, ℕ, ◌+◌, max, List, [], ◌∷◌, ◌++◌, refl, sym, ap, subst, arith}
+use Rattle.vlog_tree.specs.Lists.{More, Separated, Sequence, highest}
 
 module _ {A : Type 0} (P : ℕ → A → ℕ → Type 0) where
   pub sequence_more : (xs : List A) (i m j : ℕ) (x : A) → Sequence P i xs m → P m x j → Sequence P i (xs ++ x ∷ []) j
@@ -17,3 +17,7 @@ module _ {A : Type 0} (P : ℕ → A → ℕ → Type 0) where
   pub separated_more : (sep : ℕ → Type 0) (xs : List A) (i m j : ℕ) (x : A) → Separated sep P i xs m → sep m → P (m + 1) x j → Separated sep P i (xs ++ x ∷ []) j
   separated_more sep [] i m j x s w p = absurd s
   separated_more sep (y ∷ ys) i m j x (n, q, rest) w p = (n, q, more_more sep ys n m j x rest w p)
+
+pub highest_more : {A : Type 0} (h : A → ℕ) (xs : List A) (x : A) → highest h (xs ++ x ∷ []) ≡ max (highest h xs) (h x)
+highest_more h [] x = omega arith
+highest_more h (y ∷ ys) x = omega (arith, highest_more h ys x)

@@ -1,11 +1,15 @@
 ghost use Rattle.std.specs.Prelude.{◌≡◌};
+ghost use Rattle.set_read.specs.Read.{of_tokens, of_text, of_wrong};
 ghost use Rattle.set_read.specs.declared.fault.SetFault.TheVariants.{Memory};
+ghost use Rattle.set_read.specs.declared.fault.TextFault.TheVariants as text;
 
+use outside::Text;
+use set_lookup::{Quantity, Wrong};
 use std::alloc::{AllocError, AllocFailed};
 use vlog_lex::ReadFault;
 
 /// Why a text is refused. The numbers are places of bytes.
-#[derive(Clone, Copy, PartialEq, Eq)]
+#[derive(Drop)]
 pub enum SetFault {
     /// A byte that begins no token, or a comment without its end.
     Bytes(usize),
@@ -13,10 +17,15 @@ pub enum SetFault {
     Number(usize),
     /// The tokens spell no set; the place is where the reader stopped.
     Syntax(usize),
+    /// A formula, a cover or a successor uses a name that isn't declared, or a cover one that is no output.
+    Unknown(Text),
+    /// Two signals have a name, or two of the properties, constraints and invariants, or it stands twice in one list of
+    /// successors.
+    Twice(Text),
+    /// A quantity leaves its bounds.
+    Limit(Quantity),
     /// A formula is higher than 500.
     Deep,
-    /// A cover or a successor has a name that isn't declared, or a number or a count is too large.
-    Later,
     /// Want of memory.
     Memory,
 }
@@ -37,13 +46,62 @@ impl<T: Drop> From<AllocFailed<T>> for SetFault {
     }
 }
 
+/// Why tokens spell no set. The number is the place of a byte.
+#[derive(Clone, Copy, PartialEq, Eq)]
+pub enum TextFault {
+    Syntax(usize),
+    Deep,
+    Memory,
+}
+
+impl From<AllocError> for TextFault {
+    ghost from_gives = { λ _ fault. fault ≡ text.Memory };
+
+    fn from(_error: AllocError) -> TextFault {
+        TextFault::Memory
+    }
+}
+
+impl<T: Drop> From<AllocFailed<T>> for TextFault {
+    ghost from_gives = { λ _ fault. fault ≡ text.Memory };
+
+    fn from(_error: AllocFailed<T>) -> TextFault {
+        TextFault::Memory
+    }
+}
+
 /// The refusal of a text by the reader of its tokens.
-pub fn of_tokens(fault: ReadFault) -> SetFault {
+pub fn of_tokens(fault: ReadFault) -> SetFault
+    ensures { result ≡ of_tokens fault }
+{
     match fault {
         ReadFault::Bytes(at) => SetFault::Bytes(at),
         ReadFault::Number(at) => SetFault::Number(at),
         ReadFault::Outside(at) | ReadFault::Syntax(at) => SetFault::Syntax(at),
         ReadFault::Deep => SetFault::Deep,
         ReadFault::Memory => SetFault::Memory,
+    }
+}
+
+/// The refusal of a text that is spelt.
+pub fn of_wrong(wrong: Wrong) -> SetFault
+    ensures { result ≡ of_wrong wrong }
+{
+    match wrong {
+        Wrong::Unknown(name) => SetFault::Unknown(name),
+        Wrong::Twice(name) => SetFault::Twice(name),
+        Wrong::Limit(quantity) => SetFault::Limit(quantity),
+        Wrong::Memory => SetFault::Memory,
+    }
+}
+
+/// The refusal of tokens that spell no set.
+pub fn of_text(fault: TextFault) -> SetFault
+    ensures { result ≡ of_text fault }
+{
+    match fault {
+        TextFault::Syntax(at) => SetFault::Syntax(at),
+        TextFault::Deep => SetFault::Deep,
+        TextFault::Memory => SetFault::Memory,
     }
 }

@@ -2,7 +2,6 @@
 #![tactic(auto)]
 
 mod fault;
-mod looked;
 mod parts;
 mod property;
 mod read;
@@ -12,3 +11,4 @@ mod tokens;
 
 pub use fault::SetFault;
 pub use read::read_set;
+pub use set_lookup::Quantity;

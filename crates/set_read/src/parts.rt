@@ -1,8 +1,9 @@
 // Declarations, rules and the clauses of a property.
-ghost use Rattle.std.specs.Prelude.{◌≡◌, ◌+◌, IfOk, IfSome, codes, true};
-ghost use Rattle.vlog_tree.specs.Lists.{Maybe, Sequence};
+ghost use Rattle.std.specs.Prelude.{◌≡◌, ◌+◌, ◌≤◌, IfOk, IfSome, codes, true};
+ghost use Rattle.vlog_tree.specs.Lists.{Maybe, Sequence, highest, highest_of};
 ghost use Rattle.vlog_tree.specs.Signs.{IsWord};
-ghost use Rattle.vlog_tree.specs.Spelling.{Spells};
+ghost use Rattle.vlog_tree.specs.Spelling.{Spells, height};
+ghost use Rattle.set_read.specs.Heights.{declaration_height, rule_height, length_height};
 ghost use Rattle.set_tree.specs.Spelling.{
   Clause,
   IsDigits,
@@ -22,7 +23,7 @@ ghost use Rattle.set_tree.specs.Spelling.{
   rule_word,
 };
 
-use crate::fault::SetFault;
+use crate::fault::TextFault;
 use crate::tokens::{digits, formula, formulas, name, path, sign, syntax, word};
 use set_tree::{
     Bits, CoverText, Declaration, EndText, LengthText, Role, Rows, RuleKind, RuleText, Until,
@@ -45,7 +46,7 @@ fn signed(tokens: &[Token], at: usize) -> (bool, usize)
 }
 
 /// `[high:low]`
-fn bits(tokens: &[Token], at: usize) -> Result<(Bits, usize), SetFault>
+fn bits(tokens: &[Token], at: usize) -> Result<(Bits, usize), TextFault>
     ensures { IfOk result (λ read. SpellsBits tokens.now at read.0 read.1) }
 {
     let end = sign(tokens, at, b"[")?;
@@ -57,7 +58,7 @@ fn bits(tokens: &[Token], at: usize) -> Result<(Bits, usize), SetFault>
 }
 
 /// A range, where one stands.
-fn maybe_bits(tokens: &[Token], at: usize) -> Result<(Option<Bits>, usize), SetFault>
+fn maybe_bits(tokens: &[Token], at: usize) -> Result<(Option<Bits>, usize), TextFault>
     ensures { IfOk result (λ read. Maybe (SpellsBits tokens.now) at read.0 read.1) }
 {
     if is_sign(tokens, at, b"[") {
@@ -88,8 +89,9 @@ fn domain(
     tokens: &[Token],
     at: usize,
     role: Role,
-) -> Result<(Option<Expr>, usize), SetFault>
-    ensures { IfOk result (λ read. SpellsDomainOf tokens.now role at read.0 read.1) }
+) -> Result<(Option<Expr>, usize), TextFault>
+    ensures spelt { IfOk result (λ read. SpellsDomainOf tokens.now role at read.0 read.1) }
+    ensures low { IfOk result (λ read. highest_of height read.0 ≤ 498) }
 {
     match role {
         Role::Output => maybe_domain(alloc, tokens, at),
@@ -101,8 +103,9 @@ fn maybe_domain(
     alloc: Global,
     tokens: &[Token],
     at: usize,
-) -> Result<(Option<Expr>, usize), SetFault>
-    ensures { IfOk result (λ read. Maybe (SpellsDomain tokens.now) at read.0 read.1) }
+) -> Result<(Option<Expr>, usize), TextFault>
+    ensures spelt { IfOk result (λ read. Maybe (SpellsDomain tokens.now) at read.0 read.1) }
+    ensures low { IfOk result (λ read. highest_of height read.0 ≤ 498) }
 {
     match word(tokens, at, b"when") {
         Ok(end) => {
@@ -118,9 +121,10 @@ fn declaration(
     tokens: &[Token],
     at: usize,
     role: Role,
-) -> Result<(Declaration, usize), SetFault>
+) -> Result<(Declaration, usize), TextFault>
     requires { IsWord tokens.now at (role_word role) }
-    ensures { IfOk result (λ read. SpellsDeclaration tokens.now at read.0 read.1) }
+    ensures spelt { IfOk result (λ read. SpellsDeclaration tokens.now at read.0 read.1) }
+    ensures low { IfOk result (λ read. declaration_height read.0 ≤ 499) }
 {
     if at >= tokens.len() {
         return Err(syntax(tokens, at));
@@ -143,13 +147,14 @@ fn declaration(
 }
 
 /// The declarations from a place on.
-#[tactic(auto, using(crate::proofs::Sequences::sequence_more))]
+#[tactic(auto, using(crate::proofs::Sequences::sequence_more, crate::proofs::Sequences::highest_more))]
 pub fn declarations(
     alloc: Global,
     tokens: &[Token],
     at: usize,
-) -> Result<(Rows<Declaration>, usize), SetFault>
-    ensures { IfOk result (λ read. Sequence (SpellsDeclaration tokens.now) at read.0 read.1) }
+) -> Result<(Rows<Declaration>, usize), TextFault>
+    ensures spelt { IfOk result (λ read. Sequence (SpellsDeclaration tokens.now) at read.0 read.1) }
+    ensures low { IfOk result (λ read. highest declaration_height read.0 ≤ 499) }
 {
     let mut list = Rows::new(alloc);
     let mut end = at;
@@ -181,9 +186,10 @@ fn rule(
     tokens: &[Token],
     at: usize,
     kind: RuleKind,
-) -> Result<(RuleText, usize), SetFault>
+) -> Result<(RuleText, usize), TextFault>
     requires { IsWord tokens.now at (rule_word kind) }
-    ensures { IfOk result (λ read. SpellsRule tokens.now at read.0 read.1) }
+    ensures spelt { IfOk result (λ read. SpellsRule tokens.now at read.0 read.1) }
+    ensures low { IfOk result (λ read. rule_height read.0 ≤ 499) }
 {
     if at >= tokens.len() {
         return Err(syntax(tokens, at));
@@ -203,13 +209,14 @@ fn rule(
 }
 
 /// The constraints and invariants from a place on.
-#[tactic(auto, using(crate::proofs::Sequences::sequence_more))]
+#[tactic(auto, using(crate::proofs::Sequences::sequence_more, crate::proofs::Sequences::highest_more))]
 pub fn rules(
     alloc: Global,
     tokens: &[Token],
     at: usize,
-) -> Result<(Rows<RuleText>, usize), SetFault>
-    ensures { IfOk result (λ read. Sequence (SpellsRule tokens.now) at read.0 read.1) }
+) -> Result<(Rows<RuleText>, usize), TextFault>
+    ensures spelt { IfOk result (λ read. Sequence (SpellsRule tokens.now) at read.0 read.1) }
+    ensures low { IfOk result (λ read. highest rule_height read.0 ≤ 499) }
 {
     let mut list = Rows::new(alloc);
     let mut end = at;
@@ -224,8 +231,9 @@ pub fn rules(
     Ok((list, end))
 }
 
-fn until(alloc: Global, tokens: &[Token], at: usize) -> Result<(Until, usize), SetFault>
-    ensures { IfOk result (λ read. SpellsUntil tokens.now at read.0 read.1) }
+fn until(alloc: Global, tokens: &[Token], at: usize) -> Result<(Until, usize), TextFault>
+    ensures spelt { IfOk result (λ read. SpellsUntil tokens.now at read.0 read.1) }
+    ensures low { IfOk result (λ read. height read.0.condition ≤ 498) }
 {
     let end = word(tokens, at, b"to")?;
     let (high, end) = digits(tokens, end)?;
@@ -238,8 +246,9 @@ fn maybe_until(
     alloc: Global,
     tokens: &[Token],
     at: usize,
-) -> Result<(Option<Until>, usize), SetFault>
-    ensures { IfOk result (λ read. Maybe (SpellsUntil tokens.now) at read.0 read.1) }
+) -> Result<(Option<Until>, usize), TextFault>
+    ensures spelt { IfOk result (λ read. Maybe (SpellsUntil tokens.now) at read.0 read.1) }
+    ensures low { IfOk result (λ read. highest_of (λ u. height u.condition) read.0 ≤ 498) }
 {
     if is_word(tokens, at, b"to") {
         let (until, end) = until(alloc, tokens, at)?;
@@ -250,8 +259,9 @@ fn maybe_until(
 }
 
 /// `length ..;`
-pub fn length(alloc: Global, tokens: &[Token], at: usize) -> Result<(LengthText, usize), SetFault>
-    ensures { IfOk result (λ read. Clause tokens.now (codes "length") (SpellsLength tokens.now) at read.0 read.1) }
+pub fn length(alloc: Global, tokens: &[Token], at: usize) -> Result<(LengthText, usize), TextFault>
+    ensures spelt { IfOk result (λ read. Clause tokens.now (codes "length") (SpellsLength tokens.now) at read.0 read.1) }
+    ensures low { IfOk result (λ read. length_height read.0 ≤ 498) }
 {
     let end = word(tokens, at, b"length")?;
     let (low, end) = digits(tokens, end)?;
@@ -260,7 +270,7 @@ pub fn length(alloc: Global, tokens: &[Token], at: usize) -> Result<(LengthText,
     Ok((LengthText { low, until }, end))
 }
 
-fn some_window(tokens: &[Token], at: usize) -> Result<(u64, usize), SetFault>
+fn some_window(tokens: &[Token], at: usize) -> Result<(u64, usize), TextFault>
     ensures { IfOk result (λ read. Clause tokens.now (codes "window") (IsDigits tokens.now) at read.0 read.1) }
 {
     let end = word(tokens, at, b"window")?;
@@ -270,7 +280,7 @@ fn some_window(tokens: &[Token], at: usize) -> Result<(u64, usize), SetFault>
 }
 
 /// `window ..;`, where it stands.
-pub fn window(tokens: &[Token], at: usize) -> Result<(Option<u64>, usize), SetFault>
+pub fn window(tokens: &[Token], at: usize) -> Result<(Option<u64>, usize), TextFault>
     ensures { IfOk result (λ read. Maybe (Clause tokens.now (codes "window") (IsDigits tokens.now)) at read.0 read.1) }
 {
     if is_word(tokens, at, b"window") {
@@ -282,14 +292,15 @@ pub fn window(tokens: &[Token], at: usize) -> Result<(Option<u64>, usize), SetFa
 }
 
 /// The clauses of a word with one formula each, from a place on.
-#[tactic(auto, using(crate::proofs::Sequences::sequence_more))]
+#[tactic(auto, using(crate::proofs::Sequences::sequence_more, crate::proofs::Sequences::highest_more))]
 pub fn clauses(
     alloc: Global,
     tokens: &[Token],
     at: usize,
     keyword: &[u8],
-) -> Result<(Items<Expr>, usize), SetFault>
-    ensures { IfOk result (λ read. Sequence (Clause tokens.now keyword.now (Spells true tokens.now)) at read.0 read.1) }
+) -> Result<(Items<Expr>, usize), TextFault>
+    ensures spelt { IfOk result (λ read. Sequence (Clause tokens.now keyword.now (Spells true tokens.now)) at read.0 read.1) }
+    ensures low { IfOk result (λ read. highest height read.0 ≤ 498) }
 {
     let mut list = Items::new(alloc);
     let mut end = at;
@@ -305,8 +316,9 @@ pub fn clauses(
 }
 
 /// `hand ..;`, where it stands.
-pub fn hand(alloc: Global, tokens: &[Token], at: usize) -> Result<(Items<Expr>, usize), SetFault>
-    ensures { IfOk result (λ read. SpellsHand tokens.now at read.0 read.1) }
+pub fn hand(alloc: Global, tokens: &[Token], at: usize) -> Result<(Items<Expr>, usize), TextFault>
+    ensures spelt { IfOk result (λ read. SpellsHand tokens.now at read.0 read.1) }
+    ensures low { IfOk result (λ read. highest height read.0 ≤ 498) }
 {
     match word(tokens, at, b"hand") {
         Ok(end) => {
@@ -319,7 +331,7 @@ pub fn hand(alloc: Global, tokens: &[Token], at: usize) -> Result<(Items<Expr>, 
 }
 
 /// `+ distance`, or 0 where none stands.
-fn distance(tokens: &[Token], at: usize) -> Result<(u64, usize), SetFault>
+fn distance(tokens: &[Token], at: usize) -> Result<(u64, usize), TextFault>
     ensures { IfOk result (λ read. SpellsDistance tokens.now at read.0 read.1) }
 {
     match sign(tokens, at, b"+") {
@@ -328,7 +340,7 @@ fn distance(tokens: &[Token], at: usize) -> Result<(u64, usize), SetFault>
     }
 }
 
-fn end_text(tokens: &[Token], at: usize) -> Result<(EndText, usize), SetFault>
+fn end_text(tokens: &[Token], at: usize) -> Result<(EndText, usize), TextFault>
     ensures { IfOk result (λ read. SpellsEnd tokens.now at read.0 read.1) }
 {
     match word(tokens, at, b"end") {
@@ -343,7 +355,7 @@ fn end_text(tokens: &[Token], at: usize) -> Result<(EndText, usize), SetFault>
     }
 }
 
-fn cover(alloc: Global, tokens: &[Token], at: usize) -> Result<(CoverText, usize), SetFault>
+fn cover(alloc: Global, tokens: &[Token], at: usize) -> Result<(CoverText, usize), TextFault>
     ensures { IfOk result (λ read. SpellsCover tokens.now at read.0 read.1) }
 {
     let end = word(tokens, at, b"cover")?;
@@ -362,7 +374,7 @@ pub fn covers(
     alloc: Global,
     tokens: &[Token],
     at: usize,
-) -> Result<(Items<CoverText>, usize), SetFault>
+) -> Result<(Items<CoverText>, usize), TextFault>
     ensures { IfOk result (λ read. Sequence (SpellsCover tokens.now) at read.0 read.1) }
 {
     let mut list = Items::new(alloc);

@@ -1,11 +1,12 @@
 // Properties and whole sets.
-ghost use Rattle.std.specs.Prelude.{◌≡◌, ◌+◌, IfOk, codes, true};
-ghost use Rattle.vlog_tree.specs.Lists.{Sequence};
+ghost use Rattle.std.specs.Prelude.{◌≡◌, ◌+◌, ◌≤◌, IfOk, codes, true};
+ghost use Rattle.vlog_tree.specs.Lists.{Sequence, highest};
 ghost use Rattle.vlog_tree.specs.Signs.{IsWord};
-ghost use Rattle.vlog_tree.specs.Spelling.{IsNamed};
+ghost use Rattle.vlog_tree.specs.Spelling.{IsNamed, height};
+ghost use Rattle.set_read.specs.Heights.{length_height, property_height, set_height};
 ghost use Rattle.set_tree.specs.Spelling.{SpellsConditions, SpellsHead, SpellsNamed, SpellsOperation, SpellsProperty, SpellsReset, SpellsSet, SpellsTail, level_word};
 
-use crate::fault::SetFault;
+use crate::fault::TextFault;
 use crate::parts::{clauses, covers, declarations, hand, length, rules, window};
 use crate::tokens::{digits, name, names, sign, syntax, word};
 use outside::Text;
@@ -24,8 +25,9 @@ struct Tail {
 }
 
 /// From the hand-over to the closing brace.
-fn read_tail(alloc: Global, tokens: &[Token], at: usize) -> Result<(Tail, usize), SetFault>
-    ensures { IfOk result (λ read. SpellsTail tokens.now at read.0.hand read.0.covers read.0.next read.1) }
+fn read_tail(alloc: Global, tokens: &[Token], at: usize) -> Result<(Tail, usize), TextFault>
+    ensures spelt { IfOk result (λ read. SpellsTail tokens.now at read.0.hand read.0.covers read.0.next read.1) }
+    ensures low { IfOk result (λ read. highest height read.0.hand ≤ 498) }
 {
     let (hand, end) = hand(alloc, tokens, at)?;
     let (covers, end) = covers(alloc, tokens, end)?;
@@ -50,8 +52,11 @@ fn read_conditions(
     alloc: Global,
     tokens: &[Token],
     at: usize,
-) -> Result<(Conditions, usize), SetFault>
-    ensures { IfOk result (λ read. SpellsConditions tokens.now at read.0.length read.0.window read.0.assume read.0.commit read.1) }
+) -> Result<(Conditions, usize), TextFault>
+    ensures spelt { IfOk result (λ read. SpellsConditions tokens.now at read.0.length read.0.window read.0.assume read.0.commit read.1) }
+    ensures length { IfOk result (λ read. length_height read.0.length ≤ 498) }
+    ensures assume { IfOk result (λ read. highest height read.0.assume ≤ 498) }
+    ensures commit { IfOk result (λ read. highest height read.0.commit ≤ 498) }
 {
     let (length, end) = length(alloc, tokens, at)?;
     let (window, end) = window(tokens, end)?;
@@ -74,8 +79,9 @@ fn property(
     tokens: &[Token],
     at: usize,
     name: Text,
-) -> Result<(PropertyText, usize), SetFault>
+) -> Result<(PropertyText, usize), TextFault>
     ensures spelt { IfOk result (λ read. SpellsProperty tokens.now at read.0 read.1) }
+    ensures low { IfOk result (λ read. property_height read.0 ≤ 499) }
     ensures name { IfOk result (λ read. read.0.name ≡ name) }
 {
     let end = sign(tokens, at, b"{")?;
@@ -97,7 +103,7 @@ fn property(
 }
 
 /// `property reset`
-fn reset_head(tokens: &[Token], at: usize) -> Result<usize, SetFault>
+fn reset_head(tokens: &[Token], at: usize) -> Result<usize, TextFault>
     ensures property { IfOk result (λ end. IsWord tokens.now at (codes "property")) }
     ensures reset { IfOk result (λ end. IsWord tokens.now (at + 1) (codes "reset")) }
     ensures end { IfOk result (λ end. end ≡ at + 2) }
@@ -112,8 +118,9 @@ fn reset_property(
     alloc: Global,
     tokens: &[Token],
     at: usize,
-) -> Result<(PropertyText, usize), SetFault>
-    ensures { IfOk result (λ read. SpellsReset tokens.now at read.0 read.1) }
+) -> Result<(PropertyText, usize), TextFault>
+    ensures spelt { IfOk result (λ read. SpellsReset tokens.now at read.0 read.1) }
+    ensures low { IfOk result (λ read. property_height read.0 ≤ 499) }
 {
     let end = reset_head(tokens, at)?;
     let name = Text::copy(alloc, b"reset")?;
@@ -128,7 +135,7 @@ fn reset_property(
 }
 
 /// `operation name`
-fn operation_head(alloc: Global, tokens: &[Token], at: usize) -> Result<(Text, usize), SetFault>
+fn operation_head(alloc: Global, tokens: &[Token], at: usize) -> Result<(Text, usize), TextFault>
     ensures word { IfOk result (λ read. IsWord tokens.now at (codes "operation")) }
     ensures name { IfOk result (λ read. IsNamed true tokens.now (at + 1) read.0 (at + 2)) }
     ensures end { IfOk result (λ read. read.1 ≡ at + 2) }
@@ -138,8 +145,9 @@ fn operation_head(alloc: Global, tokens: &[Token], at: usize) -> Result<(Text, u
     Ok((name, end))
 }
 
-fn operation(alloc: Global, tokens: &[Token], at: usize) -> Result<(PropertyText, usize), SetFault>
-    ensures { IfOk result (λ read. SpellsOperation tokens.now at read.0 read.1) }
+fn operation(alloc: Global, tokens: &[Token], at: usize) -> Result<(PropertyText, usize), TextFault>
+    ensures spelt { IfOk result (λ read. SpellsOperation tokens.now at read.0 read.1) }
+    ensures low { IfOk result (λ read. property_height read.0 ≤ 499) }
 {
     let (name, end) = operation_head(alloc, tokens, at)?;
     let (property, end) = property(alloc, tokens, end, name)?;
@@ -147,13 +155,14 @@ fn operation(alloc: Global, tokens: &[Token], at: usize) -> Result<(PropertyText
 }
 
 /// The operations from a place on.
-#[tactic(auto, using(crate::proofs::Sequences::sequence_more))]
+#[tactic(auto, using(crate::proofs::Sequences::sequence_more, crate::proofs::Sequences::highest_more))]
 fn operations(
     alloc: Global,
     tokens: &[Token],
     at: usize,
-) -> Result<(Rows<PropertyText>, usize), SetFault>
-    ensures { IfOk result (λ read. Sequence (SpellsOperation tokens.now) at read.0 read.1) }
+) -> Result<(Rows<PropertyText>, usize), TextFault>
+    ensures spelt { IfOk result (λ read. Sequence (SpellsOperation tokens.now) at read.0 read.1) }
+    ensures low { IfOk result (λ read. highest property_height read.0 ≤ 499) }
 {
     let mut list = Rows::new(alloc);
     let mut end = at;
@@ -184,7 +193,7 @@ fn named(
     tokens: &[Token],
     at: usize,
     keyword: &[u8],
-) -> Result<(Text, usize), SetFault>
+) -> Result<(Text, usize), TextFault>
     ensures { IfOk result (λ read. SpellsNamed tokens.now keyword.now at read.0 read.1) }
 {
     let end = word(tokens, at, keyword)?;
@@ -194,7 +203,7 @@ fn named(
 }
 
 /// `high` or `low`.
-fn level(tokens: &[Token], at: usize) -> Result<(bool, usize), SetFault>
+fn level(tokens: &[Token], at: usize) -> Result<(bool, usize), TextFault>
     ensures { IfOk result (λ read. IsWord tokens.now at (level_word read.0) × (read.1 ≡ at + 1)) }
 {
     match word(tokens, at, b"high") {
@@ -206,7 +215,7 @@ fn level(tokens: &[Token], at: usize) -> Result<(bool, usize), SetFault>
     }
 }
 
-fn read_head(alloc: Global, tokens: &[Token]) -> Result<(SetHead, usize), SetFault>
+fn read_head(alloc: Global, tokens: &[Token]) -> Result<(SetHead, usize), TextFault>
     ensures { IfOk result (λ read. SpellsHead tokens.now 0 read.0.block read.0.clock read.0.reset read.0.high read.0.cycles read.1) }
 {
     let (block, end) = named(alloc, tokens, 0, b"block")?;
@@ -229,8 +238,9 @@ fn read_head(alloc: Global, tokens: &[Token]) -> Result<(SetHead, usize), SetFau
 }
 
 /// The text of a set.
-pub fn set_text(alloc: Global, tokens: &[Token]) -> Result<SetText, SetFault>
-    ensures { IfOk result (λ text. SpellsSet tokens.now text) }
+pub fn set_text(alloc: Global, tokens: &[Token]) -> Result<SetText, TextFault>
+    ensures spelt { IfOk result (λ text. SpellsSet tokens.now text) }
+    ensures low { IfOk result (λ text. set_height text ≤ 500) }
 {
     let (head, end) = read_head(alloc, tokens)?;
     let (declarations, end) = declarations(alloc, tokens, end)?;

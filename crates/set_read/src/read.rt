@@ -1,28 +1,53 @@
 // The reader of a set.
-ghost use Rattle.std.specs.Prelude.{IfOk};
-ghost use Rattle.set_read.specs.Read.{Spells};
+ghost use Rattle.std.specs.Prelude.{◌≤◌, IfOk, IfErr};
+ghost use Rattle.set_tree.specs.Spelling.{SpellsSet};
+ghost use Rattle.set_read.specs.Heights.{set_height};
+ghost use Rattle.set_read.specs.Read.{Spells, SpellsTokens, HasSmallDigits, Refuses, RefusesTokens};
 
-use crate::fault::{SetFault, of_tokens};
-use crate::looked::look_up;
+use crate::fault::{SetFault, of_text, of_tokens, of_wrong};
 use crate::property::set_text;
-use set_tree::Set;
+use set_lookup::look_up;
+use set_tree::{Set, SetText};
 use std::alloc::Global;
 use vlog_lex::read_tokens;
+use vlog_tree::Token;
 
-/// The set that a text spells, its names looked up. The text is refused where its bytes spell no tokens (`Bytes`, `Number`, with
-/// the place of the byte), where the tokens are no set (`Syntax`, `Deep`), and by `Later` where a cover or a successor names what
-/// isn't declared, or a number or a count is too large for its place. The grammar is that of the document on formats.
+/// The set of a text that tokens spell.
+fn looked(alloc: Global, tokens: &[Token], text: SetText) -> Result<Set, SetFault>
+    requires digits { HasSmallDigits tokens.now }
+    requires spelt { SpellsSet tokens.now text }
+    requires low { set_height text ≤ 500 }
+    ensures ok { IfOk result (SpellsTokens tokens.now) }
+    ensures err { IfErr result (RefusesTokens tokens.now) }
+{
+    match look_up(alloc, text) {
+        Ok(set) => Ok(set),
+        Err(wrong) => Err(of_wrong(wrong)),
+    }
+}
+
+/// The set of tokens.
+fn of_list(alloc: Global, tokens: &[Token]) -> Result<Set, SetFault>
+    requires { HasSmallDigits tokens.now }
+    ensures ok { IfOk result (SpellsTokens tokens.now) }
+    ensures err { IfErr result (RefusesTokens tokens.now) }
+{
+    match set_text(alloc, tokens) {
+        Ok(text) => looked(alloc, tokens, text),
+        Err(fault) => Err(of_text(fault)),
+    }
+}
+
+/// The set that a text spells, its names looked up. The grammar is that of the document on formats.
+/// `Bytes` and `Number`: the first fault of the text's tokens, with the place of the byte. `Syntax`: its tokens spell no set.
+/// `Deep`: a formula is too high. `Unknown`, `Twice` and `Limit`: the text spells a set that has this against it; where several
+/// such faults stand, one of them is answered.
 pub fn read_set(alloc: Global, bytes: &[u8]) -> Result<Set, SetFault>
-    ensures { IfOk result (λ set. Spells bytes.now set) }
+    ensures ok { IfOk result (Spells bytes.now) }
+    ensures err { IfErr result (Refuses bytes.now) }
 {
     match read_tokens(alloc, bytes, true) {
-        Ok(tokens) => {
-            let text = set_text(alloc, &tokens)?;
-            match look_up(alloc, text)? {
-                Some(set) => Ok(set),
-                None => Err(SetFault::Later),
-            }
-        }
+        Ok(tokens) => of_list(alloc, &tokens),
         Err(fault) => Err(of_tokens(fault)),
     }
 }

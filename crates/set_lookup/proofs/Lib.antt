@@ -1,0 +1,4 @@
+pub mod Each
+pub mod FormNames
+pub mod Searches
+pub mod Meant

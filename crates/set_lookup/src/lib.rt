@@ -1,0 +1,14 @@
+//! What the text of a set means: its names looked up, and its quantities within their bounds.
+#![tactic(auto)]
+
+mod limit;
+mod looked;
+mod names;
+mod quantity;
+mod twice;
+mod unknown;
+mod wrong;
+
+pub use looked::look_up;
+pub use quantity::Quantity;
+pub use wrong::Wrong;

@@ -1,0 +1,13 @@
+use Rattle.std.proofs.Common.{◌≡◌, sym, subst, true}
+use Rattle.vlog_lex.specs.Tokens.{Lexes}
+use Rattle.set_read.specs.Read.{Refuses}
+use Rattle.set_read.proofs.PlainNumbers.{small_at}
+use Rattle.set_read.proofs.Answers.{lex_refuses, tokens_ok, tokens_err}
+use Rattle.set_read.proofs.read.read_set.Goals as goal
+
+pub of_list-requires : goal.of_list-requires
+of_list-requires c = small_at true c.args.bytes.now c.deref.result.now (subst (Lexes true c.args.bytes.now) (sym c.deref.ensures.value) c.in-Ok.ensures.ok)
+
+pub returns-in-Err-clause-err : goal.returns-in-Err-clause-err
+returns-in-Err-clause-err c =
+    subst (Refuses c.args.bytes.now) (sym c.of_tokens.ensures) (lex_refuses c.args.bytes.now c.in-Err.fault c.in-Err.ensures.err)
