@@ -1,3 +1,4 @@
+pub mod Faults
 pub mod FilesSeen
 pub mod Report
 pub mod Run

@@ -2,6 +2,7 @@
 #![tactic(auto)]
 
 mod book;
+mod faults;
 mod report;
 mod run;
 #[cfg(test)]

@@ -1,17 +1,17 @@
 // What a run answers, and how it goes out.
-ghost use Rattle.std.specs.Prelude.{◌≡◌, ◌⊎◌, ◌++◌, [], None, Some, IfOk, IfSome, map, string_bytes};
+ghost use Rattle.std.specs.Prelude.{◌≡◌, ◌⊎◌, ◌++◌, ◌≤◌, [], None, Some, IfOk, length, map, string_bytes};
 ghost use Rattle.std.specs.Io.KnownBytes.{Appends};
 ghost use Rattle.outside.specs.Faults.{Rose};
 ghost use Rattle.signoff.specs.FilesSeen.{files_of};
-ghost use Rattle.set_read.specs.Read.{Spells};
 ghost use Rattle.vlog_read.specs.Texts.{SpellsModules};
-ghost use Rattle.signoff.specs.Run.{Answers, Decides, DecidesOne, Delivers, IsRead, Judges, Reads, answer_of, lines_of, refusal as refusal_of};
+ghost use Rattle.signoff.specs.Run.{Answers, Decides, DecidesOne, Delivers, IsRead, Judges, Reads, answer_of, lines_of, refusal as refusal_of, report_answer};
 ghost use Rattle.signoff.specs.Words.{command_of};
 ghost use Rattle.signoff.specs.declared.run.Answer.{Answer};
 ghost use Rattle.signoff.specs.declared.run.Judged.{Judged};
 ghost use Rattle.signoff.specs.declared.run.Read.{Read};
 
 use crate::book::Book;
+use crate::faults::{read_fault_text, set_fault_text};
 use crate::report::{all_proved, report};
 use crate::words::{FileNames, command};
 use outside::{OutFault, Shelf, Sink, Text};
@@ -39,13 +39,23 @@ impl Model for Lines {
     ghost view = { λ l. l.lines.items };
 }
 
-/// What the two texts come to: the stage that refuses, or the lines.
+/// What the two texts come to: the first stage that refuses, or the lines.
 #[derive(Drop)]
 pub enum Judged {
-    /// The module text isn't read, or its module isn't plain.
-    Module,
-    /// The set text isn't read, or its set isn't plain or doesn't fit the module.
-    Set,
+    /// The module text is longer than 1,048,576 bytes.
+    LongModule,
+    /// The module text isn't read.
+    Module(ReadFault),
+    /// The set text is longer than 1,048,576 bytes.
+    LongSet,
+    /// The set text isn't read.
+    Set(SetFault),
+    /// The modules aren't one plain module.
+    NoPlainModule,
+    /// The set isn't plain.
+    NoPlainSet,
+    /// The set doesn't fit the module.
+    NoFit,
     /// A line has more than 16 free bits.
     Wide,
     Lines(Lines),
@@ -74,9 +84,10 @@ const LIMIT: usize = 1048576;
 ///
 /// - 2 where the words aren't `ops` and two words that don't begin with `-`, with the line `usage`;
 /// - 6 where a file can't be read, with the line `read: ` and its name, the module's first;
-/// - 3 where the module's text is longer than 1,048,576 bytes, spells no modules or isn't one plain module (`module: Later`), or
-///   a line has more than 16 free bits (`module: TooWide`);
-/// - 4 where the set's text is that long, spells no set, or its set isn't plain or doesn't fit the module (`set: Later`);
+/// - 3 where the module's text is longer than 1,048,576 bytes (`module: TooLong`), isn't read (`module: ` and the reader's fault), isn't
+///   one plain module (`module: Later`), or a line has more than 16 free bits (`module: TooWide`);
+/// - 4 where the set's text is that long (`set: Limit long`), isn't read (`set: ` and the reader's fault), or its set isn't plain or
+///   doesn't fit the module (`set: Later`);
 /// - 7 where the sink refuses a report;
 /// - 1 where a line is refuted, and 0 where all are proved, with the report;
 /// - 70 for want of memory.
@@ -182,58 +193,70 @@ fn answer_of(alloc: Global, judged: Judged) -> Result<Answer, AllocError>
     ensures { IfOk result (λ a. a ≡ answer_of judged) }
 {
     match judged {
-        Judged::Module => refusal(alloc, 3, b"module: Later", b""),
-        Judged::Set => refusal(alloc, 4, b"set: Later", b""),
+        Judged::LongModule => refusal(alloc, 3, b"module: TooLong", b""),
+        Judged::Module(fault) => {
+            let text = read_fault_text(alloc, fault)?;
+            refusal(alloc, 3, b"module: ", text.bytes())
+        }
+        Judged::LongSet => refusal(alloc, 4, b"set: Limit long", b""),
+        Judged::Set(fault) => {
+            let text = set_fault_text(alloc, &fault)?;
+            refusal(alloc, 4, b"set: ", text.bytes())
+        }
+        Judged::NoPlainModule => refusal(alloc, 3, b"module: Later", b""),
+        Judged::NoPlainSet | Judged::NoFit => refusal(alloc, 4, b"set: Later", b""),
         Judged::Wide => refusal(alloc, 3, b"module: TooWide", b""),
-        Judged::Lines(lines) => Ok(Answer {
-            status: if all_proved(&lines.lines) { 0 } else { 1 },
-            bytes: Text::new(report(alloc, &lines.lines)?),
-            lines: Some(lines),
-        }),
+        Judged::Lines(lines) => report_of(alloc, lines),
     }
 }
 
-/// The modules of a text; None where it is too long or spells none.
-fn modules_of(alloc: Global, text: &[u8]) -> Result<Option<Vec<Module>>, AllocError>
-    ensures { IfOk result (λ o. IfSome o (λ list. SpellsModules text.now list.items)) }
+/// The report of lines.
+fn report_of(alloc: Global, lines: Lines) -> Result<Answer, AllocError>
+    ensures { IfOk result (λ a. a ≡ report_answer lines) }
 {
-    if text.len() > LIMIT {
-        return Ok(None);
-    }
-    match read_modules(alloc, text) {
-        Ok(modules) => Ok(Some(modules)),
-        Err(ReadFault::Memory) => Err(AllocError),
-        Err(_) => Ok(None),
-    }
-}
-
-/// The set of a text; None where it is too long or spells none.
-fn set_of(alloc: Global, text: &[u8]) -> Result<Option<Set>, AllocError>
-    ensures { IfOk result (λ o. IfSome o (λ set. Spells text.now set)) }
-{
-    if text.len() > LIMIT {
-        return Ok(None);
-    }
-    match read_set(alloc, text) {
-        Ok(set) => Ok(Some(set)),
-        Err(SetFault::Memory) => Err(AllocError),
-        Err(_) => Ok(None),
-    }
+    Ok(Answer {
+        status: if all_proved(&lines.lines) { 0 } else { 1 },
+        bytes: Text::new(report(alloc, &lines.lines)?),
+        lines: Some(lines),
+    })
 }
 
 /// What the two texts come to.
-#[tactic(auto, using(crate::proofs::Judged::judges))]
 fn judge(alloc: Global, module: &[u8], set: &[u8]) -> Result<Judged, AllocError>
     ensures { IfOk result (λ j. Judges «module».now set.now j) }
 {
-    let Some(modules) = modules_of(alloc, module)? else {
-        return Ok(Judged::Module);
-    };
-    let Some(set) = set_of(alloc, set)? else {
-        return Ok(Judged::Set);
-    };
-    let judged = decided(alloc, &modules, &set)?;
-    Ok(judged)
+    if module.len() > LIMIT {
+        return Ok(Judged::LongModule);
+    }
+    match read_modules(alloc, module) {
+        Ok(modules) => judge_set(alloc, module, &modules, set),
+        Err(ReadFault::Memory) => Err(AllocError),
+        Err(fault) => Ok(Judged::Module(fault)),
+    }
+}
+
+/// What modules and a set's text come to.
+fn judge_set(
+    alloc: Global,
+    module: &[u8],
+    modules: &[Module],
+    set: &[u8],
+) -> Result<Judged, AllocError>
+    requires short { length «module».now ≤ 1048576 }
+    requires spelt { SpellsModules «module».now modules.now }
+    ensures { IfOk result (λ j. Judges «module».now set.now j) }
+{
+    if set.len() > LIMIT {
+        return Ok(Judged::LongSet);
+    }
+    match read_set(alloc, set) {
+        Ok(read) => {
+            let judged = decided(alloc, modules, &read)?;
+            Ok(judged)
+        }
+        Err(SetFault::Memory) => Err(AllocError),
+        Err(fault) => Ok(Judged::Set(fault)),
+    }
 }
 
 /// What modules and a set come to.
@@ -242,7 +265,7 @@ fn decided(alloc: Global, modules: &[Module], set: &Set) -> Result<Judged, Alloc
     ensures { IfOk result (λ j. Decides modules.now set.now j) }
 {
     if modules.len() != 1 {
-        return Ok(Judged::Module);
+        return Ok(Judged::NoPlainModule);
     }
     let judged = decided_one(alloc, &modules[0], set)?;
     Ok(judged)
@@ -253,8 +276,9 @@ fn decided_one(alloc: Global, module: &Module, set: &Set) -> Result<Judged, Allo
     ensures { IfOk result (λ j. DecidesOne «module».now set.now j) }
 {
     match decide_all(alloc, module, set)? {
-        plain_ops::Answer::NoPlainSet | plain_ops::Answer::NoFit => Ok(Judged::Set),
-        plain_ops::Answer::NoPlainModule => Ok(Judged::Module),
+        plain_ops::Answer::NoPlainSet => Ok(Judged::NoPlainSet),
+        plain_ops::Answer::NoFit => Ok(Judged::NoFit),
+        plain_ops::Answer::NoPlainModule => Ok(Judged::NoPlainModule),
         plain_ops::Answer::TooWide => Ok(Judged::Wide),
         plain_ops::Answer::Lines(lines) => Ok(Judged::Lines(Lines { lines })),
     }

@@ -66,6 +66,20 @@ operation hold { length 1; assume !en@0; commit q@1 == q@0; hand q@0;
   cover q from 1 to 2; next step, hold; }
 ";
 
+// A window of one cycle too many, and a successor that isn't declared.
+const LONG_WINDOW: &[u8] = b"block counter; clock clk; reset rst high 1; input en;
+property reset { length 0; next step; } operation step { length 1; window 65; next step; }
+";
+
+const UNKNOWN_SET: &[u8] = b"block counter; clock clk; reset rst high 1; input en;
+property reset { length 0; next step; } operation step { length 1; next go; }
+";
+
+// The block isn't the module's.
+const LONE_SET: &[u8] = b"block other; clock clk; reset rst high 1; input en;
+property reset { length 0; next step; } operation step { length 1; next step; }
+";
+
 const ALL_PROVED: &[u8] = b"proved reset\nproved op step\nproved op hold\nsatisfied\n";
 
 const STEP_REFUTED: &[u8] = b"proved reset\nrefuted op step\nproved op hold\nnot satisfied\n";
@@ -124,8 +138,36 @@ fn counters(rt: HostRuntime) -> Result<(), Fail> {
 #[test]
 fn refusals(rt: HostRuntime) -> Result<(), Fail> {
     let ops = ["ops", "M", "S"];
-    row(&rt, &ops, (b"", COUNTER_SET, &[]), 3, b"module: Later\n")?;
-    row(&rt, &ops, (COUNTER, b"", &[]), 4, b"set: Later\n")?;
+    row(
+        &rt,
+        &ops,
+        (b"", COUNTER_SET, &[]),
+        3,
+        b"module: Syntax at 0\n",
+    )?;
+    row(
+        &rt,
+        &ops,
+        (b"module m; endmodule", COUNTER_SET, &[]),
+        3,
+        b"module: Later\n",
+    )?;
+    row(&rt, &ops, (COUNTER, b"", &[]), 4, b"set: Syntax at 0\n")?;
+    row(
+        &rt,
+        &ops,
+        (COUNTER, LONG_WINDOW, &[]),
+        4,
+        b"set: Limit window\n",
+    )?;
+    row(
+        &rt,
+        &ops,
+        (COUNTER, UNKNOWN_SET, &[]),
+        4,
+        b"set: Unknown go\n",
+    )?;
+    row(&rt, &ops, (COUNTER, LONE_SET, &[]), 4, b"set: Later\n")?;
     row(&rt, &ops, (COUNTER, COUNTER_SET, &[2]), 6, b"read: S\n")?;
     row(&rt, &ops, (COUNTER, COUNTER_SET, &[1]), 6, b"read: M\n")?;
     row(
