@@ -1,2 +1,5 @@
+pub mod Passing
 pub mod LvalSteps
+pub mod LabelSteps
 pub mod StmtSteps
+pub mod CaseSteps

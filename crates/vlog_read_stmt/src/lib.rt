@@ -1,6 +1,7 @@
 //! Reads left sides and statements from tokens.
 #![tactic(auto)]
 
+mod label;
 mod lval;
 mod stmt;
 

@@ -42,6 +42,9 @@ pub fn read_lval(
     if tokens.len() <= at {
         return Err(ReadFault::Syntax(at));
     }
+    if tokens.len() <= after(tokens, at) {
+        return Err(ReadFault::Syntax(at));
+    }
     if depth == 0 {
         return Err(ReadFault::Deep);
     }
@@ -50,6 +53,9 @@ pub fn read_lval(
     } else {
         named(alloc, tokens, at, depth)?
     };
+    if tokens.len() <= read.end {
+        return Err(ReadFault::Syntax(read.end));
+    }
     if is_sign(tokens, read.end, b"[") {
         return Err(ReadFault::Syntax(read.end));
     }
@@ -58,6 +64,7 @@ pub fn read_lval(
 
 /// A name with its select.
 fn named(alloc: Global, tokens: &[Token], at: usize, depth: usize) -> Result<ParsedLval, ReadFault>
+    requires apart { IsSign tokens.now at (codes "{") → ⊥ }
     requires positive { 0 < depth }
     requires low { depth ≤ 500 }
     ensures { BeginsLval tokens.now at depth result }

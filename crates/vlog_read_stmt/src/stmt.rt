@@ -1,15 +1,17 @@
 //! Statements, by their first token.
 ghost use Rattle.std.specs.Prelude.{◌≡◌, ◌≤◌, ◌<◌, ◌+◌, ◌-◌, length, Some, codes, false};
+ghost use Rattle.vlog_tree.specs.Statements.{case_word};
 ghost use Rattle.vlog_tree.specs.Signs.{IsSign, IsWord};
-ghost use Rattle.vlog_read_stmt.specs.Answers.{AnswersStmt, AnswersSeq, AnswersHeader, AnswersValue, AnswersBlockName, IsLval, IsHeader, IsStmt};
+ghost use Rattle.vlog_read_stmt.specs.Answers.{AnswersStmt, AnswersSeq, AnswersItem, AnswersCases, AnswersHeader, AnswersValue, AnswersBlockName, NoKeyword, IsCaseWord, IsLval, IsHeader, IsStmt};
 
+use crate::label::labels;
 use crate::lval::{ParsedLval, read_lval};
 use outside::Text;
 use sqlite_items::{Boxed, Items};
 use std::alloc::Global;
 use vlog_lex::ReadFault;
 use vlog_read_expr::{Parsed, after, identifier, is_sign, is_word, read_tree};
-use vlog_tree::{Stmt, Token};
+use vlog_tree::{CaseItem, CaseKind, Stmt, Token};
 
 /// A statement, its height, and the place after it.
 #[derive(Drop)]
@@ -23,6 +25,24 @@ pub struct ParsedStmt {
 #[derive(Drop)]
 pub struct ParsedSeq {
     pub items: Items<Stmt>,
+    pub height: usize,
+    pub end: usize,
+}
+
+/// A case item, the greatest height in it, and the place after it.
+#[derive(Drop)]
+pub struct ParsedItem {
+    pub item: CaseItem,
+    /// 1 for `default`, and else 0.
+    pub defaults: usize,
+    pub height: usize,
+    pub end: usize,
+}
+
+/// Case items one after another, the greatest height among them, and the place after them.
+#[derive(Drop)]
+pub struct ParsedCases {
+    pub items: Items<CaseItem>,
     pub height: usize,
     pub end: usize,
 }
@@ -62,7 +82,41 @@ pub fn read_stmt(
     } else if is_word(tokens, at, b"if") {
         conditional(alloc, tokens, at, depth)
     } else {
-        assignment(alloc, tokens, at, depth)
+        case_or_assignment(alloc, tokens, at, depth)
+    }
+}
+
+/// How the case statement compares that begins at a place.
+fn case_kind(tokens: &[Token], at: usize) -> Option<CaseKind>
+    ensures { IsCaseWord tokens.now at result }
+{
+    if is_word(tokens, at, b"case") {
+        Some(CaseKind::Case)
+    } else if is_word(tokens, at, b"casez") {
+        Some(CaseKind::Casez)
+    } else {
+        None
+    }
+}
+
+/// A case statement or an assignment.
+#[cycle(stmt)]
+fn case_or_assignment(
+    alloc: Global,
+    tokens: &[Token],
+    at: usize,
+    depth: usize,
+) -> Result<ParsedStmt, ReadFault>
+    requires no_semicolon { IsSign tokens.now at (codes ";") → ⊥ }
+    requires no_begin { IsWord tokens.now at (codes "begin") → ⊥ }
+    requires no_if { IsWord tokens.now at (codes "if") → ⊥ }
+    requires positive { 0 < depth }
+    requires low { depth ≤ 500 }
+    ensures { AnswersStmt tokens.now at depth result }
+{
+    match case_kind(tokens, at) {
+        Some(kind) => choice(alloc, kind, tokens, at, depth),
+        None => assignment(alloc, tokens, at, depth),
     }
 }
 
@@ -200,6 +254,84 @@ fn with_else(
     })
 }
 
+#[cycle(stmt)]
+fn choice(
+    alloc: Global,
+    kind: CaseKind,
+    tokens: &[Token],
+    at: usize,
+    depth: usize,
+) -> Result<ParsedStmt, ReadFault>
+    requires here { IsWord tokens.now at (case_word kind) }
+    requires positive { 0 < depth }
+    requires low { depth ≤ 500 }
+    ensures { AnswersStmt tokens.now at depth result }
+{
+    let value = header(alloc, tokens, at, depth - 1)?;
+    let cases = case_items(alloc, kind, tokens, value.end, depth - 1)?;
+    Ok(ParsedStmt {
+        tree: Stmt::Case(kind, value.tree, cases.items),
+        height: value.height.max(cases.height) + 1,
+        end: after(tokens, cases.end),
+    })
+}
+
+/// Case items up to an `endcase`: one or more, at most one of them `default`.
+#[cycle(stmt)]
+fn case_items(
+    alloc: Global,
+    kind: CaseKind,
+    tokens: &[Token],
+    at: usize,
+    depth: usize,
+) -> Result<ParsedCases, ReadFault>
+    requires low { depth ≤ 500 }
+    ensures { AnswersCases kind tokens.now at depth result }
+{
+    let mut items = Items::new(alloc);
+    let mut height = 0usize;
+    let mut end = at;
+    let mut defaults = 0usize;
+    while !is_word(tokens, end, b"endcase") {
+        let item = case_item(alloc, kind, tokens, end, depth)?;
+        defaults += item.defaults;
+        if defaults > 1 {
+            return Err(ReadFault::Syntax(end));
+        }
+        items.push(item.item)?;
+        height = height.max(item.height);
+        end = item.end;
+    }
+    if end == at {
+        return Err(ReadFault::Syntax(end));
+    }
+    Ok(ParsedCases { items, height, end })
+}
+
+#[cycle(stmt)]
+fn case_item(
+    alloc: Global,
+    kind: CaseKind,
+    tokens: &[Token],
+    at: usize,
+    depth: usize,
+) -> Result<ParsedItem, ReadFault>
+    requires low { depth ≤ 500 }
+    ensures { AnswersItem kind tokens.now at depth result }
+{
+    let labels = labels(alloc, kind, tokens, at, depth)?;
+    let body = read_stmt(alloc, tokens, labels.end, depth)?;
+    Ok(ParsedItem {
+        item: CaseItem {
+            labels: labels.labels,
+            body: body.tree,
+        },
+        defaults: labels.defaults,
+        height: labels.height.max(body.height),
+        end: body.end,
+    })
+}
+
 /// An expression and its semicolon; the place answered is that after it.
 fn value(alloc: Global, tokens: &[Token], at: usize, depth: usize) -> Result<Parsed, ReadFault>
     requires low { depth ≤ 500 }
@@ -222,6 +354,7 @@ fn assignment(
     at: usize,
     depth: usize,
 ) -> Result<ParsedStmt, ReadFault>
+    requires other { NoKeyword tokens.now at }
     requires positive { 0 < depth }
     requires low { depth ≤ 500 }
     ensures { AnswersStmt tokens.now at depth result }
@@ -243,6 +376,7 @@ fn nonblocking(
     left: ParsedLval,
     depth: usize,
 ) -> Result<ParsedStmt, ReadFault>
+    requires other { NoKeyword tokens.now at }
     requires left { IsLval tokens.now at (depth - 1) left }
     requires sign { IsSign tokens.now left.end (codes "<=") }
     requires positive { 0 < depth }
@@ -264,6 +398,7 @@ fn blocking(
     left: ParsedLval,
     depth: usize,
 ) -> Result<ParsedStmt, ReadFault>
+    requires other { NoKeyword tokens.now at }
     requires left { IsLval tokens.now at (depth - 1) left }
     requires sign { IsSign tokens.now left.end (codes "=") }
     requires positive { 0 < depth }
