@@ -1,4 +1,8 @@
 pub mod ListSteps
 pub mod Steps
-pub mod ItemSteps
+pub mod PartSteps
+pub mod EventSteps
+pub mod InstanceSteps
 pub mod HeaderSteps
+pub mod ItemSteps
+pub mod TextSteps

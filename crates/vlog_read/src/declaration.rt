@@ -1,7 +1,7 @@
 //! Declarations: a sign and a range, and a list up to its semicolon.
 ghost use Rattle.std.specs.Prelude.{◌≤◌, ◌≡◌};
 ghost use Rattle.vlog_read.specs.Answers.{Finds};
-ghost use Rattle.vlog_read.specs.Declarations.{declared_height, SpellsDeclared};
+ghost use Rattle.vlog_read.specs.Declarations.{declared_height, SpellsDeclared, ReadsDeclared};
 
 use crate::list::up_to_end;
 use crate::part::{Found, Part};
@@ -26,7 +26,7 @@ pub fn read_declared<T: Part>(
     depth: usize,
 ) -> Result<Found<Declared<T>>, ReadFault>
     requires { depth ≤ 500 }
-    ensures { Finds tokens.now (declared_height T.height) (SpellsDeclared tokens.now (T.spells tokens.now)) at depth result }
+    ensures { Finds tokens.now (declared_height T.height) (SpellsDeclared tokens.now (T.spells tokens.now)) (ReadsDeclared tokens.now (T.spells tokens.now)) at depth result }
 {
     let shape = read_shape(alloc, tokens, at, depth)?;
     let items = up_to_end::<T>(alloc, tokens, shape.end, depth)?;

@@ -1,8 +1,8 @@
 //! Edges and lists of events.
-ghost use Rattle.std.specs.Prelude.{ℕ, ◌≡◌, ◌≤◌, ◌<◌, ◌+◌, length, codes};
+ghost use Rattle.std.specs.Prelude.{ℕ, ◌≡◌, ◌≤◌, ◌<◌, ◌+◌, ◌⊎◌, ◌↔◌, IsTrue, length, codes};
 ghost use Rattle.vlog_tree.specs.Signs.{IsSign};
 ghost use Rattle.vlog_tree.specs.Statements.{SpellsEdge, SpellsEvents};
-ghost use Rattle.vlog_read.specs.Answers.{Finds};
+ghost use Rattle.vlog_read.specs.Answers.{Finds, IsEdge};
 
 use crate::list::or_list;
 use crate::part::{Found, Part};
@@ -48,9 +48,22 @@ impl Part for Edge {
     }
 }
 
+/// Whether the word of an edge stands at a place.
+fn is_edge(tokens: &[Token], at: usize) -> bool
+    ensures { IsTrue result ↔ IsEdge tokens.now at }
+{
+    is_word(tokens, at, b"posedge") || is_word(tokens, at, b"negedge")
+}
+
 /// What an `always` waits for, after its `@`.
-pub fn read_events(alloc: Global, tokens: &[Token], at: usize) -> Result<Found<Events>, ReadFault>
-    ensures { Finds tokens.now (λ _. 0) (SpellsEvents tokens.now) at 0 result }
+pub fn read_events(
+    alloc: Global,
+    tokens: &[Token],
+    at: usize,
+    depth: usize,
+) -> Result<Found<Events>, ReadFault>
+    requires { depth ≤ 500 }
+    ensures { Finds tokens.now (λ _. 0) (SpellsEvents tokens.now) (SpellsEvents tokens.now) at depth result }
 {
     if is_sign(tokens, at, b"*") {
         return Ok(Found {
@@ -64,19 +77,19 @@ pub fn read_events(alloc: Global, tokens: &[Token], at: usize) -> Result<Found<E
     }
     let open = after(tokens, at);
     if is_sign(tokens, open, b"*") {
-        return all_events(tokens, at);
+        return all_events(tokens, at, depth);
     }
-    if is_word(tokens, open, b"posedge") || is_word(tokens, open, b"negedge") {
-        return edges(alloc, tokens, at);
+    if is_edge(tokens, open) {
+        return edges(alloc, tokens, at, depth);
     }
-    names(alloc, tokens, at)
+    names(alloc, tokens, at, depth)
 }
 
 /// `(*)`
-fn all_events(tokens: &[Token], at: usize) -> Result<Found<Events>, ReadFault>
+fn all_events(tokens: &[Token], at: usize, depth: usize) -> Result<Found<Events>, ReadFault>
     requires opens { IsSign tokens.now at (codes "(") }
     requires star { IsSign tokens.now (at + 1) (codes "*") }
-    ensures { Finds tokens.now (λ _. 0) (SpellsEvents tokens.now) at 0 result }
+    ensures { Finds tokens.now (λ _. 0) (SpellsEvents tokens.now) (SpellsEvents tokens.now) at depth result }
 {
     let close = after(tokens, after(tokens, at));
     if !is_sign(tokens, close, b")") {
@@ -89,11 +102,18 @@ fn all_events(tokens: &[Token], at: usize) -> Result<Found<Events>, ReadFault>
     })
 }
 
-fn edges(alloc: Global, tokens: &[Token], at: usize) -> Result<Found<Events>, ReadFault>
+fn edges(
+    alloc: Global,
+    tokens: &[Token],
+    at: usize,
+    depth: usize,
+) -> Result<Found<Events>, ReadFault>
     requires opens { IsSign tokens.now at (codes "(") }
-    ensures { Finds tokens.now (λ _. 0) (SpellsEvents tokens.now) at 0 result }
+    requires edge { IsEdge tokens.now (at + 1) }
+    requires low { depth ≤ 500 }
+    ensures { Finds tokens.now (λ _. 0) (SpellsEvents tokens.now) (SpellsEvents tokens.now) at depth result }
 {
-    let list = or_list::<Edge>(alloc, tokens, after(tokens, at), 0)?;
+    let list = or_list::<Edge>(alloc, tokens, after(tokens, at), depth)?;
     if !is_sign(tokens, list.end, b")") {
         return Err(ReadFault::Syntax(list.end));
     }
@@ -104,11 +124,19 @@ fn edges(alloc: Global, tokens: &[Token], at: usize) -> Result<Found<Events>, Re
     })
 }
 
-fn names(alloc: Global, tokens: &[Token], at: usize) -> Result<Found<Events>, ReadFault>
+fn names(
+    alloc: Global,
+    tokens: &[Token],
+    at: usize,
+    depth: usize,
+) -> Result<Found<Events>, ReadFault>
     requires opens { IsSign tokens.now at (codes "(") }
-    ensures { Finds tokens.now (λ _. 0) (SpellsEvents tokens.now) at 0 result }
+    requires no_star { IsSign tokens.now (at + 1) (codes "*") → ⊥ }
+    requires no_edge { IsEdge tokens.now (at + 1) → ⊥ }
+    requires low { depth ≤ 500 }
+    ensures { Finds tokens.now (λ _. 0) (SpellsEvents tokens.now) (SpellsEvents tokens.now) at depth result }
 {
-    let list = or_list::<Text>(alloc, tokens, after(tokens, at), 0)?;
+    let list = or_list::<Text>(alloc, tokens, after(tokens, at), depth)?;
     if !is_sign(tokens, list.end, b")") {
         return Err(ReadFault::Syntax(list.end));
     }

@@ -1,11 +1,11 @@
 //! Headers of modules.
-ghost use Rattle.std.specs.Prelude.{ℕ, ◌≡◌, ◌≤◌, ◌<◌, ◌+◌, ◌⊎◌, ◌↔◌, length, codes, IsTrue, IfOk};
+ghost use Rattle.std.specs.Prelude.{ℕ, ◌≡◌, ◌≤◌, ◌<◌, ◌+◌, ◌⊎◌, length, codes, IfOk};
 ghost use Rattle.vlog_tree.specs.Signs.{IsSign, IsWord};
 ghost use Rattle.vlog_tree.specs.Lists.{Maybe, AfterHash, highest, highest_of, InParens};
 ghost use Rattle.vlog_tree.specs.Modules.{SpellsHeaderParameter, SpellsHeaderPort, SpellsParameters, SpellsPorts, SpellsHeader, header_parameter_height, header_port_height, ports_height};
-ghost use Rattle.vlog_read.specs.Answers.{Finds};
+ghost use Rattle.vlog_read.specs.Answers.{Finds, Before, Follows, Closes, NoSign};
 
-use crate::item::port_kind;
+use crate::item::{is_direction, port_kind};
 use crate::list::comma_list;
 use crate::part::{Found, Part};
 use crate::parts::read_shape;
@@ -15,13 +15,6 @@ use std::alloc::Global;
 use vlog_lex::ReadFault;
 use vlog_read_expr::{after, identifier, is_sign, is_word};
 use vlog_tree::{HeaderParameter, HeaderPort, Parameter, Ports, Token};
-
-/// Whether a port's direction stands at a place.
-fn is_direction(tokens: &[Token], at: usize) -> bool
-    ensures { IsTrue result ↔ (IsWord tokens.now at (codes "input") ⊎ IsWord tokens.now at (codes "output")) }
-{
-    is_word(tokens, at, b"input") || is_word(tokens, at, b"output")
-}
 
 impl Part for HeaderPort {
     ghost spells = { SpellsHeaderPort };
@@ -53,8 +46,9 @@ fn port_group(
     at: usize,
     depth: usize,
 ) -> Result<Found<HeaderPort>, ReadFault>
-    requires { depth ≤ 500 }
-    ensures found { Finds tokens.now header_port_height (SpellsHeaderPort tokens.now) at depth result }
+    requires here { IsWord tokens.now at (codes "input") ⊎ IsWord tokens.now at (codes "output") }
+    requires low { depth ≤ 500 }
+    ensures found { Finds tokens.now header_port_height (SpellsHeaderPort tokens.now) (Before (SpellsHeaderPort tokens.now) (Follows tokens.now)) at depth result }
     ensures forward { IfOk result (λ found. at < found.end) }
 {
     let kind = port_kind(tokens, at)?;
@@ -104,7 +98,7 @@ pub fn header_parameters(
     depth: usize,
 ) -> Result<Found<Option<Items<HeaderParameter>>>, ReadFault>
     requires { depth ≤ 500 }
-    ensures { Finds tokens.now (highest_of (highest header_parameter_height)) (Maybe (AfterHash tokens.now (SpellsParameters tokens.now))) at depth result }
+    ensures { Finds tokens.now (highest_of (highest header_parameter_height)) (Maybe (AfterHash tokens.now (SpellsParameters tokens.now))) (Before (Maybe (AfterHash tokens.now (SpellsParameters tokens.now))) (NoSign (codes "#") tokens.now)) at depth result }
 {
     if !is_sign(tokens, at, b"#") {
         return Ok(Found {
@@ -140,7 +134,7 @@ fn read_ports(
     depth: usize,
 ) -> Result<Found<Ports>, ReadFault>
     requires { depth ≤ 500 }
-    ensures { Finds tokens.now ports_height (SpellsPorts tokens.now) at depth result }
+    ensures { Finds tokens.now ports_height (SpellsPorts tokens.now) (Before (SpellsPorts tokens.now) (Closes tokens.now)) at depth result }
 {
     if is_direction(tokens, at) {
         let list = comma_list::<HeaderPort>(alloc, tokens, at, depth)?;
@@ -166,7 +160,7 @@ pub fn header_ports(
     depth: usize,
 ) -> Result<Found<Option<Ports>>, ReadFault>
     requires { depth ≤ 500 }
-    ensures { Finds tokens.now (highest_of ports_height) (SpellsHeader tokens.now) at depth result }
+    ensures { Finds tokens.now (highest_of ports_height) (SpellsHeader tokens.now) (Before (SpellsHeader tokens.now) (λ j. IsSign tokens.now j (codes ";"))) at depth result }
 {
     if !is_sign(tokens, at, b"(") {
         return Ok(Found {

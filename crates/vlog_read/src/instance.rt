@@ -4,7 +4,7 @@ ghost use Rattle.vlog_tree.specs.Signs.{IsSign};
 ghost use Rattle.vlog_tree.specs.Lists.{Maybe, InParens, AfterHash, highest_of};
 ghost use Rattle.vlog_tree.specs.Spelling.{Spells, height};
 ghost use Rattle.vlog_tree.specs.Modules.{SpellsConnection, SpellsArgs, SpellsInstance, connection_height, args_height, instance_height};
-ghost use Rattle.vlog_read.specs.Answers.{Finds};
+ghost use Rattle.vlog_read.specs.Answers.{Finds, Before, Closes, NoSign};
 
 use crate::list::comma_list;
 use crate::part::{Found, Part};
@@ -21,7 +21,7 @@ fn connected(
     depth: usize,
 ) -> Result<Found<Option<Expr>>, ReadFault>
     requires { depth ≤ 500 }
-    ensures { Finds tokens.now (highest_of height) (InParens tokens.now (Maybe (Spells false tokens.now))) at depth result }
+    ensures { Finds tokens.now (highest_of height) (InParens tokens.now (Maybe (Spells false tokens.now))) (InParens tokens.now (Maybe (Spells false tokens.now))) at depth result }
 {
     if !is_sign(tokens, at, b"(") {
         return Err(ReadFault::Syntax(at));
@@ -81,7 +81,7 @@ fn read_args(
     depth: usize,
 ) -> Result<Found<Args>, ReadFault>
     requires { depth ≤ 500 }
-    ensures { Finds tokens.now args_height (SpellsArgs tokens.now) at depth result }
+    ensures { Finds tokens.now args_height (SpellsArgs tokens.now) (Before (SpellsArgs tokens.now) (Closes tokens.now)) at depth result }
 {
     if is_sign(tokens, at, b".") {
         let list = comma_list::<Connection>(alloc, tokens, at, depth)?;
@@ -107,7 +107,7 @@ fn connections(
     depth: usize,
 ) -> Result<Found<Option<Args>>, ReadFault>
     requires { depth ≤ 500 }
-    ensures { Finds tokens.now (highest_of args_height) (InParens tokens.now (Maybe (SpellsArgs tokens.now))) at depth result }
+    ensures { Finds tokens.now (highest_of args_height) (InParens tokens.now (Maybe (SpellsArgs tokens.now))) (InParens tokens.now (Maybe (SpellsArgs tokens.now))) at depth result }
 {
     if !is_sign(tokens, at, b"(") {
         return Err(ReadFault::Syntax(at));
@@ -163,7 +163,7 @@ pub fn overrides(
     depth: usize,
 ) -> Result<Found<Option<Args>>, ReadFault>
     requires { depth ≤ 500 }
-    ensures { Finds tokens.now (highest_of args_height) (Maybe (AfterHash tokens.now (SpellsArgs tokens.now))) at depth result }
+    ensures { Finds tokens.now (highest_of args_height) (Maybe (AfterHash tokens.now (SpellsArgs tokens.now))) (Before (Maybe (AfterHash tokens.now (SpellsArgs tokens.now))) (NoSign (codes "#") tokens.now)) at depth result }
 {
     if !is_sign(tokens, at, b"#") {
         return Ok(Found {

@@ -1,8 +1,7 @@
 //! Items, by their first word.
-ghost use Rattle.std.specs.Prelude.{ℕ, ◌≡◌, ◌≤◌, ◌<◌, ◌+◌, ◌-◌, length, codes, IfOk};
+ghost use Rattle.std.specs.Prelude.{ℕ, ◌≡◌, ◌≤◌, ◌<◌, ◌+◌, ◌-◌, ◌⊎◌, ◌↔◌, IsTrue, length, codes};
 ghost use Rattle.vlog_tree.specs.Signs.{IsWord};
-ghost use Rattle.vlog_tree.specs.Modules.{SpellsItem, SpellsKind, item_height};
-ghost use Rattle.vlog_read.specs.Answers.{Finds, FindsItem, SkipsWire};
+ghost use Rattle.vlog_read.specs.Answers.{FindsKind, FindsItem, NamesModule, SkipsWire};
 
 use crate::declaration::read_declared;
 use crate::events::read_events;
@@ -26,9 +25,16 @@ fn past_wire(tokens: &[Token], at: usize) -> usize
     at
 }
 
+/// Whether a port's direction stands at a place.
+pub fn is_direction(tokens: &[Token], at: usize) -> bool
+    ensures { IsTrue result ↔ (IsWord tokens.now at (codes "input") ⊎ IsWord tokens.now at (codes "output")) }
+{
+    is_word(tokens, at, b"input") || is_word(tokens, at, b"output")
+}
+
 /// The direction of a port, with its optional `wire`.
 pub fn port_kind(tokens: &[Token], at: usize) -> Result<Found<PortKind>, ReadFault>
-    ensures { Finds tokens.now (λ _. 0) (SpellsKind tokens.now) at 0 result }
+    ensures { FindsKind tokens.now at result }
 {
     if is_word(tokens, at, b"input") {
         let next = after(tokens, at);
@@ -57,6 +63,7 @@ pub fn port_kind(tokens: &[Token], at: usize) -> Result<Found<PortKind>, ReadFau
 }
 
 fn ports(alloc: Global, tokens: &[Token], at: usize, depth: usize) -> Result<Found<Item>, ReadFault>
+    requires here { IsWord tokens.now at (codes "input") ⊎ IsWord tokens.now at (codes "output") }
     requires positive { 0 < depth }
     requires low { depth ≤ 500 }
     ensures { FindsItem tokens.now at depth result }
@@ -175,7 +182,7 @@ fn always(
     if !is_sign(tokens, sign, b"@") {
         return Err(ReadFault::Syntax(sign));
     }
-    let events = read_events(alloc, tokens, after(tokens, sign))?;
+    let events = read_events(alloc, tokens, after(tokens, sign), depth - 1)?;
     let body = read_stmt(alloc, tokens, events.end, depth - 1)?;
     Ok(Found {
         tree: Item::Always(events.tree, body.tree),
@@ -190,6 +197,7 @@ fn instances(
     at: usize,
     depth: usize,
 ) -> Result<Found<Item>, ReadFault>
+    requires other { NamesModule tokens.now at }
     requires positive { 0 < depth }
     requires low { depth ≤ 500 }
     ensures { FindsItem tokens.now at depth result }
@@ -214,10 +222,13 @@ pub fn read_item(
     requires low { depth ≤ 500 }
     ensures { FindsItem tokens.now at depth result }
 {
+    if tokens.len() <= at {
+        return Err(ReadFault::Syntax(at));
+    }
     if depth == 0 {
         return Err(ReadFault::Deep);
     }
-    if is_word(tokens, at, b"input") || is_word(tokens, at, b"output") {
+    if is_direction(tokens, at) {
         ports(alloc, tokens, at, depth)
     } else if is_word(tokens, at, b"wire") {
         wires(alloc, tokens, at, depth)

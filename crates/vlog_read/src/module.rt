@@ -1,9 +1,10 @@
 //! Modules, and lists of them.
-ghost use Rattle.std.specs.Prelude.{ℕ, ◌≡◌, ◌≤◌, ◌<◌, ◌+◌, ◌-◌, length, codes, IfOk};
-ghost use Rattle.vlog_tree.specs.Signs.{IsSign, IsWord};
-ghost use Rattle.vlog_tree.specs.Modules.{SpellsModule, SpellsFile, module_height, file_height};
-ghost use Rattle.vlog_read.specs.Answers.{Finds, FindsItems, FindsModule};
-ghost use Rattle.vlog_read.specs.Headers.{SpellsHead, head_height};
+ghost use Rattle.std.specs.Prelude.{ℕ, ◌≡◌, ◌≤◌, ◌<◌, ◌+◌, ◌-◌, length, codes, IfOk, IfErr};
+ghost use Rattle.vlog_tree.specs.Lists.{highest};
+ghost use Rattle.vlog_tree.specs.Modules.{SpellsFile, item_height, file_height};
+ghost use Rattle.vlog_read.specs.Answers.{Finds, ReadsItems, FindsModule};
+ghost use Rattle.vlog_read.specs.Texts.{RefusesTokens};
+ghost use Rattle.vlog_read.specs.Headers.{FindsHead};
 
 use crate::header::{header_parameters, header_ports};
 use crate::item::read_item;
@@ -32,7 +33,7 @@ fn read_head(
     depth: usize,
 ) -> Result<Found<Head>, ReadFault>
     requires { depth ≤ 500 }
-    ensures { Finds tokens.now head_height (SpellsHead tokens.now) at depth result }
+    ensures { FindsHead tokens.now at depth result }
 {
     if !is_word(tokens, at, b"module") {
         return Err(ReadFault::Syntax(at));
@@ -63,7 +64,7 @@ fn read_items(
     depth: usize,
 ) -> Result<Found<Items<Item>>, ReadFault>
     requires { depth ≤ 500 }
-    ensures { FindsItems tokens.now at depth result }
+    ensures { Finds tokens.now (highest item_height) (ReadsItems tokens.now) (ReadsItems tokens.now) at depth result }
 {
     let mut items = Items::new(alloc);
     let mut height = 0usize;
@@ -102,6 +103,7 @@ fn read_module(alloc: Global, tokens: &[Token], at: usize) -> Result<Found<Modul
 pub fn read_module_list(alloc: Global, tokens: &[Token]) -> Result<Vec<Module>, ReadFault>
     ensures ok { IfOk result (λ list. SpellsFile tokens.now list.items) }
     ensures low { IfOk result (λ list. file_height list.items ≤ 500) }
+    ensures err { IfErr result (λ fault. RefusesTokens tokens.now fault) }
 {
     let first = read_module(alloc, tokens, 0)?;
     let mut list = Vec::new(alloc);

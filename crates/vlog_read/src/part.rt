@@ -1,7 +1,7 @@
 //! What stands in lists.
 ghost use Rattle.std.specs.Prelude.{ℕ, List, ◌<◌, ◌≤◌, IfOk};
 ghost use Rattle.vlog_tree.specs.declared.token.Token.{Token};
-ghost use Rattle.vlog_read.specs.Answers.{Finds};
+ghost use Rattle.vlog_read.specs.Answers.{Finds, Before, Follows};
 
 use std::alloc::Global;
 use vlog_lex::ReadFault;
@@ -29,6 +29,6 @@ pub trait Part: Sized + Drop {
         depth: usize,
     ) -> Result<Found<Self>, ReadFault>
         requires { depth ≤ 500 }
-        ensures found { Finds tokens.now height (spells tokens.now) at depth result }
+        ensures found { Finds tokens.now height (spells tokens.now) (Before (spells tokens.now) (Follows tokens.now)) at depth result }
         ensures forward { IfOk result (λ found. at < found.end) };
 }

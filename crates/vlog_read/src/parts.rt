@@ -5,7 +5,7 @@ ghost use Rattle.vlog_tree.specs.Lists.{Maybe, Flag, highest_of};
 ghost use Rattle.vlog_tree.specs.Spelling.{IsNamed, Spells, height};
 ghost use Rattle.vlog_tree.specs.Statements.{SpellsLval, lval_height};
 ghost use Rattle.vlog_tree.specs.Modules.{SpellsRange, SpellsShape, SpellsValue, SpellsWire, SpellsRegister, SpellsParameter, SpellsAssign, range_height, shape_height, wire_height, register_height, parameter_height, assign_height};
-ghost use Rattle.vlog_read.specs.Answers.{Finds};
+ghost use Rattle.vlog_read.specs.Answers.{Finds, Before, Follows, NoSign, Plain};
 
 use crate::part::{Found, Part};
 use outside::Text;
@@ -84,7 +84,7 @@ fn read_range(
 ) -> Result<Found<Range>, ReadFault>
     requires here { IsSign tokens.now at (codes "[") }
     requires low { depth ≤ 500 }
-    ensures { Finds tokens.now range_height (SpellsRange tokens.now) at depth result }
+    ensures { Finds tokens.now range_height (SpellsRange tokens.now) (SpellsRange tokens.now) at depth result }
 {
     let high = read_tree(alloc, false, tokens, after(tokens, at), depth)?;
     if !is_sign(tokens, high.end, b":") {
@@ -113,7 +113,7 @@ pub fn maybe_range(
     depth: usize,
 ) -> Result<Found<Option<Range>>, ReadFault>
     requires low { depth ≤ 500 }
-    ensures { Finds tokens.now (highest_of range_height) (Maybe (SpellsRange tokens.now)) at depth result }
+    ensures { Finds tokens.now (highest_of range_height) (Maybe (SpellsRange tokens.now)) (Before (Maybe (SpellsRange tokens.now)) (NoSign (codes "[") tokens.now)) at depth result }
 {
     if !is_sign(tokens, at, b"[") {
         return Ok(Found {
@@ -138,7 +138,7 @@ pub fn read_shape(
     depth: usize,
 ) -> Result<Found<Shape>, ReadFault>
     requires low { depth ≤ 500 }
-    ensures { Finds tokens.now shape_height (SpellsShape tokens.now) at depth result }
+    ensures { Finds tokens.now shape_height (SpellsShape tokens.now) (Before (SpellsShape tokens.now) (Plain tokens.now)) at depth result }
 {
     if !is_word(tokens, at, b"signed") {
         let range = maybe_range(alloc, tokens, at, depth)?;
@@ -170,7 +170,7 @@ pub fn read_value(
     depth: usize,
 ) -> Result<Found<Expr>, ReadFault>
     requires low { depth ≤ 500 }
-    ensures { Finds tokens.now height (SpellsValue tokens.now) at depth result }
+    ensures { Finds tokens.now height (SpellsValue tokens.now) (Before (SpellsValue tokens.now) (Follows tokens.now)) at depth result }
 {
     if !is_sign(tokens, at, b"=") {
         return Err(ReadFault::Syntax(at));
@@ -191,7 +191,7 @@ fn maybe_value(
     depth: usize,
 ) -> Result<Found<Option<Expr>>, ReadFault>
     requires low { depth ≤ 500 }
-    ensures { Finds tokens.now (highest_of height) (Maybe (SpellsValue tokens.now)) at depth result }
+    ensures { Finds tokens.now (highest_of height) (Maybe (SpellsValue tokens.now)) (Before (Maybe (SpellsValue tokens.now)) (Follows tokens.now)) at depth result }
 {
     if !is_sign(tokens, at, b"=") {
         return Ok(Found {

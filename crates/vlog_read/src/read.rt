@@ -1,7 +1,8 @@
 //! Reads the modules of a text from its bytes.
-ghost use Rattle.std.specs.Prelude.{◌≤◌, IfOk};
+ghost use Rattle.std.specs.Prelude.{◌≤◌, IfOk, IfErr, List};
+ghost use Rattle.vlog_tree.specs.declared.token.Token.{Token};
 ghost use Rattle.vlog_tree.specs.Modules.{SpellsFile, file_height};
-ghost use Rattle.vlog_read.specs.Texts.{SpellsModules};
+ghost use Rattle.vlog_read.specs.Texts.{SpellsModules, RefusesTokens, RefusesText};
 
 use crate::module::read_module_list;
 use std::alloc::Global;
@@ -20,7 +21,9 @@ fn byte_of(tokens: &[Token], at: usize) -> usize {
 }
 
 /// A fault with the place of a byte, of one with the place of a token.
-fn by_bytes(tokens: &[Token], fault: ReadFault) -> ReadFault {
+fn by_bytes(tokens: &[Token], fault: ReadFault) -> ReadFault
+    ensures { (ts : List Token) → RefusesTokens ts fault → RefusesTokens ts result }
+{
     match fault {
         ReadFault::Syntax(at) => ReadFault::Syntax(byte_of(tokens, at)),
         other => other,
@@ -31,6 +34,7 @@ fn by_bytes(tokens: &[Token], fault: ReadFault) -> ReadFault {
 fn modules_of(alloc: Global, tokens: &[Token]) -> Result<Vec<Module>, ReadFault>
     ensures ok { IfOk result (λ list. SpellsFile tokens.now list.items) }
     ensures low { IfOk result (λ list. file_height list.items ≤ 500) }
+    ensures err { IfErr result (λ fault. RefusesTokens tokens.now fault) }
 {
     match read_module_list(alloc, tokens) {
         Ok(list) => Ok(list),
@@ -40,11 +44,12 @@ fn modules_of(alloc: Global, tokens: &[Token]) -> Result<Vec<Module>, ReadFault>
 
 /// The modules that a text spells: one or more, by the grammar of IEEE 1364-2005 annex A as far as it is read, each no higher
 /// than 500 nodes. The text is refused where its bytes spell no tokens (`Bytes`, `Number`, `Outside`) or its tokens no modules
-/// (`Syntax`, with the byte at which the token begins that cannot stand there, or at which the last one ends), where a tree
-/// would be too high (`Deep`), and for want of memory (`Memory`).
+/// (`Syntax`, with the byte at which the token begins that cannot stand there, or at which the last one ends), where there are
+/// more than 500 tokens and they spell no modules that are low enough (`Deep`), and for want of memory (`Memory`).
 pub fn read_modules(alloc: Global, bytes: &[u8]) -> Result<Vec<Module>, ReadFault>
     ensures ok { IfOk result (λ list. SpellsModules bytes.now list.items) }
     ensures low { IfOk result (λ list. file_height list.items ≤ 500) }
+    ensures err { IfErr result (λ fault. RefusesText bytes.now fault) }
 {
     let tokens = read_tokens(alloc, bytes, false)?;
     let list = modules_of(alloc, tokens.as_slice())?;

@@ -1,5 +1,7 @@
 use Rattle.std.proofs.Common.{arith}
 use Rattle.vlog_spell.proofs.Tokens.{kind_within}
+use Rattle.std.proofs.lemmas.Result.{err_from_is_err_and}
+use Rattle.vlog_read.proofs.ItemSteps.{assign_list, assigns_refuse}
 use Rattle.vlog_read.proofs.item.assigns.Goals as goal
 
 pub after-requires : goal.after-requires
@@ -10,6 +12,7 @@ returns c =
     let a = c.in_ok-list.ensures in (
       record {
         spelt = (c.requires.here, rw c.after.ensures at a.spelt);
+        only = λ x k q. let o = assign_list _ _ c.args.depth c.requires.here x k q in a.only o.0 k (rw c.after.ensures o.1);
         height_is = omega (arith, a.height_is);
         low = omega (arith, a.low, c.requires.positive);
         past = omega (arith, a.past, c.after.ensures);
@@ -17,3 +20,8 @@ returns c =
       },
       omega (arith, a.past, c.after.ensures),
     )
+
+pub returns-in_err-list : goal.returns-in_err-list
+returns-in_err-list c =
+    let p = err_from_is_err_and c.from_residual.result c.from_residual.ensures.1 in
+    rw (p.1, p.2) (assigns_refuse _ _ _ c.requires.here _ (rw c.after.ensures at c.in_err-list.ensures))

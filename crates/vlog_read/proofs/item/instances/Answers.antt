@@ -1,4 +1,6 @@
 use Rattle.std.proofs.Common.{arith}
+use Rattle.std.proofs.lemmas.Result.{err_from_is_err_and}
+use Rattle.vlog_read.proofs.ItemSteps.{instances_name, overrides_refuse, instances_at, instances_refuse}
 use Rattle.vlog_read.proofs.item.instances.Goals as goal
 
 pub returns : goal.returns
@@ -6,6 +8,7 @@ returns c =
     let o = c.in_ok-overrides.ensures in let a = c.in_ok-list.ensures in (
       record {
         spelt = (_, c.in_ok-name.ensures.ok, rw c.after.ensures at o.spelt, a.spelt);
+        only = λ x k q. let u = instances_at _ _ _ c.requires.other _ (rw c.after.ensures at o) x k q in a.only u.0 k u.1;
         height_is = omega (arith, c.max.ensures, o.height_is, a.height_is);
         low = omega (arith, c.max.ensures, o.low, a.low, c.requires.positive);
         past = omega (arith, o.past, a.past, c.after.ensures);
@@ -13,3 +16,18 @@ returns c =
       },
       omega (arith, o.past, a.past, c.after.ensures),
     )
+
+pub returns-in_err-name : goal.returns-in_err-name
+returns-in_err-name c =
+    let p = err_from_is_err_and c.from_residual.result c.from_residual.ensures.1 in
+    rw (p.1, p.2) (instances_name _ _ _ c.requires.other _ c.in_err-name.ensures.err)
+
+pub returns-in_err-overrides : goal.returns-in_err-overrides
+returns-in_err-overrides c =
+    let p = err_from_is_err_and c.from_residual-in_err-overrides.result c.from_residual-in_err-overrides.ensures.1 in
+    rw (p.1, p.2) (overrides_refuse _ _ _ c.requires.other _ (rw c.after.ensures at c.in_err-overrides.ensures))
+
+pub returns-in_err-list : goal.returns-in_err-list
+returns-in_err-list c =
+    let p = err_from_is_err_and c.from_residual-in_err-list.result c.from_residual-in_err-list.ensures.1 in
+    rw (p.1, p.2) (instances_refuse _ _ _ c.requires.other _ (rw c.after.ensures at c.in_ok-overrides.ensures) _ c.in_err-list.ensures)

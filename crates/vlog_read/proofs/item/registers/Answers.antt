@@ -1,5 +1,8 @@
 use Rattle.std.proofs.Common.{arith}
 use Rattle.vlog_spell.proofs.Tokens.{kind_within}
+use Rattle.std.proofs.lemmas.Result.{err_from_is_err_and}
+use Rattle.vlog_read.proofs.ItemSteps.{register_declared, declared_refuses}
+use Rattle.vlog_tree.specs.Modules.{SpellsRegister, register_height}
 use Rattle.vlog_read.proofs.item.registers.Goals as goal
 
 pub after-requires : goal.after-requires
@@ -10,6 +13,7 @@ returns c =
     let a = c.in_ok-rest.ensures in (
       record {
         spelt = (a.spelt.0, c.requires.here, rw c.after.ensures at a.spelt.1, a.spelt.2);
+        only = λ x k q. let o = register_declared _ _ c.args.depth c.requires.here x k q in a.only o.0 k (rw c.after.ensures o.1);
         height_is = omega (arith, a.height_is);
         low = omega (arith, a.low, c.requires.positive);
         past = omega (arith, a.past, c.after.ensures);
@@ -17,3 +21,8 @@ returns c =
       },
       omega (arith, a.past, c.after.ensures),
     )
+
+pub returns-in_err-rest : goal.returns-in_err-rest
+returns-in_err-rest c =
+    let p = err_from_is_err_and c.from_residual.result c.from_residual.ensures.1 in
+    rw (p.1, p.2) (declared_refuses _ _ _ register_height (SpellsRegister c.args.tokens.now) (register_declared _ _ c.args.depth c.requires.here) _ (rw c.after.ensures at c.in_err-rest.ensures))

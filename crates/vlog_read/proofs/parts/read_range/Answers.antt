@@ -1,7 +1,9 @@
-use Rattle.std.proofs.Common.{arith}
+use Rattle.std.proofs.Common.{arith, sym, ◌∙◌}
 use Rattle.vlog_spell.proofs.Tokens.{kind_within}
-use Rattle.vlog_read_expr.proofs.SignTests.{yes_by}
+use Rattle.vlog_read_expr.proofs.SignTests.{yes_by, no_by}
+use Rattle.std.proofs.lemmas.Result.{err_from_is_err_and}
 use Rattle.vlog_read.proofs.Steps.{tree_bounds}
+use Rattle.vlog_read.proofs.PartSteps.{high_refuses, range_no_colon, low_refuses, range_open, range_only}
 use Rattle.vlog_read.proofs.parts.read_range.Goals as goal
 
 pub after-requires : goal.after-requires
@@ -28,8 +30,25 @@ returns c =
         yes_by _ c.is_sign-2.ensures c.if-not-is_sign-2.false,
         c.after-3.ensures,
       );
+      only = λ x k q. range_only _ _ _ _ (rw c.after.ensures at c.in_ok-high.ensures) _ (rw c.after-2.ensures at c.in_ok-low.ensures) x k q ∙ sym c.after-3.ensures;
       height_is = omega (arith, c.max-height.ensures, c.in_ok-high.ensures.height_is, c.in_ok-low.ensures.height_is);
       low = omega (arith, c.max-height.ensures, c.in_ok-high.ensures.low, c.in_ok-low.ensures.low);
       past = omega (arith, a.0, b.0, c.after.ensures, c.after-2.ensures, c.after-3.ensures);
       within = omega (arith, kind_within _ _ _ (yes_by _ c.is_sign-2.ensures c.if-not-is_sign-2.false), c.after-3.ensures);
     }
+
+pub returns-in_err-high : goal.returns-in_err-high
+returns-in_err-high c =
+    let p = err_from_is_err_and c.from_residual.result c.from_residual.ensures.1 in
+    rw (p.1, p.2) (high_refuses _ _ _ _ (rw c.after.ensures at c.in_err-high.ensures))
+
+pub returns-then-not-is_sign : goal.returns-then-not-is_sign
+returns-then-not-is_sign c = range_no_colon _ _ _ _ (rw c.after.ensures at c.in_ok-high.ensures) (no_by _ c.is_sign.ensures c.if-not-is_sign.true)
+
+pub returns-in_err-low : goal.returns-in_err-low
+returns-in_err-low c =
+    let p = err_from_is_err_and c.from_residual-in_err-low.result c.from_residual-in_err-low.ensures.1 in
+    rw (p.1, p.2) (low_refuses _ _ _ _ (rw c.after.ensures at c.in_ok-high.ensures) _ (rw c.after-2.ensures at c.in_err-low.ensures))
+
+pub returns-then-not-is_sign-2 : goal.returns-then-not-is_sign-2
+returns-then-not-is_sign-2 c = range_open _ _ _ _ (rw c.after.ensures at c.in_ok-high.ensures) _ (rw c.after-2.ensures at c.in_ok-low.ensures) (no_by _ c.is_sign-2.ensures c.if-not-is_sign-2.true)

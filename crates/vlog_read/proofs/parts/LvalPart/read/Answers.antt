@@ -1,11 +1,14 @@
 use Rattle.std.proofs.Common.{arith}
+use Rattle.std.proofs.lemmas.Result.{err_from_is_err_and}
 use Rattle.vlog_read.proofs.Steps.{lval_bounds}
+use Rattle.vlog_read.proofs.PartSteps.{lval_only, lval_refuses}
 use Rattle.vlog_read.proofs.parts.LvalPart.read.Goals as goal
 
 pub returns : goal.returns
 returns c = let a = lval_bounds _ _ _ _ c.in_ok-read.ensures in record {
   found = record {
     spelt = c.in_ok-read.ensures.reads.spelt;
+    only = lval_only _ _ _ _ c.in_ok-read.ensures;
     height_is = c.in_ok-read.ensures.height_is;
     low = c.in_ok-read.ensures.low;
     past = omega (arith, a.0);
@@ -13,3 +16,8 @@ returns c = let a = lval_bounds _ _ _ _ c.in_ok-read.ensures in record {
   };
   forward = a.0;
 }
+
+pub returns-in_err-read : goal.returns-in_err-read
+returns-in_err-read c =
+    let p = err_from_is_err_and c.from_residual.result c.from_residual.ensures.1 in
+    rw (p.1, p.2) (record { found = lval_refuses _ _ _ _ c.in_err-read.ensures; forward = tt })

@@ -1,10 +1,14 @@
 use Rattle.std.proofs.Common.{arith}
+use Rattle.std.proofs.lemmas.Result.{err_from_is_err_and}
+use Rattle.vlog_read.proofs.PartSteps.{register_name, register_refuses}
+use Rattle.vlog_read.proofs.ListSteps.{follow_no_open}
 use Rattle.vlog_read.proofs.parts.RegisterPart.read.Goals as goal
 
 pub returns : goal.returns
 returns c = let a = c.in_ok-words.ensures in record {
   found = record {
     spelt = (c.in_ok-name.ensures.ok, rw c.after.ensures at a.spelt);
+    only = λ x k q. a.only x.words k (rw c.after.ensures (q.0.1, follow_no_open _ _ q.1));
     height_is = a.height_is;
     low = a.low;
     past = omega (arith, a.past, c.after.ensures);
@@ -12,3 +16,13 @@ returns c = let a = c.in_ok-words.ensures in record {
   };
   forward = omega (arith, a.past, c.after.ensures);
 }
+
+pub returns-in_err-name : goal.returns-in_err-name
+returns-in_err-name c =
+    let p = err_from_is_err_and c.from_residual.result c.from_residual.ensures.1 in
+    rw (p.1, p.2) (record { found = register_name _ _ _ _ c.in_err-name.ensures.err; forward = tt })
+
+pub returns-in_err-words : goal.returns-in_err-words
+returns-in_err-words c =
+    let p = err_from_is_err_and c.from_residual-in_err-words.result c.from_residual-in_err-words.ensures.1 in
+    rw (p.1, p.2) (record { found = register_refuses _ _ _ _ (rw c.after.ensures at c.in_err-words.ensures); forward = tt })
