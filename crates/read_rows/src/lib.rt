@@ -49,7 +49,8 @@ pub fn shown(alloc: Global, text: &[u8]) -> Result<String, AllocError> {
         Err(ReadFault::Bytes(at)) => write!(&mut out, "Bytes {at}")?,
         Err(ReadFault::Number(at)) => write!(&mut out, "Number {at}")?,
         Err(ReadFault::Outside(at)) => write!(&mut out, "Outside {at}")?,
-        Err(_) => out.push_str("other")?,
+        Err(ReadFault::Deep) => out.push_str("Deep")?,
+        Err(ReadFault::Memory) => out.push_str("Memory")?,
     }
     Ok(out)
 }

@@ -28,6 +28,97 @@ fn modules(rt: HostRuntime) -> Result<(), Fail> {
 }
 
 #[test]
+fn productions(rt: HostRuntime) -> Result<(), Fail> {
+    row(
+        &rt,
+        b"module m; endmodule module n(); endmodule module o(a, b); endmodule",
+        "m 0 0 n 0 0 o 2 0",
+    )?;
+    row(
+        &rt,
+        b"module m #(parameter signed [3:0] P = 1, Q = 2, parameter R = 3)(input wire a, b, output wire c, output reg [1:0] d, output signed e); endmodule",
+        "m 5 0",
+    )?;
+    row(
+        &rt,
+        b"module m; input wire a, b; output reg [1:0] c; output wire signed [1:0] d; wire w = 1, v; wire signed [3:0] u; reg r, s [0:3]; parameter P = 1; localparam signed Q = 2, R = 3; endmodule",
+        "m 0 8",
+    )?;
+    row(
+        &rt,
+        b"module m; always @* ; always @(*) begin end always @(posedge c or negedge r) begin : b x = 1; {x, y[1], z[3:0], v[a +: 2]} <= 2; end always @(a, b or c) if (a) if (b) ; else ; else ; endmodule",
+        "m 0 4",
+    )?;
+    row(
+        &rt,
+        b"module m; always @* case (a) 1, 2: x = 1; default: x = 2; endcase always @* casez (a) 4'b1?0z, 3: x = 1; default x = 2; endcase endmodule",
+        "m 0 2",
+    )?;
+    row(
+        &rt,
+        b"module m; n u(); n #(1, 2) v(a, b), w(.a(x), .b()); n #(.W(3)) t(a[1], a[3:0], a[b -: 2], {a, b}, {2{a}}, $signed(a), (a), a ? -b : !c); endmodule",
+        "m 0 3",
+    )
+}
+
+#[test]
+fn statement_faults(rt: HostRuntime) -> Result<(), Fail> {
+    row(
+        &rt,
+        b"module m; always @* case (a) endcase endmodule",
+        "Syntax 29",
+    )?;
+    row(
+        &rt,
+        b"module m; always @* case (a) default: ; default: ; endcase endmodule",
+        "Syntax 40",
+    )?;
+    row(
+        &rt,
+        b"module m; always @* case (a) 1'b?: ; endcase endmodule",
+        "Syntax 29",
+    )?;
+    row(&rt, b"module m; always @* else ; endmodule", "Syntax 20")?;
+    row(&rt, b"module m; assign a = 1'b?; endmodule", "Syntax 21")?;
+    row(&rt, b"module m; assign a = 3[0]; endmodule", "Syntax 22")?;
+    row(&rt, b"module m; assign a = 2'b2; endmodule", "Number 21")?;
+    row(&rt, b"module m; initial ; endmodule", "Outside 10")
+}
+
+// A module whose one expression stands in brackets.
+fn in_brackets(alloc: Global, opened: usize, closed: usize) -> Result<String, AllocError> {
+    let mut text = String::new(alloc);
+    text.push_str("module m; assign a = ")?;
+    for _ in 0..opened {
+        text.push('(')?;
+    }
+    text.push('1')?;
+    for _ in 0..closed {
+        text.push(')')?;
+    }
+    text.push_str("; endmodule")?;
+    Ok(text)
+}
+
+fn bracket_row(
+    rt: &(impl Abort + AllocGlobal),
+    opened: usize,
+    closed: usize,
+    want: &str,
+) -> Result<(), Fail> {
+    let text = in_brackets(rt.alloc(), opened, closed)?;
+    row(rt, text.as_bytes(), want)
+}
+
+#[test]
+fn heights(rt: HostRuntime) -> Result<(), Fail> {
+    bracket_row(&rt, 497, 497, "m 0 1")?;
+    bracket_row(&rt, 498, 498, "Deep")?;
+    bracket_row(&rt, 600, 0, "Deep")?;
+    bracket_row(&rt, 400, 0, "Syntax 422")
+}
+
+#[test]
 fn faults(rt: HostRuntime) -> Result<(), Fail> {
     row(&rt, b"", "Syntax 0")?;
     row(
