@@ -3,7 +3,7 @@ use Rattle.std.specs.Prelude.{◌≡◌, ℕ, ◌⊎◌, ◌+◌, ◌<◌, ◌�
 use Rattle.std.specs.Io.KnownBytes.{Appends}
 use Rattle.outside.specs.Faults.{Rose}
 use Rattle.vlog_tree.specs.declared.module.Module.{Module}
-use Rattle.vlog_read.specs.Texts.{SpellsModules}
+use Rattle.vlog_read.specs.Texts.{SpellsModules, RefusesText}
 use Rattle.set_tree.specs.declared.set.Set.{Set}
 use Rattle.set_read.specs.Read.{Spells, Refuses}
 use Rattle.plain_ops.specs.declared.report.Line.{Line}
@@ -83,7 +83,7 @@ IsModuleRead m = (length m ≤ 1048576) × (ms : List Module) × SpellsModules m
 -- what two texts come to: each refusal by its cause, the module's text first
 abbrev pub Judges : List ℕ → List ℕ → Judged → Type 0
 Judges m s judged.LongModule = 1048576 < length m
-Judges m s (judged.Module fault) = length m ≤ 1048576
+Judges m s (judged.Module fault) = (length m ≤ 1048576) × RefusesText m fault
 Judges m s judged.LongSet = IsModuleRead m × (1048576 < length s)
 Judges m s (judged.Set fault) = IsModuleRead m × (length s ≤ 1048576) × Refuses s fault
 Judges m s judged.NoPlainModule = ReadAnd m s judged.NoPlainModule

@@ -236,6 +236,7 @@ fn judge(alloc: Global, module: &[u8], set: &[u8]) -> Result<Judged, AllocError>
 }
 
 /// What modules and a set's text come to.
+#[tactic(auto, using(crate::proofs::Judged::judges))]
 fn judge_set(
     alloc: Global,
     module: &[u8],
