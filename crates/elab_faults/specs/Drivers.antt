@@ -14,7 +14,7 @@ use Rattle.vlog_runs.specs.Places.{Name, Among, Place}
 use Rattle.vlog_runs.specs.Blocks.{IsWithin, low_in, lefts, left_names, Drives}
 use Rattle.vlog_runs.specs.Cycles.{flat_place, IsRegister}
 use Rattle.flat_faults.specs.Texts.{names_in, numbers_in, alone_in, compared_in, stores_in, assign_exprs, compared_exprs}
-use Rattle.elab_faults.specs.Paths.{IsConstant, constant, Step, Assigns, IsPath, CountsAs}
+use Rattle.elab_faults.specs.Paths.{IsConstant, constant, Step, Assigns, IsPath, DependsAt}
 
 -- ---- drivers
 
@@ -112,8 +112,7 @@ DependsOn f y z =
     (IsRegister f y → ⊥)
     × (((a : Assign) × Among f.assigns a × Among (left_names a.left) y × Among (flat_map names_in (a.right ∷ numbers_in a.left)) z)
     ⊎ ((k : Always) × Among f.blocks k × (k.clocked ≡ false) × (before after : List Step) × (left : Lval) × (as' : List Expr)
-    × IsPath (flat_place f) [] k.body (before ++ Assigns left as' ∷ after) × Among (left_names left) y
-    × (r : Name) × Among (flat_map names_in as') r × CountsAs (flat_place f) (reverse before) r z))
+    × IsPath (flat_place f) k.body (before ++ Assigns left as' ∷ after) × Among (left_names left) y × DependsAt (flat_place f) (reverse before) as' z))
 
 -- each of a list depends on the next one, and the last one on z
 abbrev pub IsChain : Flat → Name → List Name → Name → Type 0

@@ -1,5 +1,5 @@
 -- Paths through a combinational block: what it reads and assigns on each (IEEE 1364-2005, sections 9.4, 9.5 and 9.7.5).
-use Rattle.std.specs.Prelude.{ℕ, ℤ, pos, ◌-ℤ◌, ◌≡◌, ◌⊎◌, ◌<◌, ◌^◌, Bool, IsTrue, List, [], ◌∷◌, ◌++◌, unwrap_or}
+use Rattle.std.specs.Prelude.{ℕ, zero, suc, ℤ, pos, ◌-ℤ◌, ◌≡◌, ◌⊎◌, ◌<◌, ◌^◌, Bool, IsTrue, List, [], ◌∷◌, ◌++◌, unwrap_or}
 use Rattle.std.specs.Option.{option_map}
 use Rattle.std.specs.List.{flat_map}
 use Rattle.vlog_tree.specs.declared.expr.Expr.{Expr}
@@ -76,41 +76,57 @@ HasDefault (more_of-CaseItem labels body rest) = IsTrue (is_default labels) ⊎ 
 
 -- ---- paths
 
--- a step on a path: some expressions are read, or a left side is assigned, by expressions in it and around it
+-- a step on a path: expressions are read; a branch begins, whose condition reads expressions; a branch ends; or a left side is assigned, by
+-- expressions on both sides
 pub data Step : Type 0 where
   Reads : List Expr → Step
+  Enters : List Expr → Step
+  Leaves : Step
   Assigns : Lval → List Expr → Step
 
--- the steps are those of a path through a statement inside of these conditions
+-- the expressions that a step reads
+abbrev pub reads_in : Step → List Expr
+reads_in (Reads as') = as'
+reads_in (Enters as') = as'
+reads_in Leaves = []
+reads_in (Assigns left as') = []
+
+-- the steps of a branch, under its condition
+abbrev pub branch : List Expr → List Step → List Step
+branch as' steps = Enters as' ∷ steps ++ Leaves ∷ []
+
+abbrev pub assignment : Lval → Expr → List Step
+assignment left right = Reads (right ∷ numbers_in left) ∷ Assigns left (right ∷ numbers_in left) ∷ []
+
+-- the steps are those of a path through a statement
 abbrev mutual
-  pub IsPath : Place → List Expr → Stmt → List Step → Type 0
-  IsPath p around s.Empty steps = steps ≡ []
-  IsPath p around (s.Block' n h row) steps = IsRowPath p around row steps
-  IsPath p around (s.If' a h (more_of-Stmt x end_of-Stmt)) steps =
-      (rest : List Step) × (steps ≡ Reads (a ∷ []) ∷ rest) × ((rest ≡ []) ⊎ IsPath p (a ∷ around) x rest)
-  IsPath p around (s.IfElse' a h (more_of-Stmt x end_of-Stmt) g (more_of-Stmt y end_of-Stmt)) steps =
-      (rest : List Step) × (steps ≡ Reads (a ∷ []) ∷ rest) × (IsPath p (a ∷ around) x rest ⊎ IsPath p (a ∷ around) y rest)
-  IsPath p around (s.Case' kind a h row) steps =
-      (rest : List Step) × (steps ≡ Reads (a ∷ labels_in row) ∷ rest)
-      × (IsItemPath p (a ∷ labels_in row ++ around) row rest ⊎ ((rest ≡ []) × (HasDefault row → ⊥) × (IsFull p kind a (labels_in row) → ⊥)))
-  IsPath p around (s.Blocking left right) steps =
-      steps ≡ Reads (right ∷ numbers_in left) ∷ Assigns left (right ∷ numbers_in left ++ around) ∷ []
-  IsPath p around (s.Nonblocking left right) steps =
-      steps ≡ Reads (right ∷ numbers_in left) ∷ Assigns left (right ∷ numbers_in left ++ around) ∷ []
+  pub IsPath : Place → Stmt → List Step → Type 0
+  IsPath p s.Empty steps = steps ≡ []
+  IsPath p (s.Block' n h row) steps = IsRowPath p row steps
+  IsPath p (s.If' a h (more_of-Stmt x end_of-Stmt)) steps =
+      (inner : List Step) × (steps ≡ branch (a ∷ []) inner) × ((inner ≡ []) ⊎ IsPath p x inner)
+  IsPath p (s.IfElse' a h (more_of-Stmt x end_of-Stmt) g (more_of-Stmt y end_of-Stmt)) steps =
+      (inner : List Step) × (steps ≡ branch (a ∷ []) inner) × (IsPath p x inner ⊎ IsPath p y inner)
+  IsPath p (s.Case' kind a h row) steps =
+      (inner : List Step) × (steps ≡ branch (a ∷ labels_in row) inner)
+      × (IsItemPath p row inner ⊎ ((inner ≡ []) × (HasDefault row → ⊥) × (IsFull p kind a (labels_in row) → ⊥)))
+  IsPath p (s.Blocking left right) steps = steps ≡ assignment left right
+  IsPath p (s.Nonblocking left right) steps = steps ≡ assignment left right
 
-  pub IsRowPath : {m : _} → Place → List Expr → Row_of-Stmt m → List Step → Type 0
-  IsRowPath p around end_of-Stmt steps = steps ≡ []
-  IsRowPath p around (more_of-Stmt a rest) steps =
-      (first second : List Step) × (steps ≡ first ++ second) × IsPath p around a first × IsRowPath p around rest second
+  pub IsRowPath : {m : _} → Place → Row_of-Stmt m → List Step → Type 0
+  IsRowPath p end_of-Stmt steps = steps ≡ []
+  IsRowPath p (more_of-Stmt a rest) steps = (first second : List Step) × (steps ≡ first ++ second) × IsPath p a first × IsRowPath p rest second
 
-  pub IsItemPath : {m : _} → Place → List Expr → Row_of-CaseItem m → List Step → Type 0
-  IsItemPath p around end_of-CaseItem steps = ⊥
-  IsItemPath p around (more_of-CaseItem labels body rest) steps = IsPath p around body steps ⊎ IsItemPath p around rest steps
+  pub IsItemPath : {m : _} → Place → Row_of-CaseItem m → List Step → Type 0
+  IsItemPath p end_of-CaseItem steps = ⊥
+  IsItemPath p (more_of-CaseItem labels body rest) steps = IsPath p body steps ⊎ IsItemPath p rest steps
 
 -- bit b of x is set by some step
 abbrev pub IsSetBy : Place → List Step → Name → ℕ → Type 0
 IsSetBy p [] x b = ⊥
 IsSetBy p (Reads as' ∷ steps) x b = IsSetBy p steps x b
+IsSetBy p (Enters as' ∷ steps) x b = IsSetBy p steps x b
+IsSetBy p (Leaves ∷ steps) x b = IsSetBy p steps x b
 IsSetBy p (Assigns left as' ∷ steps) x b = Sets p left x b ⊎ IsSetBy p steps x b
 
 abbrev pub width_in : Place → Name → ℕ
@@ -120,18 +136,36 @@ width_in p x = unwrap_or (option_map (λ g. g.width) (signal_at p.signals x)) 0
 abbrev pub IsAllSet : Place → List Step → Name → Type 0
 IsAllSet p steps x = (b : ℕ) → b < width_in p x → IsSetBy p steps x b
 
--- ---- what a read counts as, on a path whose last steps come first: what the earlier assignments to the name depend on, and the name
--- itself unless all of it was assigned before
-abbrev mutual
-  pub CountsAs : Place → List Step → Name → Name → Type 0
-  CountsAs p [] x z = z ≡ x
-  CountsAs p (Reads as' ∷ earlier) x z = CountsAs p earlier x z
-  CountsAs p (Assigns left as' ∷ earlier) x z =
-      ((z ≡ x) × (IsAllSet p (Assigns left as' ∷ earlier) x → ⊥))
-      ⊎ ((Among (left_names left) x × (y : Name) × Among (flat_map names_in as') y × CountsAs p earlier y z) ⊎ Through p earlier x z)
+-- ---- what a read counts as, after steps of a path of which the last one comes first: what the earlier assignments to the name depend on, and
+-- the name itself unless all of it was assigned before. An assignment depends on what it reads, and on what the conditions around it read
+-- where they stand
 
+-- a read of x counts as z: by itself, or through earlier assignments to it
+abbrev pub Counts : Place → List Step → Name → Name → Type 0 → Type 0
+Counts p earlier x z through = ((z ≡ x) × (IsAllSet p earlier x → ⊥)) ⊎ through
+
+abbrev mutual
+  -- an earlier assignment to x depends on z
   pub Through : Place → List Step → Name → Name → Type 0
   Through p [] x z = ⊥
   Through p (Reads as' ∷ earlier) x z = Through p earlier x z
+  Through p (Enters as' ∷ earlier) x z = Through p earlier x z
+  Through p (Leaves ∷ earlier) x z = Through p earlier x z
   Through p (Assigns left as' ∷ earlier) x z =
-      (Among (left_names left) x × (y : Name) × Among (flat_map names_in as') y × CountsAs p earlier y z) ⊎ Through p earlier x z
+      (Among (left_names left) x
+      × (((y : Name) × Among (flat_map names_in as') y × Counts p earlier y z (Through p earlier y z)) ⊎ Around p 0 earlier z))
+      ⊎ Through p earlier x z
+
+  -- a condition around what follows counts as z; n branches have ended since
+  pub Around : Place → ℕ → List Step → Name → Type 0
+  Around p n [] z = ⊥
+  Around p n (Reads as' ∷ earlier) z = Around p n earlier z
+  Around p zero (Enters as' ∷ earlier) z =
+      ((y : Name) × Among (flat_map names_in as') y × Counts p earlier y z (Through p earlier y z)) ⊎ Around p zero earlier z
+  Around p (suc n) (Enters as' ∷ earlier) z = Around p n earlier z
+  Around p n (Leaves ∷ earlier) z = Around p (suc n) earlier z
+  Around p n (Assigns left as' ∷ earlier) z = Around p n earlier z
+
+-- an assignment by these expressions, after such steps, depends on z
+abbrev pub DependsAt : Place → List Step → List Expr → Name → Type 0
+DependsAt p earlier as' z = ((y : Name) × Among (flat_map names_in as') y × Counts p earlier y z (Through p earlier y z)) ⊎ Around p 0 earlier z

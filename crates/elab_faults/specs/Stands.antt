@@ -15,7 +15,7 @@ use Rattle.vlog_runs.specs.Cycles.{flat_place, IsRegister}
 use Rattle.flat_faults.specs.Texts.{names_in}
 use Rattle.elab_faults.specs.declared.fault.ElabFault.{ElabFault}
 use Rattle.elab_faults.specs.declared.fault.ElabFault.TheVariants as f
-use Rattle.elab_faults.specs.Paths.{Step, Reads, IsPath, IsSetBy, IsAllSet, width_in}
+use Rattle.elab_faults.specs.Paths.{Step, reads_in, IsPath, IsSetBy, IsAllSet, width_in}
 use Rattle.elab_faults.specs.Drivers.{HasTwoDrivers, HasDriver, IsWanted, IsChain}
 
 -- a bit of a signal, counted from its lowest one, and its declared number
@@ -35,7 +35,7 @@ pub record MissesBit (m : Flat) (x : Name) : Type 0 where
   pub is_left : Among (lefts block.body) left
   pub drives : Drives (flat_place m) left x bit
   pub steps : List Step
-  pub path : IsPath (flat_place m) [] block.body steps
+  pub path : IsPath (flat_place m) block.body steps
   pub unset : IsSetBy (flat_place m) steps x bit → ⊥
 
 -- a block with a list of names reads another one that it hasn't assigned all of
@@ -46,9 +46,9 @@ pub record ReadsUnlisted (m : Flat) (x : Name) : Type 0 where
   pub listed : block.names ≡ Some names
   pub before : List Step
   pub after : List Step
-  pub exprs : List Expr
-  pub path : IsPath (flat_place m) [] block.body (before ++ Reads exprs ∷ after)
-  pub reads : Among (flat_map names_in exprs) x
+  pub step : Step
+  pub path : IsPath (flat_place m) block.body (before ++ step ∷ after)
+  pub reads : Among (flat_map names_in (reads_in step)) x
   pub open' : IsAllSet (flat_place m) before x → ⊥
   pub absent : Among names x → ⊥
 
