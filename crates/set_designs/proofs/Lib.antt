@@ -1,1 +1,1 @@
-mod Carried
+pub mod Carried

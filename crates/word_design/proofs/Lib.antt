@@ -1,0 +1,2 @@
+mod OneCycle
+mod SameRuns
