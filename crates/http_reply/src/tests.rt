@@ -175,30 +175,33 @@ fn sign(alloc: Global, number: u64, block: &[u8]) -> Result<Sign, AllocError> {
     })
 }
 
-#[test]
-fn lists_are_json(rt: HostRuntime) -> Result<(), Fail> {
-    let alloc = rt.alloc();
-    let mut names = Vec::new(alloc);
-    names.push(Text::copy(alloc, b"a.b-C_9")?)?;
-    names.push(Text::copy(alloc, b"a\"b\\c\xff")?)?;
-    let names = Answer::Names(Names::new(names));
-    assert!(rt;
-        is(
-            alloc,
-            &reply_of(alloc, &names)?,
-            200,
-            "OK",
-            JSON,
-            "[\"a.b-C_9\",\"a?b?c?\"]"
-        )?
-    );
-    let none = Answer::Names(Names::new(Vec::new(alloc)));
-    assert!(rt; is(alloc, &reply_of(alloc, &none)?, 200, "OK", JSON, "[]")?);
+fn two_signs(alloc: Global) -> Result<Answer, AllocError> {
     let mut signs = Vec::new(alloc);
     signs.push(sign(alloc, 1, b"c1")?)?;
     signs.push(sign(alloc, 12, b"c 2")?)?;
-    let signs = Answer::Signs(Signs::new(signs));
-    let list = "[{\"block\":\"c1\",\"number\":1},{\"block\":\"c?2\",\"number\":12}]";
-    assert!(rt; is(alloc, &reply_of(alloc, &signs)?, 200, "OK", JSON, list)?);
+    Ok(Answer::Signs(Signs::new(signs)))
+}
+
+fn two_names(alloc: Global) -> Result<Answer, AllocError> {
+    let mut names = Vec::new(alloc);
+    names.push(Text::copy(alloc, b"a.b-C_9")?)?;
+    names.push(Text::copy(alloc, b"a\"b\\c\xff")?)?;
+    Ok(Answer::Names(Names::new(names)))
+}
+
+#[test]
+fn lists_are_json(rt: HostRuntime) -> Result<(), Fail> {
+    let alloc = rt.alloc();
+    for (answer, list) in [
+        (two_names(alloc)?, "[\"a.b-C_9\",\"a?b?c?\"]"),
+        (Answer::Names(Names::new(Vec::new(alloc))), "[]"),
+        (
+            two_signs(alloc)?,
+            "[{\"block\":\"c1\",\"number\":1},{\"block\":\"c?2\",\"number\":12}]",
+        ),
+    ] {
+        let reply = reply_of(alloc, &answer)?;
+        assert!(rt; is(alloc, &reply, 200, "OK", JSON, list)?, "{list}");
+    }
     Ok(())
 }

@@ -1,8 +1,8 @@
 -- Lines and line feeds.
-use Rattle.std.proofs.Common.{◌≡◌, ◌≤◌, ◌<◌, ℕ, ◌+◌, ◌-◌, min, List, [], ◌∷◌, ◌++◌, take, drop, length, refl, sym, ap, ◌∙◌, arith}
+use Rattle.std.proofs.Common.{◌≡◌, ℕ, ◌+◌, min, List, [], ◌∷◌, ◌++◌, take, drop, refl, sym, ap, ◌∙◌, arith}
 use Rattle.std.proofs.lemmas.Grind.{common_steps}
 use Prim.Native.Nat.{zero, suc}
-use Rattle.http_request.specs.Front.{lines_of, lines_left, lines_after_breaks, is_line_break, skip_breaks}
+use Rattle.http_request.specs.Front.{lines_of, lines_left, lines_after_breaks}
 
 -- no line is left
 pub lines_of-none : (bs : List ℕ) → lines_of 0 bs ≡ []

@@ -6,7 +6,8 @@ const MOST_BYTES: usize = 16384;
 
 const MOST_LINES: usize = 66;
 
-/// How many bytes the front has, and whether a bound ended it.
+/// How many bytes the front has, in which a head has to stand, and whether one of its two bounds ended it: the 16,384th byte, or the end of the 66th
+/// line. Line breaks before the first other byte aren't counted as lines.
 pub fn front_len(bytes: &[u8]) -> (usize, bool)
     ensures front { take result.0 bytes.now ≡ front bytes.now }
     ensures within { result.0 ≤ length bytes.now }

@@ -14,16 +14,18 @@ use httparse::spans::{HeaderSpan, RequestSpans};
 use outside::Text;
 use std::alloc::{AllocError, Global};
 
-/// A place, and how many bytes of body are awaited.
+/// What a head asks for.
 #[derive(Clone, Copy, Debug)]
 pub struct Order<'a> {
+    /// What the path names.
     pub place: Place<'a>,
+    /// How many bytes the body has, at most 1,048,576.
     pub count: u64,
 }
 
 const MOST_LENGTH: u64 = 1048576;
 
-/// What a head asks for, or why it is refused. The tests stand in the order of the refusals.
+/// What the head in this buffer asks for, or the first cause by which it is refused. The spans are those of the head. An `AllocError` is want of memory.
 pub fn asked<'a>(
     alloc: Global,
     buf: &'a [u8],
@@ -129,7 +131,7 @@ fn is_well_named(place: Place<'_>) -> bool
     }
 }
 
-/// The command of a place, with the body.
+/// The command of a place, with the body. Refused only for want of memory.
 pub fn command_of(alloc: Global, place: Place<'_>, body: &[u8]) -> Result<Command, AllocError>
     ensures { IfOk result (λ command. command ≡ command_of_place (seen_place place.entry) body.now) }
 {

@@ -6,16 +6,24 @@ ghost use Rattle.http_request.specs.Seen.{seen_place};
 
 use std::alloc::{AllocError, Global};
 
-/// What a path names.
+/// What a path names. A block's name is any segment here that isn't empty.
 #[derive(Clone, Copy, Debug)]
 pub enum Place<'a> {
+    /// `/blocks`
     Blocks,
+    /// `/signoffs`
     Signoffs,
+    /// `/blocks/{name}/module`
     Module(&'a [u8]),
+    /// `/blocks/{name}/set`
     Set(&'a [u8]),
+    /// `/blocks/{name}/check`
     Check(&'a [u8]),
+    /// `/blocks/{name}/report`
     Report(&'a [u8]),
+    /// `/blocks/{name}/sign`
     Sign(&'a [u8]),
+    /// `/blocks/{name}/trace/{line}`
     Trace(&'a [u8], &'a [u8]),
 }
 
@@ -31,7 +39,7 @@ pub fn path_of(target: &[u8]) -> &[u8]
     target
 }
 
-/// What the path names.
+/// What the path names, if anything. Refused only for want of memory.
 pub fn place_of(alloc: Global, path: &[u8]) -> Result<Option<Place<'_>>, AllocError>
     ensures { IfOk result (λ o. option_map (λ p. seen_place p) o ≡ place_of_path path.now) }
 {
@@ -117,7 +125,7 @@ fn place_of_part<'a>(name: &'a [u8], part: &[u8]) -> Option<Place<'a>>
     None
 }
 
-/// Whether it is 1 to 64 letters, digits, `_`, `-` and `.`.
+/// Whether the name is 1 to 64 letters, digits, `_`, `-` and `.`.
 pub fn is_block_name(name: &[u8]) -> bool
     ensures { result ≡ is_block_name_by name.now }
 {

@@ -1,6 +1,6 @@
-use Rattle.std.proofs.Common.{rules, ◌≡◌, sym, ap, ◌∙◌, take, drop}
+use Rattle.std.proofs.Common.{rules, ◌≡◌, ap, ◌∙◌, take, drop}
 use Rattle.http_request.proofs.Lines.{front_cut}
-use Rattle.http_request.specs.Front.{front, lines_of}
+use Rattle.http_request.specs.Front.{lines_of}
 use Rattle.http_request.proofs.bounds.front_len.Goals as goal
 
 pub returns-then-bytes-ge-MOST_BYTES-clause-front : goal.returns-then-bytes-ge-MOST_BYTES-clause-front

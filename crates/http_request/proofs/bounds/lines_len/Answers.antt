@@ -1,4 +1,4 @@
-use Rattle.std.proofs.Common.{◌≡◌, rules, refl, sym, ap, ◌∙◌, ◌++◌, append-nil, take, drop, arith}
+use Rattle.std.proofs.Common.{◌≡◌, sym, ap, ◌∙◌, ◌++◌, append-nil, take, drop, arith}
 use Rattle.http_request.proofs.Lines.{lines_of-none, lines_left-none}
 use Rattle.http_request.specs.Front.{lines_of, lines_left}
 use Rattle.http_request.proofs.bounds.lines_len.Goals as goal

@@ -1,4 +1,4 @@
-use Rattle.std.proofs.Common.{◌≡◌, ℕ, ◌+◌, length, refl, inl, inr, arith, ap, subst, ◌∙◌, sym}
+use Rattle.std.proofs.Common.{ℕ, ◌+◌, length, refl, inl, inr, ap, subst, ◌∙◌}
 use Rattle.std.specs.Option.{option_map}
 use Rattle.outside.specs.Faults.{Rose}
 use Rattle.outside.specs.Port.{read_off}

@@ -1,4 +1,4 @@
-use Rattle.std.proofs.Common.{◌≡◌, ◌≤◌, ◌-◌, length}
+use Rattle.std.proofs.Common.{◌≡◌, ◌-◌, length}
 use Rattle.http_request.specs.Reading.{TakesBytes}
 use Rattle.http_request.proofs.read.read_head.Given as goal
 
