@@ -1,0 +1,329 @@
+// Connections in memory, and a desk that answers by a block's name.
+ghost use Rattle.std.specs.Prelude.{⊤};
+
+use crate::{Request, ServeFault, Served, Take, one_request, read_request, serve_one};
+use desk_commands::{Answer, Command, Desk, DeskFault, Names, Signs};
+use outside::{MemPort, Port, Text};
+use std::alloc::{AllocError, Global};
+use std::test::Fail;
+
+/// Counts the commands, keeps the last text and the last line, and answers by the block's name.
+#[derive(Drop)]
+struct NamedAnswers {
+    acts: u32,
+    text: Text,
+    line: u32,
+}
+
+impl Desk for NamedAnswers {
+    ghost Steps = { λ c a d e. ⊤ };
+
+    ghost FailsAt = { λ c d e. ⊤ };
+
+    ghost StarvesAt = { λ c d e. ⊤ };
+
+    fn act(&mut self, alloc: Global, command: &Command) -> Result<Answer, DeskFault> {
+        self.acts = self.acts.saturating_add(1);
+        match self.answer(alloc, command) {
+            Ok(answer) => answer,
+            Err(AllocError) => Err(DeskFault::Memory),
+        }
+    }
+}
+
+impl NamedAnswers {
+    fn answer(
+        &mut self,
+        alloc: Global,
+        command: &Command,
+    ) -> Result<Result<Answer, DeskFault>, AllocError> {
+        let answer = match command {
+            Command::PutModule { name, text } => {
+                self.text = Text::copy(alloc, text.bytes())?;
+                return named(alloc, name.bytes());
+            }
+            Command::PutSet { name: _, text } => {
+                self.text = Text::copy(alloc, text.bytes())?;
+                Answer::Stored
+            }
+            Command::Check { name } => return named(alloc, name.bytes()),
+            Command::GetReport { name } => Answer::Reported(Text::copy(alloc, name.bytes())?),
+            Command::GetTrace { name, line } => {
+                self.line = *line;
+                Answer::Traced(Text::copy(alloc, name.bytes())?)
+            }
+            Command::SignOff { name: _ } => Answer::Signed(7),
+            Command::Blocks => Answer::Names(Names::new(Vec::new(alloc))),
+            Command::Signoffs => Answer::Signs(Signs::new(Vec::new(alloc))),
+        };
+        Ok(Ok(answer))
+    }
+}
+
+fn named(alloc: Global, name: &[u8]) -> Result<Result<Answer, DeskFault>, AllocError> {
+    let Ok(name) = str::from_utf8(name) else {
+        return Ok(Ok(Answer::NoBlock));
+    };
+    match name {
+        "none" => Ok(Ok(Answer::NoBlock)),
+        "textless" => Ok(Ok(Answer::NoText)),
+        "unchecked" => Ok(Ok(Answer::NoReport)),
+        "proved" => Ok(Ok(Answer::NoTrace)),
+        "open" => Ok(Ok(Answer::NotSigned)),
+        "wrong" => Ok(Ok(Answer::Refused(Text::copy(alloc, b"module: Deep")?))),
+        "lost" => Ok(Err(DeskFault::Keeper)),
+        "full" => Ok(Err(DeskFault::Memory)),
+        _ => Ok(Ok(Answer::Stored)),
+    }
+}
+
+fn desk(alloc: Global) -> NamedAnswers {
+    NamedAnswers {
+        acts: 0,
+        text: Text::new(Vec::new(alloc)),
+        line: 9,
+    }
+}
+
+/// A port with one connection, on which these bytes come. The calls of these numbers fail.
+fn port(alloc: Global, sent: &[u8], fails: &[u64]) -> Result<MemPort, AllocError> {
+    let mut peers = Vec::new(alloc);
+    peers.push(Text::copy(alloc, sent)?)?;
+    MemPort::new(alloc, peers, 512, fails.to_vec(alloc)?)
+}
+
+/// Serves a connection on which these bytes come, and says whether the reply has the status and ends so.
+fn gives(
+    alloc: Global,
+    desk: &mut NamedAnswers,
+    sent: &[u8],
+    status: u16,
+    end: &str,
+) -> Result<bool, AllocError> {
+    let mut port = port(alloc, sent, &[])?;
+    let served = serve_one(alloc, &mut port, desk);
+    Ok(served == Ok(Served::Replied { status }) && port.reply(0).ends_with(end.as_bytes()))
+}
+
+#[test]
+fn each_route_has_its_command(rt: HostRuntime) -> Result<(), Fail> {
+    let alloc = rt.alloc();
+    let mut desk = desk(alloc);
+    for (sent, end) in [
+        (
+            "PUT /blocks/c1/module HTTP/1.1\r\nContent-Length: 3\r\n\r\nabcd",
+            "{\"stored\":true}",
+        ),
+        (
+            "PUT /blocks/c1/set HTTP/1.0\r\ncontent-LENGTH:\t2 \r\n\r\nab",
+            "{\"stored\":true}",
+        ),
+        (
+            "POST /blocks/c1/check HTTP/1.1\r\n\r\n",
+            "{\"stored\":true}",
+        ),
+        ("GET /blocks/c1/report HTTP/1.1\r\n\r\n", "\r\n\r\nc1"),
+        ("GET /blocks/c1/trace/12 HTTP/1.1\r\n\r\n", "\r\n\r\nc1"),
+        ("POST /blocks/c1/sign HTTP/1.1\r\n\r\n", "{\"number\":7}"),
+        ("GET /blocks HTTP/1.1\r\n\r\n", "\r\n\r\n[]"),
+        ("GET /signoffs?all HTTP/1.1\r\n\r\n", "\r\n\r\n[]"),
+    ] {
+        assert!(rt;
+            gives(alloc, &mut desk, sent.as_bytes(), 200, end)?,
+            "{sent}"
+        );
+    }
+    assert!(rt; desk.acts == 8 && desk.line == 12 && desk.text.bytes() == b"ab".as_slice());
+    Ok(())
+}
+
+#[test]
+fn a_line_is_one_to_five_digits(rt: HostRuntime) -> Result<(), Fail> {
+    let alloc = rt.alloc();
+    let mut desk = desk(alloc);
+    for (line, number) in [
+        ("0", 0),
+        ("00012", 12),
+        ("99999", 99999),
+        ("100000", 0),
+        ("+1", 0),
+    ] {
+        let sent = format!(in alloc; "GET /blocks/c1/trace/{line} HTTP/1.1\n\n")?;
+        assert!(rt;
+            gives(alloc, &mut desk, sent.as_bytes(), 200, "c1")?,
+            "{line}"
+        );
+        assert_eq!(rt; desk.line, number, "{line}");
+    }
+    Ok(())
+}
+
+#[test]
+fn a_head_is_refused_by_its_first_cause(rt: HostRuntime) -> Result<(), Fail> {
+    let alloc = rt.alloc();
+    let mut desk = desk(alloc);
+    for (sent, status, text) in [
+        ("\0GET / HTTP/1.1\r\n\r\n", 400, "head"),
+        (
+            "PUT /x HTTP/1.1\r\nTransfer-Encoding: chunked\r\nContent-Length: a\r\n\r\n",
+            501,
+            "coding",
+        ),
+        (
+            "PUT /blocks/c1/module HTTP/1.1\r\nContent-Length: 9\r\ntransfer-encoding: x\r\n\r\n",
+            501,
+            "coding",
+        ),
+        (
+            "PUT /x HTTP/1.1\r\nContent-Length: 1a\r\n\r\n",
+            400,
+            "length",
+        ),
+        ("PUT /x HTTP/1.1\r\nContent-Length:\r\n\r\n", 400, "length"),
+        (
+            "PUT /x HTTP/1.1\r\nContent-Length: 12345678901\r\n\r\n",
+            400,
+            "length",
+        ),
+        (
+            "PUT /x HTTP/1.1\r\nContent-Length: 1\r\nContent-Length: 2\r\n\r\na",
+            400,
+            "length",
+        ),
+        ("PUT /x HTTP/1.1\r\n\r\n", 411, "no length"),
+        (
+            "PUT /x HTTP/1.1\r\nContent-Length: 1048577\r\n\r\n",
+            413,
+            "long",
+        ),
+        ("PATCH /x HTTP/1.1\r\n\r\n", 404, "no route"),
+        ("GET /blocks/ HTTP/1.1\r\n\r\n", 404, "no route"),
+        ("GET /blocks//report HTTP/1.1\r\n\r\n", 404, "no route"),
+        ("GET /blocks/a/b/report HTTP/1.1\r\n\r\n", 404, "no route"),
+        ("GET /blocks/c1/trace/ HTTP/1.1\r\n\r\n", 404, "no route"),
+        ("GET blocks HTTP/1.1\r\n\r\n", 404, "no route"),
+        ("get /blocks HTTP/1.1\r\n\r\n", 405, "method"),
+        ("GET /blocks/a%2Fb/check HTTP/1.1\r\n\r\n", 405, "method"),
+        ("GET /blocks/a%2Fb/report HTTP/1.1\r\n\r\n", 400, "name"),
+    ] {
+        let end = format!(in alloc; "\r\n\r\n{{\"error\":\"{text}\"}}")?;
+        assert!(rt;
+            gives(alloc, &mut desk, sent.as_bytes(), status, &end)?,
+            "{sent}"
+        );
+    }
+    assert_eq!(rt; desk.acts, 0);
+    Ok(())
+}
+
+#[test]
+fn what_the_desk_refuses_is_told(rt: HostRuntime) -> Result<(), Fail> {
+    let alloc = rt.alloc();
+    let mut desk = desk(alloc);
+    for (name, status, end) in [
+        ("none", 404, "{\"error\":\"no block\"}"),
+        ("textless", 404, "{\"error\":\"no text\"}"),
+        ("unchecked", 404, "{\"error\":\"no report\"}"),
+        ("proved", 404, "{\"error\":\"no trace\"}"),
+        ("open", 409, "{\"error\":\"not signed off\"}"),
+        ("wrong", 422, "{\"error\":\"module: Deep\"}"),
+        ("lost", 503, "{\"error\":\"keeper\"}"),
+        (
+            "full",
+            507,
+            "Insufficient Storage\r\nContent-Length: 0\r\nConnection: close\r\n\r\n",
+        ),
+    ] {
+        let sent = format!(in alloc; "POST /blocks/{name}/check HTTP/1.1\r\n\r\n")?;
+        assert!(rt;
+            gives(alloc, &mut desk, sent.as_bytes(), status, end)?,
+            "{name}"
+        );
+    }
+    Ok(())
+}
+
+/// A head with so many fields, and then so many bytes of one more.
+fn long_head(alloc: Global, fields: u32, more: u32) -> Result<Vec<u8>, AllocError> {
+    let mut bytes = b"GET /blocks HTTP/1.1\r\n".to_vec(alloc)?;
+    for _ in 0..fields {
+        bytes.extend_from_slice(b"a: b\r\n")?;
+    }
+    for _ in 0..more {
+        bytes.push(b'a')?;
+    }
+    Ok(bytes)
+}
+
+#[test]
+fn a_front_ends_at_its_bounds(rt: HostRuntime) -> Result<(), Fail> {
+    let alloc = rt.alloc();
+    let mut desk = desk(alloc);
+    let large = "{\"error\":\"large head\"}";
+    let mut whole = long_head(alloc, 64, 0)?;
+    whole.extend_from_slice(b"\r\n")?;
+    assert!(rt; gives(alloc, &mut desk, &whole, 200, "[]")?);
+    let fields = long_head(alloc, 65, 0)?;
+    assert!(rt; gives(alloc, &mut desk, &fields, 431, large)?);
+    let bytes = long_head(alloc, 0, 16384 - 22)?;
+    assert!(rt; gives(alloc, &mut desk, &bytes, 431, large)?);
+    let short = long_head(alloc, 0, 16384 - 23)?;
+    let mut port = port(alloc, &short, &[])?;
+    assert_eq!(rt; serve_one(alloc, &mut port, &mut desk), Ok(Served::Cut));
+    Ok(())
+}
+
+const PUT: &[u8] =
+    b"PUT /blocks/c1/module HTTP/1.1\r\nContent-Length: 3\r\nContent-Length: 03\r\n\r\nabc";
+
+#[test]
+fn a_request_that_ends_early_is_cut(rt: HostRuntime) -> Result<(), Fail> {
+    let alloc = rt.alloc();
+    let mut desk = desk(alloc);
+    for n in 0..PUT.len() {
+        let mut port = port(alloc, PUT.split_at(n).0, &[])?;
+        assert_eq!(rt;
+            serve_one(alloc, &mut port, &mut desk),
+            Ok(Served::Cut),
+            "after {n}"
+        );
+        assert!(rt; port.reply(0).is_empty() && desk.acts == 0, "after {n}");
+    }
+    assert!(rt; gives(alloc, &mut desk, PUT, 200, "{\"stored\":true}")?);
+    assert!(rt; desk.text.bytes() == b"abc".as_slice());
+    Ok(())
+}
+
+// The port's calls are `next`, `read`, `write` and `finish`, numbered from 1.
+#[test]
+fn a_port_that_fails_is_told(rt: HostRuntime) -> Result<(), Fail> {
+    let alloc = rt.alloc();
+    for (call, want, acts) in [
+        (1, Err(ServeFault::Next), 0),
+        (2, Ok(Served::Broken), 0),
+        (3, Ok(Served::Broken), 1),
+        (4, Ok(Served::Broken), 1),
+        (5, Ok(Served::Replied { status: 200 }), 1),
+    ] {
+        let mut desk = desk(alloc);
+        let mut port = port(alloc, PUT, &[call])?;
+        assert_eq!(rt; serve_one(alloc, &mut port, &mut desk), want, "call {call}");
+        assert_eq!(rt; desk.acts, acts, "call {call}");
+        assert!(rt; port.reply(0).is_empty() == (call < 4), "call {call}");
+    }
+    Ok(())
+}
+
+#[test]
+fn a_request_is_read(rt: HostRuntime) -> Result<(), Fail> {
+    let alloc = rt.alloc();
+    let mut port = port(alloc, PUT, &[])?;
+    assert_eq!(rt; port.next(), Ok(()));
+    let asked = matches!(
+        read_request(alloc, &mut port),
+        Take::Whole(Request::Asked(Command::PutModule { .. }))
+    );
+    assert!(rt; asked);
+    one_request();
+    Ok(())
+}

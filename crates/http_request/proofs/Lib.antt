@@ -1,0 +1,5 @@
+pub mod FewFields
+pub mod Judged
+pub mod Lines
+pub mod Taken
+pub mod Within

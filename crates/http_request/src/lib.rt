@@ -1,0 +1,19 @@
+//! What the bytes of a connection ask the desk for: its head within a front of bounded length, the length of its body, its place among the
+//! routes, and its command.
+#![tactic(auto)]
+
+mod bounds;
+mod fields;
+mod judge;
+mod order;
+mod places;
+mod read;
+mod refusal;
+#[cfg(test)]
+mod tests;
+
+pub use bounds::front_len;
+pub use order::{Order, asked, command_of};
+pub use places::Place;
+pub use read::{More, Reading, read_head, read_some};
+pub use refusal::Refusal;

@@ -1,0 +1,83 @@
+use crate::{More, Place, Reading, Refusal, asked, command_of, front_len, read_head, read_some};
+use desk_commands::Command;
+use httparse::spans::EMPTY_HEADER_SPAN;
+use outside::{MemPort, Port, Text};
+use std::alloc::{AllocError, Global};
+use std::test::Fail;
+
+/// What a peer that sends these bytes is told at its head; none where the head isn't refused.
+fn refusal(alloc: Global, sent: &[u8]) -> Result<Option<Refusal>, Fail> {
+    let mut port = port(alloc, sent)?;
+    let mut bytes = Vec::new(alloc);
+    let mut headers = [EMPTY_HEADER_SPAN; 65];
+    match read_head(&mut port, &mut bytes, &mut headers) {
+        Reading::Head(spans) => {
+            let (len, _) = front_len(&bytes);
+            let (front, _) = bytes.split_at(len);
+            Ok(asked(alloc, front, &headers, spans)?.err())
+        }
+        Reading::Refused(refusal) => Ok(Some(refusal)),
+        _ => Err("no whole head")?,
+    }
+}
+
+fn port(alloc: Global, sent: &[u8]) -> Result<MemPort, Fail> {
+    let mut peers = Vec::new(alloc);
+    peers.push(Text::copy(alloc, sent)?)?;
+    let mut port = MemPort::new(alloc, peers, 0, Vec::new(alloc))?;
+    port.next().map_err(|_| "no connection")?;
+    Ok(port)
+}
+
+#[test]
+fn a_head_is_refused_by_its_first_cause(rt: HostRuntime) -> Result<(), Fail> {
+    let alloc = rt.alloc();
+    for (sent, want) in [
+        ("\0", Some(Refusal::Head)),
+        (
+            "PUT /x HTTP/1.1\nTransfer-Encoding: x\nContent-Length: a\n\n",
+            Some(Refusal::Coding),
+        ),
+        (
+            "PUT /x HTTP/1.1\nContent-Length: 1\nContent-Length: 2\n\n",
+            Some(Refusal::Length),
+        ),
+        ("PUT /x HTTP/1.1\n\n", Some(Refusal::NoLength)),
+        (
+            "GET /x HTTP/1.1\nContent-Length: 1048577\n\n",
+            Some(Refusal::Long),
+        ),
+        (
+            "PUT /x HTTP/1.1\nContent-Length: 1048576\n\n",
+            Some(Refusal::NoRoute),
+        ),
+        ("POST /blocks HTTP/1.1\n\n", Some(Refusal::Method)),
+        ("POST /blocks/a%20b/sign HTTP/1.1\n\n", Some(Refusal::Name)),
+        ("POST /blocks/a_b/sign HTTP/1.1\n\n", None),
+    ] {
+        assert_eq!(rt; refusal(alloc, sent.as_bytes())?, want, "{sent}");
+    }
+    Ok(())
+}
+
+#[test]
+fn an_order_gives_its_command(rt: HostRuntime) -> Result<(), Fail> {
+    let alloc = rt.alloc();
+    let place = Place::Trace(b"c1", b"12");
+    let is_trace = match command_of(alloc, place, b"")? {
+        Command::GetTrace { name, line } => name.bytes() == b"c1".as_slice() && line == 12,
+        _ => false,
+    };
+    assert!(rt; is_trace);
+    Ok(())
+}
+
+#[test]
+fn no_more_is_read_than_asked_for(rt: HostRuntime) -> Result<(), Fail> {
+    let alloc = rt.alloc();
+    let mut port = port(alloc, b"abcd")?;
+    let mut bytes = Vec::new(alloc);
+    assert!(rt; matches!(read_some(&mut port, &mut bytes, 3), More::Bytes));
+    assert!(rt; bytes.as_slice() == b"abc".as_slice());
+    Ok(())
+}
