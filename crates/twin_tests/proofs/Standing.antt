@@ -1,0 +1,144 @@
+-- Nodes of one bit and of numbers, and what older nodes are in a longer dag.
+use Rattle.std.proofs.Common.{◌≡◌, ℕ, ◌<◌, ◌≤◌, Bool, true, false, not, List, [], ◌∷◌, ◌++◌, length, map, refl, sym, ap, ◌∙◌, arith, append_assoc}
+use Rattle.std.specs.Prelude.{slice_index, ◌&&◌, ◌||◌, ◌==◌}
+use Rattle.std.specs.List.{All}
+use Rattle.std.proofs.lemmas.List.{length-map}
+use Rattle.std.proofs.lemmas.List.Elements.{All-head, All-tail}
+use Rattle.word_core.specs.Words.{Bits, flag, and_of, or_of, not_of}
+use Rattle.word_dag.specs.declared.node.Node.{Node}
+use Rattle.word_dag.specs.declared.node.Node.TheVariants.{Const, Two, Not, Zext}
+use Rattle.word_dag.specs.declared.node.Op.TheVariants.{And, Or, Eq}
+use Rattle.word_dag.specs.Nodes.{Naming, FitsNode, width_of}
+use Rattle.word_dag.specs.Adding.{Adds, Keeps}
+use Rattle.set_tree.specs.Meaning.{Row}
+use Rattle.twin_tests.specs.Building.{HasWidth, IsWide, Tests, Counts, Shows, AreLeaves, word_in, row_in}
+
+-- ---- longer dags
+
+pub keeps_all : (a : List Node) → Keeps a a
+keeps_all a = record { more = ([], append_nil a); longer = omega arith; widths = λ i lt. refl; values = λ e i lt. refl }
+  where
+    append_nil : (xs : List Node) → xs ≡ xs ++ []
+    append_nil [] = refl
+    append_nil (x ∷ xs) = ap (λ (ys : List Node). x ∷ ys) (append_nil xs)
+
+pub keeps_both : (a b c : List Node) → Keeps a b → Keeps b c → Keeps a c
+keeps_both a b c ab bc = record {
+  more = (ab.more.0 ++ bc.more.0, bc.more.1 ∙ (ap (λ (ns : List Node). ns ++ bc.more.0) ab.more.1 ∙ append_assoc a ab.more.0 bc.more.0));
+  longer = omega (arith, ab.longer, bc.longer);
+  widths = λ i lt. bc.widths i (omega (arith, ab.longer, lt)) ∙ ab.widths i lt;
+  values = λ e i lt. bc.values e i (omega (arith, ab.longer, lt)) ∙ ab.values e i lt;
+}
+
+pub has_later : (a b : List Node) (i w : ℕ) → Keeps a b → HasWidth a i w → HasWidth b i w
+has_later a b i w ab h = record { below = omega (arith, ab.longer, h.below); width = ab.widths i h.below ∙ h.width }
+
+pub wide_later : (a b : List Node) (i : ℕ) → Keeps a b → IsWide a i → IsWide b i
+wide_later a b i ab h = record { below = omega (arith, ab.longer, h.below); some = rw (ab.widths i h.below) h.some; most = rw (ab.widths i h.below) h.most }
+
+pub tests_later : (a b : List Node) (i : ℕ) (f : Naming → Bool) → Keeps a b → Tests a i f → Tests b i f
+tests_later a b i f ab t = record { node = has_later a b i 1 ab t.node; means = λ e. ab.values e i t.node.below ∙ t.means e }
+
+pub counts_later : (a b : List Node) (i : ℕ) (f : Naming → ℕ) → Keeps a b → Counts a i f → Counts b i f
+counts_later a b i f ab t = record { node = wide_later a b i ab t.node; means = λ e. ap (λ (w : Bits). w.value) (ab.values e i t.node.below) ∙ t.means e }
+
+pub map_same : {X Y : Type 0} (f g : X → Y) (P : X → Type 0) → ((x : X) → P x → f x ≡ g x) → (xs : List X) → All P xs → map f xs ≡ map g xs
+map_same f g P h [] all = refl
+map_same f g P h (x ∷ xs) all =
+    let here = h x (All-head P x xs all) in
+    let rest = map_same f g P h xs (All-tail P x xs all) in
+    cc
+
+pub leaves_later : (a b : List Node) (rows : List (List ℕ)) → Keeps a b → AreLeaves a rows → AreLeaves b rows
+leaves_later a b rows ab leaves = record { each = λ k d lt. λ j d' lt'. wide_later a b _ ab (leaves.each k d lt j d' lt') }
+
+pub row_later : (a b : List Node) (e : Naming) (row : List ℕ) → Keeps a b → All (IsWide a) row → row_in b e row ≡ row_in a e row
+row_later a b e row ab leaves = map_same _ _ (IsWide a) (λ i leaf. ap (λ (w : Bits). w.value) (ab.values e i leaf.below)) row leaves
+
+pub shows_later : (a b : List Node) (rows : List (List ℕ)) (f : Naming → List Row) → Keeps a b → Shows a rows f → Shows b rows f
+shows_later a b rows f ab s = record {
+  leaves = leaves_later a b rows ab s.leaves;
+  means = λ e. map_same _ _ (All (IsWide a)) (λ row leaves. row_later a b e row ab leaves) rows s.leaves.each ∙ s.means e;
+}
+
+-- ---- nodes that are added
+
+width_in : (ns : List Node) → length (map width_of ns) ≡ length ns
+width_in ns = length-map ns width_of
+
+pub bits_fit : (ns : List Node) (a b : ℕ) → HasWidth ns a 1 → HasWidth ns b 1 → (a < length (map width_of ns)) × (b < length (map width_of ns)) × ((slice_index (map width_of ns) a ≡ 1) × (slice_index (map width_of ns) b ≡ 1))
+bits_fit ns a b x y = (omega (arith, width_in ns, x.below), omega (arith, width_in ns, y.below), (x.width, y.width))
+
+pub equal_fits : (ns : List Node) (a b w : ℕ) → HasWidth ns a w → HasWidth ns b w → FitsNode (map width_of ns) (Two Eq 1 a b)
+equal_fits ns a b w x y = (omega (arith, width_in ns, x.below), omega (arith, width_in ns, y.below), (refl, x.width ∙ sym y.width))
+
+pub not_fits : (ns : List Node) (a : ℕ) → HasWidth ns a 1 → FitsNode (map width_of ns) (Not 1 a)
+not_fits ns a x = (omega (arith, width_in ns, x.below), x.width)
+
+pub zext_fits : (ns : List Node) (a w : ℕ) → IsWide ns a → slice_index (map width_of ns) a ≤ w → w ≤ 64 → FitsNode (map width_of ns) (Zext w a)
+zext_fits ns a w x le most = (omega (arith, width_in ns, x.below), le, most)
+
+pub added : (a b : List Node) (n : Node) (i : ℕ) → Adds a b n i → HasWidth b i (width_of n)
+added a b n i made = record { below = made.within; width = made.wide }
+
+and_flags : (b c : Bool) → and_of (flag b) (flag c) ≡ flag (b && c)
+and_flags false false = refl
+and_flags false true = refl
+and_flags true false = refl
+and_flags true true = refl
+
+or_flags : (b c : Bool) → or_of (flag b) (flag c) ≡ flag (b || c)
+or_flags false false = refl
+or_flags false true = refl
+or_flags true false = refl
+or_flags true true = refl
+
+not_flag : (b : Bool) → not_of (flag b) ≡ flag (not b)
+not_flag false = refl
+not_flag true = refl
+
+pub constant_is : (a b : List Node) (i : ℕ) (t : Bool) (w : Bits) → w ≡ flag t → Adds a b (Const w) i → Tests b i (λ e. t)
+constant_is a b i t w at made = record {
+  node = record { below = made.within; width = made.wide ∙ ap (λ (k : Bits). k.width) at };
+  means = λ e. made.value e ∙ at;
+}
+
+pub both_is : (a b : List Node) (x y i : ℕ) → Adds a b (Two And 1 x y) i → (f g : Naming → Bool) → Tests a x f → Tests a y g → Tests b i (λ e. f e && g e)
+both_is a b x y i made f g p q = record {
+  node = added a b _ i made;
+  means = λ e. made.value e ∙ (ap (λ (k : Bits). and_of k (word_in a e y)) (p.means e) ∙ (ap (and_of (flag (f e))) (q.means e) ∙ and_flags (f e) (g e)));
+}
+
+pub either_is : (a b : List Node) (x y i : ℕ) → Adds a b (Two Or 1 x y) i → (f g : Naming → Bool) → Tests a x f → Tests a y g → Tests b i (λ e. f e || g e)
+either_is a b x y i made f g p q = record {
+  node = added a b _ i made;
+  means = λ e. made.value e ∙ (ap (λ (k : Bits). or_of k (word_in a e y)) (p.means e) ∙ (ap (or_of (flag (f e))) (q.means e) ∙ or_flags (f e) (g e)));
+}
+
+pub negated_is : (a b : List Node) (x i : ℕ) → Adds a b (Not 1 x) i → (f : Naming → Bool) → Tests a x f → Tests b i (λ e. not (f e))
+negated_is a b x i made f p = record {
+  node = added a b _ i made;
+  means = λ e. made.value e ∙ (ap not_of (p.means e) ∙ not_flag (f e));
+}
+
+pub widened_is : (a b : List Node) (x w i : ℕ) → 0 < w → w ≤ 64 → Adds a b (Zext w x) i → (f : Naming → ℕ) → Counts a x f → Counts b i f
+widened_is a b x w i some most made f p = record {
+  node = record { below = made.within; some = rw made.wide some; most = rw made.wide most };
+  means = λ e. ap (λ (k : Bits). k.value) (made.value e) ∙ p.means e;
+}
+
+pub equal_is : (a b : List Node) (x y i : ℕ) → Adds a b (Two Eq 1 x y) i → (f g : Naming → ℕ) → Counts a x f → Counts a y g → Tests b i (λ e. f e == g e)
+equal_is a b x y i made f g p q = record {
+  node = added a b _ i made;
+  means = λ e. made.value e ∙ (ap (λ (n : ℕ). flag (n == (word_in a e y).value)) (p.means e) ∙ ap (λ (n : ℕ). flag (f e == n)) (q.means e));
+}
+
+pub number_is : (a b : List Node) (i n : ℕ) (w : Bits) → w.value ≡ n → 0 < w.width → w.width ≤ 64 → Adds a b (Const w) i → Counts b i (λ e. n)
+number_is a b i n w is some most made = record {
+  node = record { below = made.within; some = rw made.wide some; most = rw made.wide most };
+  means = λ e. ap (λ (k : Bits). k.value) (made.value e) ∙ is;
+}
+
+pub ruleset kept = (has_later, wide_later, leaves_later, keeps_both)
+
+pub ruleset words = (keeps_all, keeps_both, has_later, wide_later, bits_fit, equal_fits, not_fits, zext_fits, added)
