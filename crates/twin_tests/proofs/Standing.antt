@@ -1,17 +1,18 @@
 -- Nodes of one bit and of numbers, and what older nodes are in a longer dag.
-use Rattle.std.proofs.Common.{◌≡◌, ℕ, ◌<◌, ◌≤◌, Bool, true, false, not, List, [], ◌∷◌, ◌++◌, length, map, refl, sym, ap, ◌∙◌, arith, append_assoc}
+use Rattle.std.proofs.Common.{◌≡◌, ℕ, ◌<◌, ◌≤◌, Bool, true, false, not, List, [], ◌∷◌, ◌++◌, length, map, take, drop, refl, sym, ap, ◌∙◌, arith, append_assoc}
 use Rattle.std.specs.Prelude.{slice_index, ◌&&◌, ◌||◌, ◌==◌}
 use Rattle.std.specs.List.{All}
-use Rattle.std.proofs.lemmas.List.{length-map}
-use Rattle.std.proofs.lemmas.List.Elements.{All-head, All-tail}
+use Rattle.std.proofs.lemmas.List.{length-map, drop-map, take-map}
+use Rattle.std.proofs.lemmas.List.Elements.{All-head, All-tail, All-drop, All-take}
 use Rattle.word_core.specs.Words.{Bits, flag, and_of, or_of, not_of}
 use Rattle.word_dag.specs.declared.node.Node.{Node}
 use Rattle.word_dag.specs.declared.node.Node.TheVariants.{Const, Two, Not, Zext}
 use Rattle.word_dag.specs.declared.node.Op.TheVariants.{And, Or, Eq}
 use Rattle.word_dag.specs.Nodes.{Naming, FitsNode, width_of}
 use Rattle.word_dag.specs.Adding.{Adds, Keeps}
+use Rattle.set_tree.specs.declared.set.Name.{Name}
 use Rattle.set_tree.specs.Meaning.{Row}
-use Rattle.twin_tests.specs.Building.{HasWidth, IsWide, Tests, Counts, Shows, AreLeaves, word_in, row_in}
+use Rattle.twin_tests.specs.Building.{HasWidth, IsWide, IsLeafRow, Tests, Counts, Shows, AreLeaves, word_in, row_in}
 
 -- ---- longer dags
 
@@ -42,24 +43,59 @@ tests_later a b i f ab t = record { node = has_later a b i 1 ab t.node; means = 
 pub counts_later : (a b : List Node) (i : ℕ) (f : Naming → ℕ) → Keeps a b → Counts a i f → Counts b i f
 counts_later a b i f ab t = record { node = wide_later a b i ab t.node; means = λ e. ap (λ (w : Bits). w.value) (ab.values e i t.node.below) ∙ t.means e }
 
-pub map_same : {X Y : Type 0} (f g : X → Y) (P : X → Type 0) → ((x : X) → P x → f x ≡ g x) → (xs : List X) → All P xs → map f xs ≡ map g xs
-map_same f g P h [] all = refl
-map_same f g P h (x ∷ xs) all =
-    let here = h x (All-head P x xs all) in
-    let rest = map_same f g P h xs (All-tail P x xs all) in
+pub leaf_row_later : (a b : List Node) (names : List Name) (row : List ℕ) → Keeps a b → IsLeafRow names a row → IsLeafRow names b row
+leaf_row_later a b [] [] ab h = h
+leaf_row_later a b [] (i ∷ row) ab h = absurd h
+leaf_row_later a b (name ∷ names) [] ab h = absurd h
+leaf_row_later a b (name ∷ names) (i ∷ row) ab h = (has_later a b i name.width ab h.0, leaf_row_later a b names row ab h.1)
+
+pub leaves_later : (a b : List Node) (names : List Name) (rows : List (List ℕ)) → Keeps a b → AreLeaves names a rows → AreLeaves names b rows
+leaves_later a b names rows ab leaves = record { each = λ k d lt. leaf_row_later a b names _ ab (leaves.each k d lt) }
+
+pub row_later : (a b : List Node) (names : List Name) (e : Naming) (row : List ℕ) → Keeps a b → IsLeafRow names a row → row_in b e row ≡ row_in a e row
+row_later a b [] e [] ab h = refl
+row_later a b [] e (i ∷ row) ab h = absurd h
+row_later a b (name ∷ names) e [] ab h = absurd h
+row_later a b (name ∷ names) e (i ∷ row) ab h =
+    let here : (word_in b e i).value ≡ (word_in a e i).value = ap (λ (w : Bits). w.value) (ab.values e i h.0.below) in
+    let rest : row_in b e row ≡ row_in a e row = row_later a b names e row ab h.1 in
     cc
 
-pub leaves_later : (a b : List Node) (rows : List (List ℕ)) → Keeps a b → AreLeaves a rows → AreLeaves b rows
-leaves_later a b rows ab leaves = record { each = λ k d lt. λ j d' lt'. wide_later a b _ ab (leaves.each k d lt j d' lt') }
+rows_later : (a b : List Node) (names : List Name) (e : Naming) (rows : List (List ℕ)) → Keeps a b → All (IsLeafRow names a) rows → map (row_in b e) rows ≡ map (row_in a e) rows
+rows_later a b names e [] ab h = refl
+rows_later a b names e (row ∷ rows) ab h =
+    let here = row_later a b names e row ab (All-head (IsLeafRow names a) row rows h) in
+    let rest = rows_later a b names e rows ab (All-tail (IsLeafRow names a) row rows h) in
+    cc
 
-pub row_later : (a b : List Node) (e : Naming) (row : List ℕ) → Keeps a b → All (IsWide a) row → row_in b e row ≡ row_in a e row
-row_later a b e row ab leaves = map_same _ _ (IsWide a) (λ i leaf. ap (λ (w : Bits). w.value) (ab.values e i leaf.below)) row leaves
-
-pub shows_later : (a b : List Node) (rows : List (List ℕ)) (f : Naming → List Row) → Keeps a b → Shows a rows f → Shows b rows f
-shows_later a b rows f ab s = record {
-  leaves = leaves_later a b rows ab s.leaves;
-  means = λ e. map_same _ _ (All (IsWide a)) (λ row leaves. row_later a b e row ab leaves) rows s.leaves.each ∙ s.means e;
+pub shows_later : (a b : List Node) (names : List Name) (rows : List (List ℕ)) (f : Naming → List Row) → Keeps a b → Shows names a rows f → Shows names b rows f
+shows_later a b names rows f ab s = record {
+  leaves = leaves_later a b names rows ab s.leaves;
+  means = λ e. rows_later a b names e rows ab s.leaves.each ∙ s.means e;
 }
+
+-- the rows from t on, and the first k rows
+pub leaves_drop : (names : List Name) (nodes : List Node) (rows : List (List ℕ)) (t : ℕ) → AreLeaves names nodes rows → AreLeaves names nodes (drop t rows)
+leaves_drop names nodes rows t leaves = record { each = All-drop (IsLeafRow names nodes) t rows leaves.each }
+
+pub shows_drop : (names : List Name) (nodes : List Node) (rows : List (List ℕ)) (t : ℕ) (f : Naming → List Row) → Shows names nodes rows f → Shows names nodes (drop t rows) (λ e. drop t (f e))
+shows_drop names nodes rows t f s = record {
+  leaves = leaves_drop names nodes rows t s.leaves;
+  means = λ e. sym (drop-map (row_in nodes e) t rows) ∙ ap (drop t) (s.means e);
+}
+
+pub leaves_take : (names : List Name) (nodes : List Node) (rows : List (List ℕ)) (k : ℕ) → AreLeaves names nodes rows → AreLeaves names nodes (take k rows)
+leaves_take names nodes rows k leaves = record { each = All-take (IsLeafRow names nodes) k rows leaves.each }
+
+pub shows_take : (names : List Name) (nodes : List Node) (rows : List (List ℕ)) (k : ℕ) (f : Naming → List Row) → Shows names nodes rows f → Shows names nodes (take k rows) (λ e. take k (f e))
+shows_take names nodes rows k f s = record {
+  leaves = leaves_take names nodes rows k s.leaves;
+  means = λ e. sym (take-map (row_in nodes e) k rows) ∙ ap (take k) (s.means e);
+}
+
+-- as many rows as are shown
+pub shown_length : (names : List Name) (nodes : List Node) (rows : List (List ℕ)) (f : Naming → List Row) (e : Naming) → Shows names nodes rows f → length (f e) ≡ length rows
+shown_length names nodes rows f e s = sym (ap (λ (rs : List Row). length rs) (s.means e)) ∙ length-map rows (row_in nodes e)
 
 -- ---- nodes that are added
 
@@ -139,6 +175,6 @@ number_is a b i n w is some most made = record {
   means = λ e. ap (λ (k : Bits). k.value) (made.value e) ∙ is;
 }
 
-pub ruleset kept = (has_later, wide_later, leaves_later, keeps_both)
+pub ruleset kept = (keeps_all, keeps_both, has_later, wide_later, leaves_later)
 
 pub ruleset words = (keeps_all, keeps_both, has_later, wide_later, bits_fit, equal_fits, not_fits, zext_fits, added)

@@ -1,6 +1,11 @@
 -- What nodes of a dag stand for, at every naming of its free words.
 use Rattle.std.specs.Prelude.{◌≡◌, ℕ, ◌<◌, ◌≤◌, Bool, List, [], map, length, slice_index}
-use Rattle.std.specs.List.{All}
+use Rattle.std.specs.List.{All, AllZip}
+use Rattle.vlog_tree.specs.declared.expr.Expr.{Expr}
+use Rattle.set_tree.specs.declared.set.Name.{Name}
+use Rattle.set_tree.specs.declared.set.Set.{Set}
+use Rattle.set_tree.specs.Formulas.{largest_offset}
+use Rattle.set_sound.specs.Condition.{IsFormula}
 use Rattle.set_tree.specs.Meaning.{Row}
 use Rattle.word_core.specs.Words.{Bits}
 use Rattle.word_dag.specs.declared.node.Node.{Node}
@@ -32,19 +37,28 @@ pub record Counts (nodes : List Node) (i : ℕ) (f : Naming → ℕ) : Type 0 wh
   pub node : IsWide nodes i
   pub means : (e : Naming) → (word_in nodes e i).value ≡ f e
 
--- rows of nodes: a node for each name in each cycle
-pub record AreLeaves (nodes : List Node) (rows : List (List ℕ)) : Type 0 where
-  pub each : All (All (IsWide nodes)) rows
+-- a node for each name in one cycle, of the name's width
+abbrev pub IsLeafRow : List Name → List Node → List ℕ → Type 0
+IsLeafRow names nodes row = AllZip (λ (name : Name) i. HasWidth nodes i name.width) names row
+
+-- such nodes in each cycle
+pub record AreLeaves (names : List Name) (nodes : List Node) (rows : List (List ℕ)) : Type 0 where
+  pub each : All (IsLeafRow names nodes) rows
 
 abbrev pub row_in : List Node → Naming → List ℕ → Row
 row_in nodes e row = map (λ i. (word_in nodes e i).value) row
 
 -- nodes that have the values of these rows
-pub record Shows (nodes : List Node) (rows : List (List ℕ)) (f : Naming → List Row) : Type 0 where
-  pub leaves : AreLeaves nodes rows
+pub record Shows (names : List Name) (nodes : List Node) (rows : List (List ℕ)) (f : Naming → List Row) : Type 0 where
+  pub leaves : AreLeaves names nodes rows
   pub means : (e : Naming) → map (row_in nodes e) rows ≡ f e
 
 -- nodes that have the values of this row
-pub record ShowsRow (nodes : List Node) (row : List ℕ) (f : Naming → Row) : Type 0 where
-  pub leaves : All (IsWide nodes) row
+pub record ShowsRow (names : List Name) (nodes : List Node) (row : List ℕ) (f : Naming → Row) : Type 0 where
+  pub leaves : IsLeafRow names nodes row
   pub means : (e : Naming) → row_in nodes e row ≡ f e
+
+-- a formula of the set that reads none but the first k rows
+pub record IsReadable (set : Set) (k : ℕ) (formula : Expr) : Type 0 where
+  pub formed : IsFormula set formula
+  pub fits : largest_offset formula < k

@@ -5,7 +5,7 @@ ghost use Rattle.vlog_tree.specs.Valuation.{IsLength};
 ghost use Rattle.word_dag.specs.Nodes.{Naming};
 ghost use Rattle.word_dag.specs.Adding.{Keeps};
 ghost use Rattle.line_laws.specs.Windows.{side_of, named_value, rows_from};
-ghost use Rattle.twin_tests.specs.Building.{Counts, Shows, ShowsRow};
+ghost use Rattle.twin_tests.specs.Building.{Counts, HasWidth, Shows, ShowsRow};
 
 use outside::Text;
 use set_tree::{Name, Role};
@@ -63,6 +63,7 @@ fn free_node(
 ) -> Result<u64, AllocError>
     requires { IsLength name.now.width }
     ensures keeps { IfOk result (λ _. Keeps dag.old dag.new) }
+    ensures width { IfOk result (λ i. HasWidth dag.new i name.now.width) }
     ensures node { IfOk result (λ i. Counts dag.new i (λ e. named_value e side cycle name.now)) }
 {
     let node = dag.add(Node::Free {
@@ -84,7 +85,7 @@ fn row_nodes(
 ) -> Result<NodeRow, AllocError>
     requires { All (λ n. IsLength n.width) names.now }
     ensures keeps { IfOk result (λ _. Keeps dag.old dag.new) }
-    ensures row { IfOk result (λ row. ShowsRow dag.new row (λ e. map (named_value e side cycle) names.now)) }
+    ensures row { IfOk result (λ row. ShowsRow names.now dag.new row (λ e. map (named_value e side cycle) names.now)) }
 {
     let mut nodes = Vec::new(alloc);
     for name in names {
@@ -104,7 +105,7 @@ pub fn window_nodes(
 ) -> Result<Vec<NodeRow>, AllocError>
     requires { All (λ n. IsLength n.width) names.now }
     ensures keeps { IfOk result (λ _. Keeps dag.old dag.new) }
-    ensures rows { IfOk result (λ rows. Shows dag.new rows.items (λ e. rows_from names.now e side 0 count)) }
+    ensures rows { IfOk result (λ rows. Shows names.now dag.new rows.items (λ e. rows_from names.now e side 0 count)) }
 {
     let mut rows = Vec::new(alloc);
     for cycle in 0..count {
