@@ -4,7 +4,7 @@ use Rattle.std.specs.Prelude.{slice_index, ◌&&◌, ◌||◌, ◌==◌}
 use Rattle.std.specs.List.{All}
 use Rattle.std.proofs.lemmas.List.{length-map, drop-map, take-map}
 use Rattle.std.proofs.lemmas.List.Elements.{All-head, All-tail, All-drop, All-take}
-use Rattle.word_core.specs.Words.{Bits, flag, and_of, or_of, not_of}
+use Rattle.word_core.specs.Words.{Bits, flag, and_of, eq_of, or_of, not_of}
 use Rattle.word_dag.specs.declared.node.Node.{Node}
 use Rattle.word_dag.specs.declared.node.Node.TheVariants.{Const, Two, Not, Zext}
 use Rattle.word_dag.specs.declared.node.Op.TheVariants.{And, Or, Eq}
@@ -12,6 +12,7 @@ use Rattle.word_dag.specs.Nodes.{Naming, FitsNode, width_of}
 use Rattle.word_dag.specs.Adding.{Adds, Keeps}
 use Rattle.set_tree.specs.declared.set.Name.{Name}
 use Rattle.set_tree.specs.Meaning.{Row}
+use Rattle.line_laws.specs.Tests.{same}
 use Rattle.twin_tests.specs.Building.{HasWidth, IsWide, IsLeafRow, Tests, Counts, Shows, AreLeaves, word_in, row_in}
 
 -- ---- longer dags
@@ -155,6 +156,18 @@ pub negated_is : (a b : List Node) (x i : ℕ) → Adds a b (Not 1 x) i → (f :
 negated_is a b x i made f p = record {
   node = added a b _ i made;
   means = λ e. made.value e ∙ (ap not_of (p.means e) ∙ not_flag (f e));
+}
+
+same_flags : (b c : Bool) → eq_of (flag b) (flag c) ≡ flag (same b c)
+same_flags false false = refl
+same_flags false true = refl
+same_flags true false = refl
+same_flags true true = refl
+
+pub same_is : (a b : List Node) (x y i : ℕ) → Adds a b (Two Eq 1 x y) i → (f g : Naming → Bool) → Tests a x f → Tests a y g → Tests b i (λ e. same (f e) (g e))
+same_is a b x y i made f g p q = record {
+  node = added a b _ i made;
+  means = λ e. made.value e ∙ (ap (λ (k : Bits). eq_of k (word_in a e y)) (p.means e) ∙ (ap (eq_of (flag (f e))) (q.means e) ∙ same_flags (f e) (g e)));
 }
 
 pub widened_is : (a b : List Node) (x w i : ℕ) → 0 < w → w ≤ 64 → Adds a b (Zext w x) i → (f : Naming → ℕ) → Counts a x f → Counts b i f

@@ -1,5 +1,5 @@
 // The free words of windows.
-ghost use Rattle.std.specs.Prelude.{◌≡◌, ◌≤◌, ℕ, List, map, IfOk};
+ghost use Rattle.std.specs.Prelude.{◌≡◌, ◌≤◌, ℕ, List, map, length, take, IfOk};
 ghost use Rattle.std.specs.List.{All};
 ghost use Rattle.vlog_tree.specs.Valuation.{IsLength};
 ghost use Rattle.word_dag.specs.Nodes.{Naming};
@@ -113,4 +113,12 @@ pub fn window_nodes(
         rows.push(row)?;
     }
     Ok(rows)
+}
+
+/// The rows before this one.
+pub fn rows_before(rows: &[NodeRow], count: usize) -> &[NodeRow]
+    requires { count ≤ length rows.now }
+    ensures { result.now ≡ take count rows.now }
+{
+    &rows[..count]
 }

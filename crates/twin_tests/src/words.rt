@@ -2,6 +2,7 @@
 ghost use Rattle.std.specs.Prelude.{◌≡◌, ℕ, ◌==◌, ◌<◌, ◌≤◌, Bool, not, ◌&&◌, ◌||◌, length, map, slice_index, IfOk};
 ghost use Rattle.word_dag.specs.Nodes.{Naming, width_of};
 ghost use Rattle.word_dag.specs.Adding.{Keeps};
+ghost use Rattle.line_laws.specs.Tests.{same};
 ghost use Rattle.twin_tests.specs.Building.{HasWidth, IsWide, Tests, Counts};
 
 use std::alloc::AllocError;
@@ -87,6 +88,24 @@ pub fn negated(dag: &mut Dag, a: u64) -> Result<u64, AllocError>
     ensures node { IfOk result (λ i. (f : Naming → Bool) → Tests dag.old a f → Tests dag.new i (λ e. not (f e))) }
 {
     let node = dag.add(Node::Not { width: 1, a })?;
+    Ok(node)
+}
+
+/// Both tests hold, or neither does.
+#[tactic(auto, using(crate::proofs::Standing::words))]
+pub fn same(dag: &mut Dag, a: u64, b: u64) -> Result<u64, AllocError>
+    requires first { HasWidth dag.old a 1 }
+    requires second { HasWidth dag.old b 1 }
+    ensures keeps { IfOk result (λ _. Keeps dag.old dag.new) }
+    ensures width { IfOk result (λ i. HasWidth dag.new i 1) }
+    ensures node { IfOk result (λ i. (f g : Naming → Bool) → Tests dag.old a f → Tests dag.old b g → Tests dag.new i (λ e. same (f e) (g e))) }
+{
+    let node = dag.add(Node::Two {
+        op: Op::Eq,
+        width: 1,
+        a,
+        b,
+    })?;
     Ok(node)
 }
 
