@@ -1,0 +1,4 @@
+pub mod Naming
+pub mod Testing
+pub mod Violations
+pub mod Roots

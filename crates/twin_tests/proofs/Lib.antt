@@ -1,0 +1,5 @@
+pub mod Standing
+pub mod Frees
+pub mod Loops
+pub mod Readings
+pub mod Ends

@@ -1,0 +1,8 @@
+//! The obligations of a set's own lines.
+#![tactic(auto)]
+
+mod obligation;
+mod window;
+mod words;
+
+pub use obligation::obligation_of;
