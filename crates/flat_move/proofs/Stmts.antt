@@ -1,14 +1,15 @@
 -- Each form of a statement, as the code reads it, moves it and makes it.
-use Rattle.std.proofs.Common.{ℕ, ◌≡◌, List, ◌∷◌, ◌++◌, Option, refl, sym, ap, ◌∙◌, map}
+use Rattle.std.proofs.Common.{ℕ, ◌≡◌, List, ◌∷◌, Option, refl, sym, ap, ◌∙◌, map}
 use Rattle.vlog_tree.specs.declared.expr.Expr.{Expr}
 use Rattle.vlog_tree.specs.declared.stmt.CaseItem.{CaseItem}
 use Rattle.vlog_tree.specs.declared.stmt.CaseKind.{CaseKind}
+use Rattle.vlog_tree.specs.declared.stmt.Lval.{Lval}
 use Rattle.vlog_tree.specs.declared.stmt.Stmt.{Stmt, Row_of-Stmt, end_of-Stmt, more_of-Stmt, Row_of-CaseItem, end_of-CaseItem, more_of-CaseItem, roll-Stmt, roll-out-Stmt, items-the_row-Stmt, items_shown-the_row-Stmt-0, items_hidden-the_row-Stmt-0, items-the_row-CaseItem, items_shown-the_row-CaseItem-2, items_hidden-the_row-CaseItem-2}
 use Rattle.vlog_tree.specs.declared.stmt.Stmt.TheVariants as s
 use Rattle.vlog_tree.specs.declared.stmt.Stmt.TheBlock.{shape-the_row-Stmt-0, hidden-the_row-Stmt-0, shown-the_row-Stmt-0, shape-the_row-Stmt-1, hidden-the_row-Stmt-1, shape-the_row-CaseItem-2, hidden-the_row-CaseItem-2, shown-the_row-CaseItem-2}
 use Rattle.vlog_tree.specs.declared.valuation.Entry.{Entry}
 use Rattle.vlog_runs.specs.Places.{Name}
-use Rattle.flat_laws.specs.Moved.{moved, moved_labels, moved_stmt, moved_stmts, moved_items}
+use Rattle.flat_laws.specs.Moved.{moved, moved_left, moved_stmt, moved_stmts, moved_items}
 use Rattle.flat_move.specs.Cases.{moved_case}
 use denote.Hole.Carrier
 
@@ -60,3 +61,9 @@ module _ (pre : Name) (ps : List Entry) where
   unfolding shape-the_row-Stmt-1 hidden-the_row-Stmt-1 denote.Hole.Carrier.hidden
   if_else_moved tree a x b c y d f w r is h i k j g m =
       m ∙ ((λ z. s.IfElse (h z) ((k ∙ ap (moved_stmt pre ps) i) z) ((g ∙ ap (moved_stmt pre ps) j) z)) ∙ sym (ap (moved_stmt pre ps) is))
+
+  pub blocking_moved : (tree : Stmt) (left x : Lval) (right y : Expr) (r : Stmt) → tree ≡ s.Blocking left right → x ≡ moved_left pre ps left → y ≡ moved pre ps right → r ≡ s.Blocking x y → r ≡ moved_stmt pre ps tree
+  blocking_moved tree left x right y r is h k m = m ∙ ((λ z. s.Blocking (h z) (k z)) ∙ sym (ap (moved_stmt pre ps) is))
+
+  pub nonblocking_moved : (tree : Stmt) (left x : Lval) (right y : Expr) (r : Stmt) → tree ≡ s.Nonblocking left right → x ≡ moved_left pre ps left → y ≡ moved pre ps right → r ≡ s.Nonblocking x y → r ≡ moved_stmt pre ps tree
+  nonblocking_moved tree left x right y r is h k m = m ∙ ((λ z. s.Nonblocking (h z) (k z)) ∙ sym (ap (moved_stmt pre ps) is))

@@ -2,5 +2,11 @@
 #![tactic(auto)]
 
 mod expr;
+mod left;
+mod stmt;
+mod text;
 
 pub use expr::{Mover, moved_expr};
+pub use left::moved_left;
+pub use stmt::moved_stmt;
+pub use text::{moved_block, moved_link, moved_signal};
