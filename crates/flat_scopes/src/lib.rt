@@ -1,0 +1,16 @@
+//! The parts of a module's text, in the order of its text: views that borrow from it.
+#![tactic(auto)]
+
+mod assign;
+mod block;
+mod decl;
+mod inner;
+mod param;
+mod port;
+
+pub use assign::{Assigned, Target, assigns_in};
+pub use block::{Block, blocks_in};
+pub use decl::{Decl, decls_in};
+pub use inner::{Inner, instances_in};
+pub use param::{Param, is_open, params_in};
+pub use port::port_names;
