@@ -8,11 +8,13 @@ use Rattle.vlog_tree.specs.declared.stmt.Lval.{Lval}
 use Rattle.vlog_tree.specs.declared.stmt.Lval.TheVariants as l
 use Rattle.vlog_runs.specs.Places.{Name}
 use Rattle.vlog_runs.specs.Contents.{bare, Param as Parameter, Decl as Declaration, Block as Always, Inner as Instance}
+use Rattle.vlog_runs.specs.Scopes.{Given as Gift}
 use Rattle.flat_scopes.specs.declared.assign.Assigned.{Assigned}
 use Rattle.flat_scopes.specs.declared.assign.Target.{Target}
 use Rattle.flat_scopes.specs.declared.assign.Target.TheVariants as t
 use Rattle.flat_scopes.specs.declared.block.Block.{Block}
 use Rattle.flat_scopes.specs.declared.decl.Decl.{Decl}
+use Rattle.flat_scopes.specs.declared.given.Given.{Given}
 use Rattle.flat_scopes.specs.declared.inner.Inner.{Inner}
 use Rattle.flat_scopes.specs.declared.param.Param.{Param}
 
@@ -42,3 +44,9 @@ block_meant b = record { events = b.events.now; body = b.body.now }
 
 abbrev pub inner_meant : Inner → Instance
 inner_meant i = record { name = i.name.now; of_module = i.of_module.now; overrides = i.overrides.now; args = i.args.now }
+
+abbrev pub given_meant : Given → Gift
+given_meant g = record { name = g.name.now; value = g.value.now }
+
+abbrev pub param_name : Parameter → Name
+param_name p = p.name

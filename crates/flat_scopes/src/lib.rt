@@ -4,6 +4,7 @@
 mod assign;
 mod block;
 mod decl;
+mod given;
 mod inner;
 mod param;
 mod port;
@@ -11,6 +12,7 @@ mod port;
 pub use assign::{Assigned, Target, assigns_in};
 pub use block::{Block, blocks_in};
 pub use decl::{Decl, decls_in};
+pub use given::{Given, given_to, overriding};
 pub use inner::{Inner, instances_in};
 pub use param::{Param, is_open, params_in};
 pub use port::port_names;
