@@ -1,0 +1,3 @@
+pub mod Exprs
+pub mod Lefts
+pub mod Stmts

@@ -1,0 +1,60 @@
+// Left sides.
+
+ghost use Rattle.std.specs.Prelude.{◌≡◌, IfOk, map};
+ghost use Rattle.flat_laws.specs.Moved.{moved_left};
+
+use crate::expr::Mover;
+use sqlite_items::Items;
+use std::alloc::{AllocError, Global};
+use vlog_tree::{Lval, Valuation};
+
+impl Mover<'_> {
+    /// A left side of the scope.
+    #[cycle(left)]
+    pub fn left(&self, left: &Lval) -> Result<Lval, AllocError>
+        ensures { IfOk result (λ r. r ≡ moved_left self.now.prefix.now self.now.params.now left.now) }
+    {
+        match left {
+            Lval::Name(name) => Ok(Lval::Name(self.text(name.bytes())?)),
+            Lval::Select(name, index) => {
+                let index = self.expr(index)?;
+                Ok(Lval::Select(self.text(name.bytes())?, index))
+            }
+            Lval::Part(name, span, a, b) => {
+                let a = self.expr(a)?;
+                let b = self.expr(b)?;
+                Ok(Lval::Part(self.text(name.bytes())?, *span, a, b))
+            }
+            Lval::Concat(parts) => Ok(Lval::Concat(self.lefts(parts.as_slice())?)),
+        }
+    }
+
+    /// Left sides of the scope.
+    #[cycle(left)]
+    fn lefts(&self, lefts: &[Lval]) -> Result<Items<Lval>, AllocError>
+        ensures { IfOk result (λ r. r ≡ map (moved_left self.now.prefix.now self.now.params.now) lefts.now) }
+    {
+        let mut all = Items::new(self.alloc);
+        for left in lefts {
+            all.push(self.left(left)?)?;
+        }
+        Ok(all)
+    }
+}
+
+/// A left side of a scope with this prefix and these parameters. Refused only for want of memory.
+pub fn moved_left(
+    alloc: Global,
+    prefix: &[u8],
+    params: &Valuation,
+    left: &Lval,
+) -> Result<Lval, AllocError>
+    ensures { IfOk result (λ r. r ≡ moved_left prefix.now params.now left.now) }
+{
+    let mover = Mover {
+        alloc,
+        prefix,
+        params,
+    };
+    mover.left(left)
+}

@@ -1,0 +1,12 @@
+//! The text of a scope as a module without instances has it: its names under its prefix, its parameters replaced by their numbers.
+#![tactic(auto)]
+
+mod expr;
+mod left;
+mod stmt;
+mod text;
+
+pub use expr::{Mover, moved_expr};
+pub use left::moved_left;
+pub use stmt::moved_stmt;
+pub use text::{moved_block, moved_link, moved_signal};
