@@ -11,7 +11,8 @@ use Rattle.word_dag.proofs.Widths.{width-node_value}
 use Rattle.vlog_tree.specs.declared.valuation.Entry.{Entry}
 use Rattle.elab_node.specs.declared.leaves.Leaf.{Leaf}
 use Rattle.elab_node.specs.Leaves.{entry_of, valued, AreReady}
-use Rattle.elab_node.specs.Nodes.{words, number_at, IsNode, Makes}
+use Rattle.elab_node.specs.Nodes.{words, number_at, IsNode, IsWire, Makes, wire_word}
+use Rattle.elab_node.specs.declared.nodes.Wire.{Wire}
 use Rattle.elab_node.proofs.Fits.{words_fit}
 
 append_nil : (xs : List Node) → xs ++ [] ≡ xs
@@ -59,6 +60,11 @@ node_long ns i n f h =
     let e : Naming = λ x s c. 0 in
     let w = subst (λ (b : Bits). IsWord b) (word_is e ns i n f h) (words_fit e ns i f h.0) in
     (omega (arith, w.some), w.most)
+
+pub wire_fits : (e : Naming) (ns : List Node) (a : Wire) → FitFrom [] ns → IsWire ns a → IsWord (wire_word e ns a)
+wire_fits e ns a f h =
+    let long = node_long ns a.node a.width f h in
+    record { some = omega (arith, long.0); most = long.1; fits = number_fits e ns a.node a.width f h }
 
 -- what a made node is
 pub made_node : (ns : List Node) (i n : ℕ) (f : Naming → ℕ) → Makes ns i n f → IsNode ns i n

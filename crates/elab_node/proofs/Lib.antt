@@ -1,3 +1,6 @@
 pub mod Leaving
 pub mod Fits
 pub mod Kept
+pub mod Alike
+pub mod Read
+pub mod Making

@@ -13,15 +13,18 @@ use Rattle.elab_node.specs.Nodes.{IsNode}
 abbrev pub entry_of : Leaf → ℕ → Entry
 entry_of l x = record { name = l.name; offset = l.offset; width = l.width; low = l.low; signed = l.signed; depth = 0; value = x }
 
--- the valuation in which each name has the number of its node's word
-abbrev pub valued : List Leaf → List Bits → List Entry
-valued [] ws = []
-valued (l ∷ ls) ws = entry_of l (word_at ws l.node).value ∷ valued ls ws
+-- the names of leaves as a valuation, with these values
+abbrev pub entries : (Leaf → ℕ) → List Leaf → List Entry
+entries f [] = []
+entries f (l ∷ ls) = entry_of l (f l) ∷ entries f ls
 
--- the valuation in which each name has the value 0: it tells lengths, lowest bits and signs
+-- each name has the number of its node's word
+abbrev pub valued : List Leaf → List Bits → List Entry
+valued ls ws = entries (λ l. (word_at ws l.node).value) ls
+
+-- each name has the value 0: this tells lengths, lowest bits and signs
 abbrev pub declared : List Leaf → List Entry
-declared [] = []
-declared (l ∷ ls) = entry_of l 0 ∷ declared ls
+declared ls = entries (λ l. 0) ls
 
 -- each leaf has from 1 to 64 bits, and a node of that many
 abbrev pub AreReady : List Leaf → List Node → Type 0

@@ -2,5 +2,7 @@
 #![tactic(auto)]
 
 mod leaves;
+mod nodes;
+mod operators;
 
 pub use leaves::{Leaf, Leaves};
