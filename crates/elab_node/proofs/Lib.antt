@@ -4,3 +4,4 @@ pub mod Kept
 pub mod Alike
 pub mod Read
 pub mod Making
+pub mod Parity

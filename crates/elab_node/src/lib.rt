@@ -4,5 +4,7 @@
 mod leaves;
 mod nodes;
 mod operators;
+mod places;
+mod reductions;
 
 pub use leaves::{Leaf, Leaves};
