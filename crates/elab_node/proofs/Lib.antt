@@ -5,3 +5,4 @@ pub mod Alike
 pub mod Read
 pub mod Making
 pub mod Parity
+pub mod Joining

@@ -1,6 +1,7 @@
 //! Expressions as nodes of a dag.
 #![tactic(auto)]
 
+mod families;
 mod leaves;
 mod nodes;
 mod operators;
