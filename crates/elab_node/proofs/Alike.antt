@@ -215,10 +215,11 @@ part_suits : (k j : Constant) (span : Span) (v u : List Entry) (a c : Expr) → 
     IsPart k span (operand_of v a) (operand_of v c) → IsPart j span (operand_of u a) (operand_of u c)
 part_suits k j w.Fixed v u a c lo wi d g p =
     let i = constant_same v u a d.0 in
-    let m = constant_same v u c d.1 in
-    (subst IsTrue (λ r. own_defined (i r) && own_defined (m r)) p.0,
-     subst (λ n. pos n ≤ℤ own_integer (operand_of u c)) lo (subst (λ (o : Operand). pos k.low ≤ℤ own_integer o) m p.1),
-     subst (λ n. own_integer (operand_of u a) <ℤ pos (n + j.width)) lo (subst (λ n. own_integer (operand_of u a) <ℤ pos (k.low + n)) wi (subst (λ (o : Operand). own_integer o <ℤ pos (k.low + k.width)) i p.2)))
+    let m = constant_same v u c d.1 in (
+      subst IsTrue (λ r. own_defined (i r) && own_defined (m r)) p.0,
+      subst (λ n. pos n ≤ℤ own_integer (operand_of u c)) lo (subst (λ (o : Operand). pos k.low ≤ℤ own_integer o) m p.1),
+      subst (λ n. own_integer (operand_of u a) <ℤ pos (n + j.width)) lo (subst (λ n. own_integer (operand_of u a) <ℤ pos (k.low + n)) wi (subst (λ (o : Operand). own_integer o <ℤ pos (k.low + k.width)) i p.2)),
+    )
 part_suits k j w.Up v u a c lo wi d g p = subst IsTrue (own_same _ _ g) p
 part_suits k j w.Down v u a c lo wi d g p = subst IsTrue (own_same _ _ g) p
 
@@ -227,21 +228,30 @@ mutual
   same_formed v u (e.Number n) m d f = f
   same_formed v u (e.Name x) m d f = m.stands x f
   same_formed v u (e.Select' x h (more_of-Expr a end_of-Expr)) m d f = (m.stands x f.0, same_formed v u a m d f.1)
-  same_formed v u (e.Part' x span h (more_of-Expr a end_of-Expr) g (more_of-Expr b end_of-Expr)) m d f =
-      (m.stands x f.0, same_formed v u a m d.0 f.1, same_formed v u b m d.1 f.2,
-       part_suits (named v x) (named u x) span v u a b (m.low x) (m.width x) d.2 (same_operand v u b m d.1) f.3,
-       subst IsLength (part_same (named v x) (named u x) span v u a b d.2 (same_operand v u a m d.0) (same_operand v u b m d.1)).width f.4)
+  same_formed v u (e.Part' x span h (more_of-Expr a end_of-Expr) g (more_of-Expr b end_of-Expr)) m d f = (
+    m.stands x f.0,
+    same_formed v u a m d.0 f.1,
+    same_formed v u b m d.1 f.2,
+    part_suits (named v x) (named u x) span v u a b (m.low x) (m.width x) d.2 (same_operand v u b m d.1) f.3,
+    subst IsLength (part_same (named v x) (named u x) span v u a b d.2 (same_operand v u a m d.0) (same_operand v u b m d.1)).width f.4,
+  )
   same_formed v u (e.ConstantSelect' k h (more_of-Expr a end_of-Expr)) m d f = (f.0, same_formed v u a m d f.1)
-  same_formed v u (e.ConstantPart' k span h (more_of-Expr a end_of-Expr) g (more_of-Expr b end_of-Expr)) m d f =
-      (f.0, same_formed v u a m d.0 f.1, same_formed v u b m d.1 f.2,
-       part_suits k k span v u a b refl refl d.2 (same_operand v u b m d.1) f.3,
-       subst IsLength (part_same k k span v u a b d.2 (same_operand v u a m d.0) (same_operand v u b m d.1)).width f.4)
+  same_formed v u (e.ConstantPart' k span h (more_of-Expr a end_of-Expr) g (more_of-Expr b end_of-Expr)) m d f = (
+    f.0,
+    same_formed v u a m d.0 f.1,
+    same_formed v u b m d.1 f.2,
+    part_suits k k span v u a b refl refl d.2 (same_operand v u b m d.1) f.3,
+    subst IsLength (part_same k k span v u a b d.2 (same_operand v u a m d.0) (same_operand v u b m d.1)).width f.4,
+  )
   same_formed v u (e.Cast' cast h (more_of-Expr a end_of-Expr)) m d f = same_formed v u a m d f
   same_formed v u (e.Paren' h (more_of-Expr a end_of-Expr)) m d f = same_formed v u a m d f
   same_formed v u (e.Concat' h row) m d f = (formed_rows v u row m d f.0, subst IsLength (same_rows v u row m d).width f.1)
-  same_formed v u (e.Repeat' h (more_of-Expr a end_of-Expr) g row) m d f =
-      (same_formed v u a m d.0 f.0, subst (λ (o : Operand). IsTrue (own_defined o)) (constant_same v u a d.1) f.1, formed_rows v u row m d.2 f.2,
-       subst IsLength (repeat_same _ _ _ _ (constant_same v u a d.1) (same_rows v u row m d.2)).width f.3)
+  same_formed v u (e.Repeat' h (more_of-Expr a end_of-Expr) g row) m d f = (
+    same_formed v u a m d.0 f.0,
+    subst (λ (o : Operand). IsTrue (own_defined o)) (constant_same v u a d.1) f.1,
+    formed_rows v u row m d.2 f.2,
+    subst IsLength (repeat_same _ _ _ _ (constant_same v u a d.1) (same_rows v u row m d.2)).width f.3,
+  )
   same_formed v u (e.Unary' op h (more_of-Expr a end_of-Expr)) m d f = same_formed v u a m d f
   same_formed v u (e.Binary' op h (more_of-Expr a end_of-Expr) g (more_of-Expr b end_of-Expr)) m d f = (same_formed v u a m d.0 f.0, same_formed v u b m d.1 f.1)
   same_formed v u (e.Choice' h (more_of-Expr c end_of-Expr) g (more_of-Expr a end_of-Expr) i (more_of-Expr b end_of-Expr)) m d f =

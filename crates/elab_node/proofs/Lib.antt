@@ -6,3 +6,9 @@ pub mod Read
 pub mod Making
 pub mod Parity
 pub mod Joining
+pub mod Moved
+pub mod Codes
+pub mod Positions
+pub mod Shaped
+pub mod Parts
+pub mod Whole

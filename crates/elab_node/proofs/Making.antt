@@ -56,7 +56,7 @@ module _ (old new : List Node) (i : ℕ) (fit : FitFrom [] old) where
   pub made_sext : (a : Wire) (n : ℕ) → IsWire old a → a.width ≤ n → n ≤ 64 → Adds old new (Sext n a.node) i → Makes new i n (λ e. extend true a.width n (number_at e old a.node))
   made_sext a n h le most s = added old new (Sext n a.node) i n _ fit (fits_sext old a n h le most) s refl
       (λ e. let long = node_long old a.node a.width fit h in
-          ap (λ (w : Bits). (sext_of w n).value) (word_is e old a.node a.width fit h) ∙ extend_number a.width n (number_at e old a.node) long.0 (number_fits e old a.node a.width fit h) le)
+      ap (λ (w : Bits). (sext_of w n).value) (word_is e old a.node a.width fit h) ∙ extend_number a.width n (number_at e old a.node) long.0 (number_fits e old a.node a.width fit h) le)
 
   pub made_mux : (c : ℕ) (a b : Wire) → IsNode old c 1 → IsWire old a → IsWire old b → a.width ≡ b.width → Adds old new (Mux a.width c a.node b.node) i →
       Makes new i a.width (λ e. if nat_eq (number_at e old c) 1 then number_at e old a.node else number_at e old b.node)

@@ -37,7 +37,7 @@ name_of f o = unwrap_or (option_map meant (found f o)) none
 pub named_is : (f : Leaf → ℕ) (ls : List Leaf) (x : Name) → named (entries f ls) x ≡ name_of f (leaf_at ls x.text x.offset)
 named_is f ls x = ap (λ (o : Option Entry). unwrap_or (option_map meant o) none) (entry_is f ls x.text x.offset)
 
-depth_is : (f : Leaf → ℕ) (ls : List Leaf) (x : Name) → depth_of (entries f ls) x ≡ 0
+pub depth_is : (f : Leaf → ℕ) (ls : List Leaf) (x : Name) → depth_of (entries f ls) x ≡ 0
 depth_is f ls x = ap (λ (o : Option Entry). unwrap_or (option_map (λ e. e.depth) o) 0) (entry_is f ls x.text x.offset) ∙ none_deep (leaf_at ls x.text x.offset)
   where
     none_deep : (o : Option Leaf) → unwrap_or (option_map (λ e. e.depth) (found f o)) 0 ≡ 0

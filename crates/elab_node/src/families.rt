@@ -1,12 +1,12 @@
 // Operators by their families.
-ghost use Rattle.std.specs.Prelude.{◌≡◌, ◌≤◌, IfOk, true, false};
+ghost use Rattle.std.specs.Prelude.{◌≡◌, ◌≤◌, IfOk, true, false, nat_eq, if◌then◌else◌};
 ghost use Rattle.word_dag.specs.Adding.{Keeps};
 ghost use Rattle.vlog_value.specs.declared.operators.Family.TheVariants as family;
 ghost use Rattle.vlog_value.specs.Operators.{family_of, is_reduction, joined_number, made_number, PlacesFit};
 ghost use Rattle.elab_node.specs.Nodes.{Makes, IsNode, IsWire, number_at};
 
-use crate::nodes::{Wire, extended};
-use crate::operators::{arithmetic, equal, logic, ordered, shifted};
+use crate::nodes::{Wire, choice, extended};
+use crate::operators::{arithmetic, equal, is_zero, logic, ordered, shifted};
 use crate::places::{Family, family_of, is_reduction};
 use crate::reductions::{reduction, sign_change};
 use std::alloc::AllocError;
@@ -97,5 +97,20 @@ pub fn made(dag: &mut Dag, op: Unary, length: u8, inner: Wire) -> Result<u64, Al
         return Ok(number);
     }
     let number = sign_change(dag, op, inner)?;
+    Ok(number)
+}
+
+/// One of two words of a length: the first where a word isn't 0.
+#[tactic(auto, using(crate::proofs::Kept::keeps_then, crate::proofs::Kept::made_node, crate::proofs::Kept::node_kept))]
+pub fn chosen(dag: &mut Dag, condition: Wire, a: Wire, b: Wire) -> Result<u64, AllocError>
+    requires condition { IsWire dag.old condition }
+    requires left { IsWire dag.old a }
+    requires right { IsWire dag.old b }
+    requires same { a.width ≡ b.width }
+    ensures keeps { Keeps dag.old dag.new }
+    ensures makes { IfOk result (λ r. Makes dag.new r b.width (λ e. if nat_eq (number_at e dag.old condition.node) 0 then number_at e dag.old b.node else number_at e dag.old a.node)) }
+{
+    let zero = is_zero(dag, condition)?;
+    let number = choice(dag, zero, b, a)?;
     Ok(number)
 }

@@ -1,8 +1,11 @@
 //! Expressions as nodes of a dag.
 #![tactic(auto)]
 
+mod bits;
 mod families;
+mod indexed;
 mod leaves;
+mod node;
 mod nodes;
 mod operators;
 mod places;

@@ -46,7 +46,13 @@ pub fn inverse(dag: &mut Dag, bit: u64) -> Result<u64, AllocError>
     ensures keeps { Keeps dag.old dag.new }
     ensures makes { IfOk result (λ r. Makes dag.new r 1 (λ e. 1 - number_at e dag.old bit)) }
 {
-    let number = turned(dag, Wire { node: bit, width: 1 })?;
+    let number = turned(
+        dag,
+        Wire {
+            node: bit,
+            width: 1,
+        },
+    )?;
     Ok(number)
 }
 
@@ -119,13 +125,7 @@ fn moved_down(dag: &mut Dag, a: Wire, b: Wire, signed: bool) -> Result<u64, Allo
 }
 
 /// A word moved by the number of another, which has any length; `>>>` repeats the top bit where the word is signed.
-pub fn shifted(
-    dag: &mut Dag,
-    op: Binary,
-    a: Wire,
-    b: Wire,
-    signed: bool,
-) -> Result<u64, AllocError>
+pub fn shifted(dag: &mut Dag, op: Binary, a: Wire, b: Wire, signed: bool) -> Result<u64, AllocError>
     requires left { IsWire dag.old a }
     requires right { IsWire dag.old b }
     requires family { family_of op ≡ family.Shift }
@@ -172,13 +172,7 @@ fn not_less(dag: &mut Dag, a: Wire, b: Wire, signed: bool) -> Result<u64, AllocE
 }
 
 /// How two words of one length compare as integers by their sign.
-pub fn ordered(
-    dag: &mut Dag,
-    op: Binary,
-    a: Wire,
-    b: Wire,
-    signed: bool,
-) -> Result<u64, AllocError>
+pub fn ordered(dag: &mut Dag, op: Binary, a: Wire, b: Wire, signed: bool) -> Result<u64, AllocError>
     requires left { IsWire dag.old a }
     requires right { IsWire dag.old b }
     requires family { family_of op ≡ family.Order }
@@ -245,7 +239,13 @@ fn both(dag: &mut Dag, op: Op, a: u64, b: u64) -> Result<u64, AllocError>
     ensures keeps { Keeps dag.old dag.new }
     ensures makes { IfOk result (λ r. Makes dag.new r 1 (λ e. (op_value op (wire_word e dag.old (record { node = a; width = 1 })) (wire_word e dag.old (record { node = b; width = 1 }))).value)) }
 {
-    let number = two(dag, op, 1, Wire { node: a, width: 1 }, Wire { node: b, width: 1 })?;
+    let number = two(
+        dag,
+        op,
+        1,
+        Wire { node: a, width: 1 },
+        Wire { node: b, width: 1 },
+    )?;
     Ok(number)
 }
 

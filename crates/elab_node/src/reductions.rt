@@ -38,8 +38,14 @@ fn with_bit(dag: &mut Dag, a: Wire, odd: u64, i: u8) -> Result<u64, AllocError>
         dag,
         Op::Xor,
         1,
-        Wire { node: odd, width: 1 },
-        Wire { node: bit, width: 1 },
+        Wire {
+            node: odd,
+            width: 1,
+        },
+        Wire {
+            node: bit,
+            width: 1,
+        },
     )?;
     Ok(number)
 }

@@ -13,4 +13,4 @@ returns-then-signed-clause-makes c =
     let f = c.in_ok-number.ensures.fit in
     subst (λ s. Makes c.two.new.dag c.in_ok-number.number c.args.a.width (λ e. shift_of b.ArithmeticShr c.args.a.width s (number_at e d c.args.a.node) (min (number_at e d c.args.b.node) c.args.a.width))) (sym c.if-signed.true)
     (made_same c.two.new.dag c.in_ok-number.number c.args.a.width _ _ c.in_ok-number.ensures.makes
-        (λ e. ap (λ (w : Bits). w.value) (sar_is (wire_word e d c.args.a) (wire_word e d c.args.b) (wire_fits e d c.args.a f c.requires.left))))
+    (λ e. ap (λ (w : Bits). w.value) (sar_is (wire_word e d c.args.a) (wire_word e d c.args.b) (wire_fits e d c.args.a f c.requires.left))))

@@ -12,4 +12,4 @@ returns-clause-makes c =
     let a = c.args.a in
     made_same c.is_zero.new.dag c.in_ok-number.number 1 _ _ c.in_ok-number.ensures.makes
     (λ e. ap (λ n. bit (nat_eq n 0)) (made_number e c.turned.new.dag c.in_ok-zeros.zeros a.width _ c.in_ok-zeros.ensures.makes)
-        ∙ ap bit (ones_test a.width (number_at e d a.node) (number_fits e d a.node a.width c.length_of-width.ensures.fit c.requires)))
+    ∙ ap bit (ones_test a.width (number_at e d a.node) (number_fits e d a.node a.width c.length_of-width.ensures.fit c.requires)))
