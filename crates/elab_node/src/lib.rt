@@ -10,5 +10,7 @@ mod nodes;
 mod operators;
 mod places;
 mod reductions;
+#[cfg(test)]
+mod tests;
 
 pub use leaves::{Leaf, Leaves};
