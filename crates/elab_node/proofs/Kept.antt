@@ -1,0 +1,118 @@
+-- Nodes and numbers in a dag that grows.
+use Rattle.std.proofs.Common.{◌≡◌, ℕ, zero, suc, ◌+◌, ◌^◌, ◌<◌, ◌≤◌, List, [], ◌∷◌, ◌++◌, length, refl, sym, ap, ◌∙◌, subst, arith}
+use Rattle.std.specs.Prelude.{map, slice_index}
+use Rattle.word_core.specs.Words.{Bits, IsWord}
+use Rattle.word_dag.specs.declared.node.Node.{Node}
+use Rattle.word_dag.specs.Nodes.{FitsNode, FitFrom, width_of, width_at, word_at, Naming, named, dag_values, node_value}
+use Rattle.word_dag.specs.Adding.{Adds, Keeps}
+use Rattle.word_dag.proofs.NodeValues.{width_at-map, length-widths}
+use Rattle.word_dag.proofs.Valued.{values_wide, word_wide}
+use Rattle.word_dag.proofs.Widths.{width-node_value}
+use Rattle.vlog_tree.specs.declared.valuation.Entry.{Entry}
+use Rattle.elab_node.specs.declared.leaves.Leaf.{Leaf}
+use Rattle.elab_node.specs.Leaves.{entry_of, valued, AreReady}
+use Rattle.elab_node.specs.Nodes.{words, number_at, IsNode, IsWire, Makes, wire_word}
+use Rattle.elab_node.specs.declared.nodes.Wire.{Wire}
+use Rattle.elab_node.proofs.Fits.{words_fit}
+
+append_nil : (xs : List Node) → xs ++ [] ≡ xs
+append_nil [] = refl
+append_nil (x ∷ xs) = ap (λ (r : List Node). x ∷ r) (append_nil xs)
+
+append_append : (xs ys zs : List Node) → (xs ++ ys) ++ zs ≡ xs ++ (ys ++ zs)
+append_append [] ys zs = refl
+append_append (x ∷ xs) ys zs = ap (λ (r : List Node). x ∷ r) (append_append xs ys zs)
+
+pub keeps_same : (a : List Node) → Keeps a a
+keeps_same a = record { more = ([], sym (append_nil a)); longer = omega arith; widths = λ i lt. refl; values = λ e i lt. refl }
+
+-- a call that is refused changes nothing
+pub keeps_refused : (a b : List Node) → b ≡ a → Keeps a b
+keeps_refused a b is = subst (λ (k : List Node). Keeps a k) (sym is) (keeps_same a)
+
+pub keeps_then : (a b c : List Node) → Keeps a b → Keeps b c → Keeps a c
+keeps_then a b c h k = record {
+  more = (h.more.0 ++ k.more.0, k.more.1 ∙ ap (λ (r : List Node). r ++ k.more.0) h.more.1 ∙ append_append a h.more.0 k.more.0);
+  longer = omega (arith, h.longer, k.longer);
+  widths = λ i lt. k.widths i (omega (arith, lt, h.longer)) ∙ h.widths i lt;
+  values = λ e i lt. k.values e i (omega (arith, lt, h.longer)) ∙ h.values e i lt;
+}
+
+pub node_kept : (a b : List Node) (i n : ℕ) → Keeps a b → IsNode a i n → IsNode b i n
+node_kept a b i n k h = (omega (arith, h.0, k.longer), k.widths i h.0 ∙ h.1)
+
+pub number_kept : (e : Naming) (a b : List Node) (i n : ℕ) → Keeps a b → IsNode a i n → number_at e b i ≡ number_at e a i
+number_kept e a b i n k h = ap (λ (w : Bits). w.value) (k.values e i h.0)
+
+-- a node's word by its parts
+pub word_is : (e : Naming) (ns : List Node) (i n : ℕ) → FitFrom [] ns → IsNode ns i n → word_at (words e ns) i ≡ record { width = n; value = number_at e ns i }
+word_is e ns i n f h =
+    let w : (word_at (words e ns) i).width ≡ n = word_wide e ns i f ∙ sym (width_at-map ns i) ∙ h.1 in
+    ap (λ k. let b : Bits = record { width = k; value = number_at e ns i } in b) w
+
+pub number_fits : (e : Naming) (ns : List Node) (i n : ℕ) → FitFrom [] ns → IsNode ns i n → number_at e ns i < 2 ^ n
+number_fits e ns i n f h =
+    let w = words_fit e ns i f h.0 in
+    subst (λ (b : Bits). b.value < 2 ^ b.width) (word_is e ns i n f h) w.fits
+
+pub node_long : (ns : List Node) (i n : ℕ) → FitFrom [] ns → IsNode ns i n → (1 ≤ n) × (n ≤ 64)
+node_long ns i n f h =
+    let e : Naming = λ x s c. 0 in
+    let w = subst (λ (b : Bits). IsWord b) (word_is e ns i n f h) (words_fit e ns i f h.0) in
+    (omega (arith, w.some), w.most)
+
+pub wire_fits : (e : Naming) (ns : List Node) (a : Wire) → FitFrom [] ns → IsWire ns a → IsWord (wire_word e ns a)
+wire_fits e ns a f h =
+    let long = node_long ns a.node a.width f h in
+    record { some = omega (arith, long.0); most = long.1; fits = number_fits e ns a.node a.width f h }
+
+-- what a made node is
+pub made_node : (ns : List Node) (i n : ℕ) (f : Naming → ℕ) → Makes ns i n f → IsNode ns i n
+made_node ns i n f m = (m.within, m.wide)
+
+pub made_number : (e : Naming) (ns : List Node) (i n : ℕ) (f : Naming → ℕ) → Makes ns i n f → number_at e ns i ≡ f e
+made_number e ns i n f m = ap (λ (w : Bits). w.value) (m.word e)
+
+pub made_same : (ns : List Node) (i n : ℕ) (f g : Naming → ℕ) → Makes ns i n f → ((e : Naming) → f e ≡ g e) → Makes ns i n g
+made_same ns i n f g m same = record {
+  within = m.within;
+  wide = m.wide;
+  word = λ e. m.word e ∙ ap (λ k. let b : Bits = record { width = n; value = k } in b) (same e);
+}
+
+pub made_kept : (a b : List Node) (i n : ℕ) (f : Naming → ℕ) → Keeps a b → Makes a i n f → Makes b i n f
+made_kept a b i n f k m = record {
+  within = omega (arith, m.within, k.longer);
+  wide = k.widths i m.within ∙ m.wide;
+  word = λ e. k.values e i m.within ∙ m.word e;
+}
+
+-- a node that is there makes its own number
+pub made_here : (ns : List Node) (i n : ℕ) → FitFrom [] ns → IsNode ns i n → Makes ns i n (λ e. number_at e ns i)
+made_here ns i n f h = record { within = h.0; wide = h.1; word = λ e. word_is e ns i n f h }
+
+-- a node that is added
+pub added : (old new : List Node) (m : Node) (i n : ℕ) (f : Naming → ℕ) → FitFrom [] old → FitsNode (map width_of old) m → Adds old new m i → n ≡ width_of m → ((e : Naming) → (node_value (named e m) (words e old) m).value ≡ f e) → Makes new i n f
+added old new m i n f fit fits a wide same = record {
+  within = a.within;
+  wide = a.wide ∙ sym wide;
+  word = λ e.
+      let vs = words e old in
+      let ws = subst (λ (k : List ℕ). FitsNode k m) (sym (values_wide e [] old fit)) fits in
+      let w : (node_value (named e m) vs m).width ≡ n = width-node_value (named e m) vs m ws ∙ sym wide in
+      a.value e ∙ whole (node_value (named e m) vs m) n (f e) w (same e);
+}
+  where
+    whole : (b : Bits) (n x : ℕ) → b.width ≡ n → b.value ≡ x → b ≡ record { width = n; value = x }
+    whole b n x h k = ap (λ j. let r : Bits = record { width = j; value = b.value } in r) h ∙ ap (λ j. let r : Bits = record { width = n; value = j } in r) k
+
+-- the leaves in a dag that grows
+pub ready_kept : (ls : List Leaf) (a b : List Node) → Keeps a b → AreReady ls a → AreReady ls b
+ready_kept [] a b k h = tt
+ready_kept (l ∷ ls) a b k h = (h.0, node_kept a b l.node l.width k h.1, ready_kept ls a b k h.2)
+
+pub valued_kept : (e : Naming) (ls : List Leaf) (a b : List Node) → Keeps a b → AreReady ls a → valued ls (words e b) ≡ valued ls (words e a)
+valued_kept e [] a b k h = refl
+valued_kept e (l ∷ ls) a b k h =
+    ap (λ n. entry_of l n ∷ valued ls (words e b)) (number_kept e a b l.node l.width k h.1)
+    ∙ ap (λ (r : List Entry). entry_of l (number_at e a l.node) ∷ r) (valued_kept e ls a b k h.2)

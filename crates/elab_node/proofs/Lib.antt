@@ -1,0 +1,14 @@
+pub mod Leaving
+pub mod Fits
+pub mod Kept
+pub mod Alike
+pub mod Read
+pub mod Making
+pub mod Parity
+pub mod Joining
+pub mod Moved
+pub mod Codes
+pub mod Positions
+pub mod Shaped
+pub mod Parts
+pub mod Whole

@@ -1,0 +1,16 @@
+use Rattle.std.proofs.Common.{◌≡◌, ◌^◌, ◌/◌, ◌%◌, ◌-◌, ◌≤◌, min, ap, ◌∙◌, arith}
+use Rattle.elab_node.specs.Nodes.{number_at}
+use Rattle.elab_node.proofs.Kept.{made_same, made_number, number_fits}
+use Rattle.elab_node.proofs.Moved.{down_kept}
+use Rattle.elab_node.proofs.bits.lowered.Goals as goal
+
+pub returns-clause-makes : goal.returns-clause-makes
+returns-clause-makes c =
+    let d = c.args.dag.now in
+    let a = c.args.a in
+    let le : c.args.lo ≤ a.width = omega (arith, c.requires.within) in
+    let kept : c.min-kept.result ≡ min c.args.width (a.width - c.args.lo) = omega (arith, c.min-kept.ensures, c.length_of-length.ensures.same) in
+    made_same c.extended.new.dag c.in_ok-number.number c.args.width _ _ c.in_ok-number.ensures.makes
+    (λ e. made_number e c.slice.new.dag c.in_ok-part.part _ _ c.in_ok-part.ensures.makes
+    ∙ ap (λ m. number_at e d a.node / 2 ^ c.args.lo % 2 ^ m) kept
+    ∙ down_kept (number_at e d a.node) a.width c.args.lo c.args.width (number_fits e d a.node a.width c.length_of-length.ensures.fit c.requires.node) le)

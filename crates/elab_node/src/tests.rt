@@ -1,0 +1,53 @@
+// Leaves by name and offset.
+ghost use Rattle.std.specs.Prelude.{◌≡◌, IfOk};
+
+use crate::leaves::{Leaf, Leaves};
+use outside::Text;
+use std::alloc::{AllocError, Global};
+use std::test::Fail;
+
+// A leaf of 4 bits.
+fn leaf(alloc: Global, name: &[u8], offset: u32, node: u64) -> Result<Leaf, AllocError>
+    ensures { IfOk result (λ l. l.width ≡ 4) }
+{
+    Ok(Leaf {
+        name: Text::copy(alloc, name)?,
+        offset,
+        width: 4,
+        low: 0,
+        signed: false,
+        node,
+    })
+}
+
+#[test]
+fn the_first_leaf_of_a_name_and_offset_is_found(rt: HostRuntime) -> Result<(), Fail> {
+    let alloc = rt.alloc();
+    let mut leaves = Leaves::new(alloc);
+    leaves.push(alloc, leaf(alloc, b"a", 0, 5)?)?;
+    leaves.push(alloc, leaf(alloc, b"b", 0, 6)?)?;
+    leaves.push(alloc, leaf(alloc, b"a", 1, 7)?)?;
+    leaves.push(alloc, leaf(alloc, b"a", 0, 8)?)?;
+    assert_eq!(rt; leaves.len(), 4);
+    assert_eq!(rt; leaves.declared().entries().len(), 4);
+    for (name, offset, want) in [
+        (b"a".as_slice(), 0, Some(5)),
+        (b"b".as_slice(), 0, Some(6)),
+        (b"a".as_slice(), 1, Some(7)),
+        (b"b".as_slice(), 1, None),
+        (b"c".as_slice(), 0, None),
+    ] {
+        assert_eq!(rt; leaves.find(name, offset).map(|leaf| leaf.node), want);
+    }
+    Ok(())
+}
+
+#[test]
+fn a_leaf_gets_another_node(rt: HostRuntime) -> Result<(), Fail> {
+    let alloc = rt.alloc();
+    let mut leaves = Leaves::new(alloc);
+    leaves.push(alloc, leaf(alloc, b"a", 0, 5)?)?;
+    leaves.set_node(0, 9);
+    assert_eq!(rt; leaves.leaf(0).node, 9);
+    Ok(())
+}
