@@ -1,5 +1,5 @@
 -- What the reader answers.
-use Rattle.std.proofs.Common.{◌≡◌, ℕ, ◌<◌, ◌≤◌, List, Bool, true, false, cond, length, Result, Ok, Err, refl, sym, ap, subst, ◌∙◌}
+use Rattle.std.proofs.Common.{◌≡◌, ℕ, ◌<◌, ◌≤◌, List, Bool, true, false, cond, length, Result, Ok, Err, refl, sym, ap, subst, ◌∙◌, arith}
 use Rattle.std.specs.Prelude.{if◌then◌else◌, not, IfOk, IfErr}
 use Rattle.vlog_tree.specs.declared.token.Token.{Token}
 use Rattle.vlog_lex.specs.declared.error.ReadFault.{ReadFault}
@@ -14,7 +14,9 @@ use Rattle.set_tree.specs.Spelling.{SpellsSet}
 use Rattle.set_lookup.specs.declared.wrong.Wrong.{Wrong}
 use Rattle.set_lookup.specs.declared.wrong.Wrong.TheVariants as wrong
 use Rattle.set_lookup.specs.Faults.{Stands}
+use Rattle.set_read.specs.Answers.{IsLong}
 use Rattle.set_read.specs.Heights.{set_height}
+use Rattle.set_read.specs.Parts.{DeniesSets}
 use Rattle.set_read.specs.declared.fault.SetFault.{SetFault}
 use Rattle.set_read.specs.declared.fault.SetFault.TheVariants as f
 use Rattle.set_read.specs.declared.fault.TextFault.{TextFault}
@@ -57,10 +59,10 @@ tokens_refuse bs ts l f.Memory h = tt
 tokens_refuse bs ts l (f.Bytes at) h = absurd h
 tokens_refuse bs ts l (f.Number at) h = absurd h
 
-pub text_refuses : (ts : List Token) (fault : TextFault) → RefusesTokens ts (of_text fault)
-text_refuses ts (text.Syntax at) = tt
-text_refuses ts text.Deep = tt
-text_refuses ts text.Memory = tt
+pub text_refuses : (ts : List Token) (fault : TextFault) → DeniesSets ts fault → IsLong ts 2 fault → RefusesTokens ts (of_text fault)
+text_refuses ts (text.Syntax at) denies long = denies
+text_refuses ts text.Deep denies long = record { higher = denies; more = omega (arith, long refl) }
+text_refuses ts text.Memory denies long = tt
 
 pub tokens_ok : (bs : List ℕ) (ts : List Token) → Lexes true bs ts → (r : Result Set SetFault) → IfOk r (SpellsTokens ts) → IfOk r (Spells bs)
 tokens_ok bs ts l (Ok s) h = (ts, l, h)

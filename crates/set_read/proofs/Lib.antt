@@ -2,3 +2,6 @@ pub mod PlainNumbers
 pub mod Sequences
 pub mod SmallNumbers
 pub mod Answers
+pub mod Steps
+pub mod PartSteps
+pub mod PropertySteps

@@ -7,6 +7,7 @@ use Rattle.set_tree.specs.declared.text.LengthText.{LengthText}
 use Rattle.set_tree.specs.declared.text.PropertyText.{PropertyText}
 use Rattle.set_tree.specs.declared.text.RuleText.{RuleText}
 use Rattle.set_tree.specs.declared.text.SetText.{SetText}
+use Rattle.set_tree.specs.declared.text.Until.{Until}
 
 abbrev pub declaration_height : Declaration → ℕ
 declaration_height x = highest_of height x.domain + 1
@@ -14,8 +15,11 @@ declaration_height x = highest_of height x.domain + 1
 abbrev pub rule_height : RuleText → ℕ
 rule_height x = height x.formula + 1
 
+abbrev pub until_height : Until → ℕ
+until_height x = height x.condition
+
 abbrev pub length_height : LengthText → ℕ
-length_height x = highest_of (λ u. height u.condition) x.until
+length_height x = highest_of until_height x.until
 
 abbrev pub property_height : PropertyText → ℕ
 property_height x = max (length_height x.length) (max (highest height x.assume) (max (highest height x.commit) (highest height x.hand))) + 1

@@ -1,2 +1,4 @@
+pub mod Answers
 pub mod Heights
+pub mod Parts
 pub mod Read

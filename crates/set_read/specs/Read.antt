@@ -1,5 +1,5 @@
 -- Which sets a text spells, and why a text is refused.
-use Rattle.std.specs.Prelude.{ℕ, ◌<◌, ◌≤◌, ◌≡◌, ◌^◌, Some, true, List}
+use Rattle.std.specs.Prelude.{ℕ, ◌<◌, ◌≤◌, ◌≡◌, ◌^◌, Some, true, List, length}
 use Rattle.vlog_tree.specs.declared.token.Kind.TheVariants as k
 use Rattle.vlog_tree.specs.declared.token.Number.{Number}
 use Rattle.vlog_tree.specs.declared.token.Token.{Token}
@@ -36,7 +36,12 @@ pub record SpellsTokens (ts : List Token) (set : Set) : Type 0 where
 abbrev pub Spells : List ℕ → Set → Type 0
 Spells bytes set = (ts : List Token) × Lexes true bytes ts × SpellsTokens ts set
 
--- why tokens are refused: they spell a text that has something against it
+-- there are more than 500 tokens, and each text of a set that they spell is higher than 500
+pub record IsTooHigh (ts : List Token) : Type 0 where
+  pub higher : (t : SetText) → SpellsSet ts t → 500 < set_height t
+  pub more : 500 < length ts
+
+-- why tokens are refused: they spell no text of a set, or one that is too high, or one that has something against it
 abbrev pub SpellsWith : (SetText → Type 0) → List Token → Type 0
 SpellsWith P ts = (t : SetText) × SpellsSet ts t × (set_height t ≤ 500) × P t
 
@@ -44,8 +49,8 @@ abbrev pub RefusesTokens : List Token → SetFault → Type 0
 RefusesTokens ts (f.Unknown n) = SpellsWith (λ t. StandsUnknown t n) ts
 RefusesTokens ts (f.Twice n) = SpellsWith (λ t. StandsTwice t n) ts
 RefusesTokens ts (f.Limit quantity) = SpellsWith (λ t. StandsLimit t quantity) ts
-RefusesTokens ts (f.Syntax at) = Unit {0}
-RefusesTokens ts f.Deep = Unit {0}
+RefusesTokens ts (f.Syntax at) = (t : SetText) → SpellsSet ts t → ⊥
+RefusesTokens ts f.Deep = IsTooHigh ts
 RefusesTokens ts f.Memory = Unit {0}
 RefusesTokens ts (f.Bytes at) = ⊥
 RefusesTokens ts (f.Number at) = ⊥

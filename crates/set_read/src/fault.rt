@@ -24,7 +24,7 @@ pub enum SetFault {
     Twice(Text),
     /// A quantity leaves its bounds.
     Limit(Quantity),
-    /// A formula is higher than 500.
+    /// The set is higher than 500: a formula is higher than 498. It can come in place of `Syntax` for more than 500 tokens.
     Deep,
     /// Want of memory.
     Memory,

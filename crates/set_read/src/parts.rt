@@ -1,9 +1,10 @@
 // Declarations, rules and the clauses of a property.
-ghost use Rattle.std.specs.Prelude.{◌≡◌, ◌+◌, ◌≤◌, IfOk, IfSome, codes, true};
+ghost use Rattle.std.specs.Prelude.{◌≡◌, ◌+◌, ◌<◌, ◌≤◌, IfErr, IfNone, IfOk, IfSome, codes, true};
 ghost use Rattle.vlog_tree.specs.Lists.{Maybe, Sequence, highest, highest_of};
 ghost use Rattle.vlog_tree.specs.Signs.{IsWord};
 ghost use Rattle.vlog_tree.specs.Spelling.{Spells, height};
-ghost use Rattle.set_read.specs.Heights.{declaration_height, rule_height, length_height};
+ghost use Rattle.set_read.specs.Answers.{Always, Answers, Ended, IsLong, IsSyntax, Lacks, NoRole, NoRule, NoSign, NoWord, Semicolon, flat};
+ghost use Rattle.set_read.specs.Heights.{declaration_height, rule_height, length_height, until_height};
 ghost use Rattle.set_tree.specs.Spelling.{
   Clause,
   IsDigits,
@@ -30,13 +31,15 @@ use set_tree::{
 };
 use sqlite_items::Items;
 use std::alloc::Global;
-use vlog_read_expr::{is_sign, is_word};
+use vlog_read_expr::{after, is_sign, is_word};
 use vlog_tree::{Expr, Token};
 
 /// `signed`, where it stands.
 #[tactic(auto, using(vlog_spell::proofs::Tokens::kind_within))]
 fn signed(tokens: &[Token], at: usize) -> (bool, usize)
-    ensures { SpellsSigned tokens.now at result.0 result.1 }
+    ensures spelt { SpellsSigned tokens.now at result.0 result.1 }
+    ensures past { at ≤ result.1 }
+    ensures only { Ended (SpellsSigned tokens.now) at result.1 }
 {
     if is_word(tokens, at, b"signed") {
         (true, at + 1)
@@ -47,7 +50,9 @@ fn signed(tokens: &[Token], at: usize) -> (bool, usize)
 
 /// `[high:low]`
 fn bits(tokens: &[Token], at: usize) -> Result<(Bits, usize), TextFault>
-    ensures { IfOk result (λ read. SpellsBits tokens.now at read.0 read.1) }
+    ensures spelt { IfOk result (λ read. SpellsBits tokens.now at read.0 read.1) }
+    ensures none { IfErr result (λ fault. Lacks (SpellsBits tokens.now) at) }
+    ensures plain { IfErr result IsSyntax }
 {
     let end = sign(tokens, at, b"[")?;
     let (high, end) = digits(tokens, end)?;
@@ -59,7 +64,10 @@ fn bits(tokens: &[Token], at: usize) -> Result<(Bits, usize), TextFault>
 
 /// A range, where one stands.
 fn maybe_bits(tokens: &[Token], at: usize) -> Result<(Option<Bits>, usize), TextFault>
-    ensures { IfOk result (λ read. Maybe (SpellsBits tokens.now) at read.0 read.1) }
+    ensures spelt { IfOk result (λ read. Maybe (SpellsBits tokens.now) at read.0 read.1) }
+    ensures only { Answers (Maybe (SpellsBits tokens.now)) (NoSign (codes "[") tokens.now) flat 0 at result }
+    ensures plain { IfErr result IsSyntax }
+    ensures past { IfOk result (λ read. at ≤ read.1) }
 {
     if is_sign(tokens, at, b"[") {
         let (bits, end) = bits(tokens, at)?;
@@ -70,7 +78,8 @@ fn maybe_bits(tokens: &[Token], at: usize) -> Result<(Option<Bits>, usize), Text
 }
 
 fn role_at(tokens: &[Token], at: usize) -> Option<Role>
-    ensures { IfSome result (λ role. IsWord tokens.now at (role_word role)) }
+    ensures some { IfSome result (λ role. IsWord tokens.now at (role_word role)) }
+    ensures none { IfNone result (NoRole tokens.now at) }
 {
     if is_word(tokens, at, b"input") {
         Some(Role::Input)
@@ -92,6 +101,9 @@ fn domain(
 ) -> Result<(Option<Expr>, usize), TextFault>
     ensures spelt { IfOk result (λ read. SpellsDomainOf tokens.now role at read.0 read.1) }
     ensures low { IfOk result (λ read. highest_of height read.0 ≤ 498) }
+    ensures past { IfOk result (λ read. at ≤ read.1) }
+    ensures only { Answers (SpellsDomainOf tokens.now role) (Semicolon tokens.now) (highest_of height) 498 at result }
+    ensures long { IfErr result (IsLong tokens.now at) }
 {
     match role {
         Role::Output => maybe_domain(alloc, tokens, at),
@@ -106,13 +118,15 @@ fn maybe_domain(
 ) -> Result<(Option<Expr>, usize), TextFault>
     ensures spelt { IfOk result (λ read. Maybe (SpellsDomain tokens.now) at read.0 read.1) }
     ensures low { IfOk result (λ read. highest_of height read.0 ≤ 498) }
+    ensures past { IfOk result (λ read. at ≤ read.1) }
+    ensures only { Answers (Maybe (SpellsDomain tokens.now)) (Semicolon tokens.now) (highest_of height) 498 at result }
+    ensures long { IfErr result (IsLong tokens.now at) }
 {
-    match word(tokens, at, b"when") {
-        Ok(end) => {
-            let (domain, end) = formula(alloc, tokens, end)?;
-            Ok((Some(domain), end))
-        }
-        Err(_) => Ok((None, at)),
+    if is_word(tokens, at, b"when") {
+        let (domain, end) = formula(alloc, tokens, after(tokens, at))?;
+        Ok((Some(domain), end))
+    } else {
+        Ok((None, at))
     }
 }
 
@@ -125,6 +139,9 @@ fn declaration(
     requires { IsWord tokens.now at (role_word role) }
     ensures spelt { IfOk result (λ read. SpellsDeclaration tokens.now at read.0 read.1) }
     ensures low { IfOk result (λ read. declaration_height read.0 ≤ 499) }
+    ensures past { IfOk result (λ read. at < read.1) }
+    ensures only { Answers (SpellsDeclaration tokens.now) Always declaration_height 499 at result }
+    ensures long { IfErr result (IsLong tokens.now at) }
 {
     if at >= tokens.len() {
         return Err(syntax(tokens, at));
@@ -155,13 +172,13 @@ pub fn declarations(
 ) -> Result<(Rows<Declaration>, usize), TextFault>
     ensures spelt { IfOk result (λ read. Sequence (SpellsDeclaration tokens.now) at read.0 read.1) }
     ensures low { IfOk result (λ read. highest declaration_height read.0 ≤ 499) }
+    ensures past { IfOk result (λ read. at ≤ read.1) }
+    ensures only { Answers (Sequence (SpellsDeclaration tokens.now)) (NoRole tokens.now) (highest declaration_height) 499 at result }
+    ensures long { IfErr result (IsLong tokens.now at) }
 {
     let mut list = Rows::new(alloc);
     let mut end = at;
-    for _turn in at..tokens.len() {
-        let Some(role) = role_at(tokens, end) else {
-            break;
-        };
+    while let Some(role) = role_at(tokens, end) {
         let (more, next) = declaration(alloc, tokens, end, role)?;
         list.push(more)?;
         end = next;
@@ -170,7 +187,8 @@ pub fn declarations(
 }
 
 fn kind_of_rule(tokens: &[Token], at: usize) -> Option<RuleKind>
-    ensures { IfSome result (λ kind. IsWord tokens.now at (rule_word kind)) }
+    ensures some { IfSome result (λ kind. IsWord tokens.now at (rule_word kind)) }
+    ensures none { IfNone result (NoRule tokens.now at) }
 {
     if is_word(tokens, at, b"constraint") {
         Some(RuleKind::Constraint)
@@ -190,6 +208,9 @@ fn rule(
     requires { IsWord tokens.now at (rule_word kind) }
     ensures spelt { IfOk result (λ read. SpellsRule tokens.now at read.0 read.1) }
     ensures low { IfOk result (λ read. rule_height read.0 ≤ 499) }
+    ensures past { IfOk result (λ read. at < read.1) }
+    ensures only { Answers (SpellsRule tokens.now) Always rule_height 499 at result }
+    ensures long { IfErr result (IsLong tokens.now at) }
 {
     if at >= tokens.len() {
         return Err(syntax(tokens, at));
@@ -217,13 +238,13 @@ pub fn rules(
 ) -> Result<(Rows<RuleText>, usize), TextFault>
     ensures spelt { IfOk result (λ read. Sequence (SpellsRule tokens.now) at read.0 read.1) }
     ensures low { IfOk result (λ read. highest rule_height read.0 ≤ 499) }
+    ensures past { IfOk result (λ read. at ≤ read.1) }
+    ensures only { Answers (Sequence (SpellsRule tokens.now)) (NoRule tokens.now) (highest rule_height) 499 at result }
+    ensures long { IfErr result (IsLong tokens.now at) }
 {
     let mut list = Rows::new(alloc);
     let mut end = at;
-    for _turn in at..tokens.len() {
-        let Some(kind) = kind_of_rule(tokens, end) else {
-            break;
-        };
+    while let Some(kind) = kind_of_rule(tokens, end) {
         let (more, next) = rule(alloc, tokens, end, kind)?;
         list.push(more)?;
         end = next;
@@ -233,7 +254,10 @@ pub fn rules(
 
 fn until(alloc: Global, tokens: &[Token], at: usize) -> Result<(Until, usize), TextFault>
     ensures spelt { IfOk result (λ read. SpellsUntil tokens.now at read.0 read.1) }
-    ensures low { IfOk result (λ read. height read.0.condition ≤ 498) }
+    ensures low { IfOk result (λ read. until_height read.0 ≤ 498) }
+    ensures past { IfOk result (λ read. at ≤ read.1) }
+    ensures only { Answers (SpellsUntil tokens.now) (Semicolon tokens.now) until_height 498 at result }
+    ensures long { IfErr result (IsLong tokens.now at) }
 {
     let end = word(tokens, at, b"to")?;
     let (high, end) = digits(tokens, end)?;
@@ -248,7 +272,10 @@ fn maybe_until(
     at: usize,
 ) -> Result<(Option<Until>, usize), TextFault>
     ensures spelt { IfOk result (λ read. Maybe (SpellsUntil tokens.now) at read.0 read.1) }
-    ensures low { IfOk result (λ read. highest_of (λ u. height u.condition) read.0 ≤ 498) }
+    ensures low { IfOk result (λ read. highest_of until_height read.0 ≤ 498) }
+    ensures past { IfOk result (λ read. at ≤ read.1) }
+    ensures only { Answers (Maybe (SpellsUntil tokens.now)) (Semicolon tokens.now) (highest_of until_height) 498 at result }
+    ensures long { IfErr result (IsLong tokens.now at) }
 {
     if is_word(tokens, at, b"to") {
         let (until, end) = until(alloc, tokens, at)?;
@@ -262,6 +289,9 @@ fn maybe_until(
 pub fn length(alloc: Global, tokens: &[Token], at: usize) -> Result<(LengthText, usize), TextFault>
     ensures spelt { IfOk result (λ read. Clause tokens.now (codes "length") (SpellsLength tokens.now) at read.0 read.1) }
     ensures low { IfOk result (λ read. length_height read.0 ≤ 498) }
+    ensures past { IfOk result (λ read. at ≤ read.1) }
+    ensures only { Answers (Clause tokens.now (codes "length") (SpellsLength tokens.now)) Always length_height 498 at result }
+    ensures long { IfErr result (IsLong tokens.now at) }
 {
     let end = word(tokens, at, b"length")?;
     let (low, end) = digits(tokens, end)?;
@@ -271,7 +301,9 @@ pub fn length(alloc: Global, tokens: &[Token], at: usize) -> Result<(LengthText,
 }
 
 fn some_window(tokens: &[Token], at: usize) -> Result<(u64, usize), TextFault>
-    ensures { IfOk result (λ read. Clause tokens.now (codes "window") (IsDigits tokens.now) at read.0 read.1) }
+    ensures spelt { IfOk result (λ read. Clause tokens.now (codes "window") (IsDigits tokens.now) at read.0 read.1) }
+    ensures none { IfErr result (λ fault. Lacks (Clause tokens.now (codes "window") (IsDigits tokens.now)) at) }
+    ensures plain { IfErr result IsSyntax }
 {
     let end = word(tokens, at, b"window")?;
     let (window, end) = digits(tokens, end)?;
@@ -281,7 +313,10 @@ fn some_window(tokens: &[Token], at: usize) -> Result<(u64, usize), TextFault>
 
 /// `window ..;`, where it stands.
 pub fn window(tokens: &[Token], at: usize) -> Result<(Option<u64>, usize), TextFault>
-    ensures { IfOk result (λ read. Maybe (Clause tokens.now (codes "window") (IsDigits tokens.now)) at read.0 read.1) }
+    ensures spelt { IfOk result (λ read. Maybe (Clause tokens.now (codes "window") (IsDigits tokens.now)) at read.0 read.1) }
+    ensures only { Answers (Maybe (Clause tokens.now (codes "window") (IsDigits tokens.now))) (NoWord (codes "window") tokens.now) flat 0 at result }
+    ensures plain { IfErr result IsSyntax }
+    ensures past { IfOk result (λ read. at ≤ read.1) }
 {
     if is_word(tokens, at, b"window") {
         let (window, end) = some_window(tokens, at)?;
@@ -289,6 +324,25 @@ pub fn window(tokens: &[Token], at: usize) -> Result<(Option<u64>, usize), TextF
     } else {
         Ok((None, at))
     }
+}
+
+/// A word, a formula and a semicolon.
+fn clause(
+    alloc: Global,
+    tokens: &[Token],
+    at: usize,
+    keyword: &[u8],
+) -> Result<(Expr, usize), TextFault>
+    ensures spelt { IfOk result (λ read. Clause tokens.now keyword.now (Spells true tokens.now) at read.0 read.1) }
+    ensures low { IfOk result (λ read. height read.0 ≤ 498) }
+    ensures past { IfOk result (λ read. at < read.1) }
+    ensures only { Answers (Clause tokens.now keyword.now (Spells true tokens.now)) Always height 498 at result }
+    ensures long { IfErr result (IsLong tokens.now at) }
+{
+    let end = word(tokens, at, keyword)?;
+    let (tree, end) = formula(alloc, tokens, end)?;
+    let end = sign(tokens, end, b";")?;
+    Ok((tree, end))
 }
 
 /// The clauses of a word with one formula each, from a place on.
@@ -301,16 +355,16 @@ pub fn clauses(
 ) -> Result<(Items<Expr>, usize), TextFault>
     ensures spelt { IfOk result (λ read. Sequence (Clause tokens.now keyword.now (Spells true tokens.now)) at read.0 read.1) }
     ensures low { IfOk result (λ read. highest height read.0 ≤ 498) }
+    ensures past { IfOk result (λ read. at ≤ read.1) }
+    ensures only { Answers (Sequence (Clause tokens.now keyword.now (Spells true tokens.now))) (NoWord keyword.now tokens.now) (highest height) 498 at result }
+    ensures long { IfErr result (IsLong tokens.now at) }
 {
     let mut list = Items::new(alloc);
     let mut end = at;
-    for _turn in at..tokens.len() {
-        let Ok(next) = word(tokens, end, keyword) else {
-            break;
-        };
-        let (more, next) = formula(alloc, tokens, next)?;
-        end = sign(tokens, next, b";")?;
+    while is_word(tokens, end, keyword) {
+        let (more, next) = clause(alloc, tokens, end, keyword)?;
         list.push(more)?;
+        end = next;
     }
     Ok((list, end))
 }
@@ -319,20 +373,25 @@ pub fn clauses(
 pub fn hand(alloc: Global, tokens: &[Token], at: usize) -> Result<(Items<Expr>, usize), TextFault>
     ensures spelt { IfOk result (λ read. SpellsHand tokens.now at read.0 read.1) }
     ensures low { IfOk result (λ read. highest height read.0 ≤ 498) }
+    ensures past { IfOk result (λ read. at ≤ read.1) }
+    ensures only { Answers (SpellsHand tokens.now) (NoWord (codes "hand") tokens.now) (highest height) 498 at result }
+    ensures long { IfErr result (IsLong tokens.now at) }
 {
-    match word(tokens, at, b"hand") {
-        Ok(end) => {
-            let (list, end) = formulas(alloc, tokens, end)?;
-            let end = sign(tokens, end, b";")?;
-            Ok((list, end))
-        }
-        Err(_) => Ok((Items::new(alloc), at)),
+    if is_word(tokens, at, b"hand") {
+        let (list, end) = formulas(alloc, tokens, after(tokens, at))?;
+        let end = sign(tokens, end, b";")?;
+        Ok((list, end))
+    } else {
+        Ok((Items::new(alloc), at))
     }
 }
 
 /// `+ distance`, or 0 where none stands.
 fn distance(tokens: &[Token], at: usize) -> Result<(u64, usize), TextFault>
-    ensures { IfOk result (λ read. SpellsDistance tokens.now at read.0 read.1) }
+    ensures spelt { IfOk result (λ read. SpellsDistance tokens.now at read.0 read.1) }
+    ensures only { Answers (SpellsDistance tokens.now) (Semicolon tokens.now) flat 0 at result }
+    ensures plain { IfErr result IsSyntax }
+    ensures past { IfOk result (λ read. at ≤ read.1) }
 {
     match sign(tokens, at, b"+") {
         Ok(end) => digits(tokens, end),
@@ -341,22 +400,25 @@ fn distance(tokens: &[Token], at: usize) -> Result<(u64, usize), TextFault>
 }
 
 fn end_text(tokens: &[Token], at: usize) -> Result<(EndText, usize), TextFault>
-    ensures { IfOk result (λ read. SpellsEnd tokens.now at read.0 read.1) }
+    ensures spelt { IfOk result (λ read. SpellsEnd tokens.now at read.0 read.1) }
+    ensures only { Answers (SpellsEnd tokens.now) (Semicolon tokens.now) flat 0 at result }
+    ensures plain { IfErr result IsSyntax }
+    ensures past { IfOk result (λ read. at ≤ read.1) }
 {
-    match word(tokens, at, b"end") {
-        Ok(end) => {
-            let (distance, end) = distance(tokens, end)?;
-            Ok((EndText::AfterEnd(distance), end))
-        }
-        Err(_) => {
-            let (offset, end) = digits(tokens, at)?;
-            Ok((EndText::At(offset), end))
-        }
+    if is_word(tokens, at, b"end") {
+        let (distance, end) = distance(tokens, after(tokens, at))?;
+        Ok((EndText::AfterEnd(distance), end))
+    } else {
+        let (offset, end) = digits(tokens, at)?;
+        Ok((EndText::At(offset), end))
     }
 }
 
 fn cover(alloc: Global, tokens: &[Token], at: usize) -> Result<(CoverText, usize), TextFault>
-    ensures { IfOk result (λ read. SpellsCover tokens.now at read.0 read.1) }
+    ensures spelt { IfOk result (λ read. SpellsCover tokens.now at read.0 read.1) }
+    ensures past { IfOk result (λ read. at < read.1) }
+    ensures only { Answers (SpellsCover tokens.now) Always flat 0 at result }
+    ensures long { IfErr result (IsLong tokens.now at) }
 {
     let end = word(tokens, at, b"cover")?;
     let (output, end) = path(alloc, tokens, end)?;
@@ -375,14 +437,14 @@ pub fn covers(
     tokens: &[Token],
     at: usize,
 ) -> Result<(Items<CoverText>, usize), TextFault>
-    ensures { IfOk result (λ read. Sequence (SpellsCover tokens.now) at read.0 read.1) }
+    ensures spelt { IfOk result (λ read. Sequence (SpellsCover tokens.now) at read.0 read.1) }
+    ensures past { IfOk result (λ read. at ≤ read.1) }
+    ensures only { Answers (Sequence (SpellsCover tokens.now)) (NoWord (codes "cover") tokens.now) flat 0 at result }
+    ensures long { IfErr result (IsLong tokens.now at) }
 {
     let mut list = Items::new(alloc);
     let mut end = at;
-    for _turn in at..tokens.len() {
-        if !is_word(tokens, end, b"cover") {
-            break;
-        }
+    while is_word(tokens, end, b"cover") {
         let (more, next) = cover(alloc, tokens, end)?;
         list.push(more)?;
         end = next;

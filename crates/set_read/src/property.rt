@@ -1,9 +1,11 @@
 // Properties and whole sets.
-ghost use Rattle.std.specs.Prelude.{◌≡◌, ◌+◌, ◌≤◌, IfOk, codes, true};
+ghost use Rattle.std.specs.Prelude.{◌≡◌, ◌+◌, ◌<◌, ◌≤◌, IfErr, IfOk, codes, true};
 ghost use Rattle.vlog_tree.specs.Lists.{Sequence, highest};
 ghost use Rattle.vlog_tree.specs.Signs.{IsWord};
 ghost use Rattle.vlog_tree.specs.Spelling.{IsNamed, height};
+ghost use Rattle.set_read.specs.Answers.{Always, Answers, IsFlat, IsLong, IsSyntax, IsTail, Lacks, NoWord, flat};
 ghost use Rattle.set_read.specs.Heights.{length_height, property_height, set_height};
+ghost use Rattle.set_read.specs.Parts.{DeniesSets, SpellsConditionsOf, SpellsHeadOf, SpellsLevel, SpellsOperationHead, SpellsResetHead, SpellsTailOf, conditions_height, tail_height};
 ghost use Rattle.set_tree.specs.Spelling.{SpellsConditions, SpellsHead, SpellsNamed, SpellsOperation, SpellsProperty, SpellsReset, SpellsSet, SpellsTail, level_word};
 
 use crate::fault::TextFault;
@@ -27,7 +29,10 @@ struct Tail {
 /// From the hand-over to the closing brace.
 fn read_tail(alloc: Global, tokens: &[Token], at: usize) -> Result<(Tail, usize), TextFault>
     ensures spelt { IfOk result (λ read. SpellsTail tokens.now at read.0.hand read.0.covers read.0.next read.1) }
-    ensures low { IfOk result (λ read. highest height read.0.hand ≤ 498) }
+    ensures low { IfOk result (λ read. tail_height read.0 ≤ 498) }
+    ensures past { IfOk result (λ read. at ≤ read.1) }
+    ensures only { Answers (SpellsTailOf tokens.now) Always tail_height 498 at result }
+    ensures long { IfErr result (IsLong tokens.now at) }
 {
     let (hand, end) = hand(alloc, tokens, at)?;
     let (covers, end) = covers(alloc, tokens, end)?;
@@ -57,6 +62,9 @@ fn read_conditions(
     ensures length { IfOk result (λ read. length_height read.0.length ≤ 498) }
     ensures assume { IfOk result (λ read. highest height read.0.assume ≤ 498) }
     ensures commit { IfOk result (λ read. highest height read.0.commit ≤ 498) }
+    ensures past { IfOk result (λ read. at ≤ read.1) }
+    ensures only { Answers (SpellsConditionsOf tokens.now) (IsTail tokens.now) conditions_height 498 at result }
+    ensures long { IfErr result (IsLong tokens.now at) }
 {
     let (length, end) = length(alloc, tokens, at)?;
     let (window, end) = window(tokens, end)?;
@@ -83,6 +91,9 @@ fn property(
     ensures spelt { IfOk result (λ read. SpellsProperty tokens.now at read.0 read.1) }
     ensures low { IfOk result (λ read. property_height read.0 ≤ 499) }
     ensures name { IfOk result (λ read. read.0.name ≡ name) }
+    ensures past { IfOk result (λ read. at < read.1) }
+    ensures only { Answers (SpellsProperty tokens.now) Always property_height 499 at result }
+    ensures long { IfErr result (IsLong tokens.now at) }
 {
     let end = sign(tokens, at, b"{")?;
     let (conditions, end) = read_conditions(alloc, tokens, end)?;
@@ -107,6 +118,8 @@ fn reset_head(tokens: &[Token], at: usize) -> Result<usize, TextFault>
     ensures property { IfOk result (λ end. IsWord tokens.now at (codes "property")) }
     ensures reset { IfOk result (λ end. IsWord tokens.now (at + 1) (codes "reset")) }
     ensures end { IfOk result (λ end. end ≡ at + 2) }
+    ensures none { IfErr result (λ fault. SpellsResetHead tokens.now at → ⊥) }
+    ensures plain { IfErr result IsSyntax }
 {
     let end = word(tokens, at, b"property")?;
     let end = word(tokens, end, b"reset")?;
@@ -121,6 +134,9 @@ fn reset_property(
 ) -> Result<(PropertyText, usize), TextFault>
     ensures spelt { IfOk result (λ read. SpellsReset tokens.now at read.0 read.1) }
     ensures low { IfOk result (λ read. property_height read.0 ≤ 499) }
+    ensures past { IfOk result (λ read. at < read.1) }
+    ensures only { Answers (SpellsReset tokens.now) Always property_height 499 at result }
+    ensures long { IfErr result (IsLong tokens.now at) }
 {
     let end = reset_head(tokens, at)?;
     let name = Text::copy(alloc, b"reset")?;
@@ -139,6 +155,8 @@ fn operation_head(alloc: Global, tokens: &[Token], at: usize) -> Result<(Text, u
     ensures word { IfOk result (λ read. IsWord tokens.now at (codes "operation")) }
     ensures name { IfOk result (λ read. IsNamed true tokens.now (at + 1) read.0 (at + 2)) }
     ensures end { IfOk result (λ read. read.1 ≡ at + 2) }
+    ensures only { Answers (SpellsOperationHead tokens.now) Always flat 0 at result }
+    ensures long { IfErr result (IsLong tokens.now at) }
 {
     let end = word(tokens, at, b"operation")?;
     let (name, end) = name(alloc, tokens, end)?;
@@ -148,6 +166,9 @@ fn operation_head(alloc: Global, tokens: &[Token], at: usize) -> Result<(Text, u
 fn operation(alloc: Global, tokens: &[Token], at: usize) -> Result<(PropertyText, usize), TextFault>
     ensures spelt { IfOk result (λ read. SpellsOperation tokens.now at read.0 read.1) }
     ensures low { IfOk result (λ read. property_height read.0 ≤ 499) }
+    ensures past { IfOk result (λ read. at < read.1) }
+    ensures only { Answers (SpellsOperation tokens.now) Always property_height 499 at result }
+    ensures long { IfErr result (IsLong tokens.now at) }
 {
     let (name, end) = operation_head(alloc, tokens, at)?;
     let (property, end) = property(alloc, tokens, end, name)?;
@@ -163,13 +184,12 @@ fn operations(
 ) -> Result<(Rows<PropertyText>, usize), TextFault>
     ensures spelt { IfOk result (λ read. Sequence (SpellsOperation tokens.now) at read.0 read.1) }
     ensures low { IfOk result (λ read. highest property_height read.0 ≤ 499) }
+    ensures only { Answers (Sequence (SpellsOperation tokens.now)) (NoWord (codes "operation") tokens.now) (highest property_height) 499 at result }
+    ensures long { IfErr result (IsLong tokens.now at) }
 {
     let mut list = Rows::new(alloc);
     let mut end = at;
-    for _turn in at..tokens.len() {
-        if !is_word(tokens, end, b"operation") {
-            break;
-        }
+    while is_word(tokens, end, b"operation") {
         let (more, next) = operation(alloc, tokens, end)?;
         list.push(more)?;
         end = next;
@@ -194,7 +214,9 @@ fn named(
     at: usize,
     keyword: &[u8],
 ) -> Result<(Text, usize), TextFault>
-    ensures { IfOk result (λ read. SpellsNamed tokens.now keyword.now at read.0 read.1) }
+    ensures spelt { IfOk result (λ read. SpellsNamed tokens.now keyword.now at read.0 read.1) }
+    ensures only { Answers (SpellsNamed tokens.now keyword.now) Always flat 0 at result }
+    ensures plain { IfErr result IsFlat }
 {
     let end = word(tokens, at, keyword)?;
     let (name, end) = name(alloc, tokens, end)?;
@@ -204,7 +226,9 @@ fn named(
 
 /// `high` or `low`.
 fn level(tokens: &[Token], at: usize) -> Result<(bool, usize), TextFault>
-    ensures { IfOk result (λ read. IsWord tokens.now at (level_word read.0) × (read.1 ≡ at + 1)) }
+    ensures spelt { IfOk result (λ read. SpellsLevel tokens.now at read.0 read.1) }
+    ensures none { IfErr result (λ fault. Lacks (SpellsLevel tokens.now) at) }
+    ensures plain { IfErr result IsSyntax }
 {
     match word(tokens, at, b"high") {
         Ok(end) => Ok((true, end)),
@@ -216,7 +240,9 @@ fn level(tokens: &[Token], at: usize) -> Result<(bool, usize), TextFault>
 }
 
 fn read_head(alloc: Global, tokens: &[Token]) -> Result<(SetHead, usize), TextFault>
-    ensures { IfOk result (λ read. SpellsHead tokens.now 0 read.0.block read.0.clock read.0.reset read.0.high read.0.cycles read.1) }
+    ensures spelt { IfOk result (λ read. SpellsHead tokens.now 0 read.0.block read.0.clock read.0.reset read.0.high read.0.cycles read.1) }
+    ensures only { Answers (SpellsHeadOf tokens.now) Always flat 0 0 result }
+    ensures plain { IfErr result IsFlat }
 {
     let (block, end) = named(alloc, tokens, 0, b"block")?;
     let (clock, end) = named(alloc, tokens, end, b"clock")?;
@@ -241,6 +267,8 @@ fn read_head(alloc: Global, tokens: &[Token]) -> Result<(SetHead, usize), TextFa
 pub fn set_text(alloc: Global, tokens: &[Token]) -> Result<SetText, TextFault>
     ensures spelt { IfOk result (λ text. SpellsSet tokens.now text) }
     ensures low { IfOk result (λ text. set_height text ≤ 500) }
+    ensures only { IfErr result (DeniesSets tokens.now) }
+    ensures long { IfErr result (IsLong tokens.now 2) }
 {
     let (head, end) = read_head(alloc, tokens)?;
     let (declarations, end) = declarations(alloc, tokens, end)?;

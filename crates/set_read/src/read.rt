@@ -40,7 +40,7 @@ fn of_list(alloc: Global, tokens: &[Token]) -> Result<Set, SetFault>
 
 /// The set that a text spells, its names looked up. The grammar is that of the document on formats.
 /// `Bytes` and `Number`: the first fault of the text's tokens, with the place of the byte. `Syntax`: its tokens spell no set.
-/// `Deep`: a formula is too high. `Unknown`, `Twice` and `Limit`: the text spells a set that has this against it; where several
+/// `Deep`: each set that they spell is higher than 500, and there are more than 500 of them. `Unknown`, `Twice` and `Limit`: the text spells a set that has this against it; where several
 /// such faults stand, one of them is answered.
 pub fn read_set(alloc: Global, bytes: &[u8]) -> Result<Set, SetFault>
     ensures ok { IfOk result (Spells bytes.now) }

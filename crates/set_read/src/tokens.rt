@@ -1,20 +1,23 @@
 // Single tokens of a set, and what the reader of expressions reads for it.
-ghost use Rattle.std.specs.Prelude.{◌≡◌, ◌+◌, ◌<◌, ◌≤◌, IfOk, true};
+ghost use Rattle.std.specs.Prelude.{◌≡◌, ◌+◌, ◌<◌, ◌≤◌, IfErr, IfOk, codes, length, true};
 ghost use Rattle.vlog_tree.specs.Lists.{Comma, Separated, highest};
 ghost use Rattle.vlog_tree.specs.Signs.{IsSign, IsWord};
 ghost use Rattle.vlog_tree.specs.Spelling.{IsNamed, IsPath, Spells, height};
 ghost use Rattle.set_tree.specs.Spelling.{IsDigits};
+ghost use Rattle.set_read.specs.Answers.{Always, Answers, Ends, IsFlat, IsLong, IsOf, IsSyntax, Lacks, NoSign, Semicolon, flat};
 
 use crate::fault::TextFault;
 use outside::Text;
 use sqlite_items::Items;
 use std::alloc::Global;
 use vlog_lex::ReadFault;
-use vlog_read_expr::{identifier, is_sign, is_word, kind_at, read_path, read_tree};
+use vlog_read_expr::{after, identifier, is_sign, is_word, kind_at, read_path, read_tree};
 use vlog_tree::{Expr, Kind, Token};
 
 /// The refusal at a token, which names the byte where it begins, or the one where the tokens end.
-pub fn syntax(tokens: &[Token], at: usize) -> TextFault {
+pub fn syntax(tokens: &[Token], at: usize) -> TextFault
+    ensures { IsSyntax result }
+{
     match tokens.get(at) {
         Some(token) => TextFault::Syntax(token.at),
         None => match tokens.last() {
@@ -25,7 +28,9 @@ pub fn syntax(tokens: &[Token], at: usize) -> TextFault {
 }
 
 /// The refusal of the reader of expressions, which counts tokens.
-fn of_reader(tokens: &[Token], fault: ReadFault) -> TextFault {
+fn of_reader(tokens: &[Token], fault: ReadFault) -> TextFault
+    ensures { IsOf fault result }
+{
     match fault {
         ReadFault::Deep => TextFault::Deep,
         ReadFault::Memory => TextFault::Memory,
@@ -38,10 +43,12 @@ fn of_reader(tokens: &[Token], fault: ReadFault) -> TextFault {
 
 /// A word of the grammar, and the place after it.
 pub fn word(tokens: &[Token], at: usize, text: &[u8]) -> Result<usize, TextFault>
-    ensures { IfOk result (λ end. IsWord tokens.now at text.now × (end ≡ at + 1)) }
+    ensures ok { IfOk result (λ end. IsWord tokens.now at text.now × (end ≡ at + 1)) }
+    ensures none { IfErr result (λ fault. IsWord tokens.now at text.now → ⊥) }
+    ensures plain { IfErr result IsSyntax }
 {
-    if at < tokens.len() && is_word(tokens, at, text) {
-        Ok(at + 1)
+    if is_word(tokens, at, text) {
+        Ok(after(tokens, at))
     } else {
         Err(syntax(tokens, at))
     }
@@ -49,10 +56,12 @@ pub fn word(tokens: &[Token], at: usize, text: &[u8]) -> Result<usize, TextFault
 
 /// A sign, and the place after it.
 pub fn sign(tokens: &[Token], at: usize, text: &[u8]) -> Result<usize, TextFault>
-    ensures { IfOk result (λ end. IsSign tokens.now at text.now × (end ≡ at + 1)) }
+    ensures ok { IfOk result (λ end. IsSign tokens.now at text.now × (end ≡ at + 1)) }
+    ensures none { IfErr result (λ fault. IsSign tokens.now at text.now → ⊥) }
+    ensures plain { IfErr result IsSyntax }
 {
-    if at < tokens.len() && is_sign(tokens, at, text) {
-        Ok(at + 1)
+    if is_sign(tokens, at, text) {
+        Ok(after(tokens, at))
     } else {
         Err(syntax(tokens, at))
     }
@@ -60,7 +69,9 @@ pub fn sign(tokens: &[Token], at: usize, text: &[u8]) -> Result<usize, TextFault
 
 /// Decimal digits, their number, and the place after them.
 pub fn digits(tokens: &[Token], at: usize) -> Result<(u64, usize), TextFault>
-    ensures { IfOk result (λ read. IsDigits tokens.now at read.0 read.1 × (read.1 ≡ at + 1)) }
+    ensures ok { IfOk result (λ read. IsDigits tokens.now at read.0 read.1 × (read.1 ≡ at + 1)) }
+    ensures none { IfErr result (λ fault. Lacks (IsDigits tokens.now) at) }
+    ensures plain { IfErr result IsSyntax }
 {
     match kind_at(tokens, at) {
         Some(Kind::Number(number)) if number.plain => Ok((number.value, at + 1)),
@@ -70,7 +81,9 @@ pub fn digits(tokens: &[Token], at: usize) -> Result<(u64, usize), TextFault>
 
 /// A name without dots, and the place after it.
 pub fn name(alloc: Global, tokens: &[Token], at: usize) -> Result<(Text, usize), TextFault>
-    ensures { IfOk result (λ read. IsNamed true tokens.now at read.0 read.1 × (read.1 ≡ at + 1)) }
+    ensures ok { IfOk result (λ read. IsNamed true tokens.now at read.0 read.1 × (read.1 ≡ at + 1)) }
+    ensures only { Answers (IsNamed true tokens.now) Always flat 0 at result }
+    ensures plain { IfErr result IsFlat }
 {
     match identifier(alloc, true, tokens, at) {
         Ok(text) => Ok((text, at + 1)),
@@ -80,7 +93,10 @@ pub fn name(alloc: Global, tokens: &[Token], at: usize) -> Result<(Text, usize),
 
 /// A name with its dots, and the place after it.
 pub fn path(alloc: Global, tokens: &[Token], at: usize) -> Result<(Text, usize), TextFault>
-    ensures { IfOk result (λ read. IsPath tokens.now at read.0 read.1) }
+    ensures ok { IfOk result (λ read. IsPath tokens.now at read.0 read.1) }
+    ensures past { IfOk result (λ read. at < read.1) }
+    ensures only { Answers (IsPath tokens.now) (NoSign (codes ".") tokens.now) flat 0 at result }
+    ensures long { IfErr result (IsLong tokens.now at) }
 {
     match read_path(alloc, tokens, at) {
         Ok(read) => Ok((read.text, read.end)),
@@ -95,6 +111,9 @@ pub const FORMULA_HEIGHT: usize = 498;
 pub fn formula(alloc: Global, tokens: &[Token], at: usize) -> Result<(Expr, usize), TextFault>
     ensures spelt { IfOk result (λ read. Spells true tokens.now at read.0 read.1) }
     ensures low { IfOk result (λ read. height read.0 ≤ 498) }
+    ensures past { IfOk result (λ read. at < read.1 × (read.1 ≤ length tokens.now)) }
+    ensures only { Answers (Spells true tokens.now) (Ends tokens.now) height 498 at result }
+    ensures long { IfErr result (IsLong tokens.now at) }
 {
     match read_tree(alloc, true, tokens, at, FORMULA_HEIGHT) {
         Ok(read) => Ok((read.tree, read.end)),
@@ -105,16 +124,16 @@ pub fn formula(alloc: Global, tokens: &[Token], at: usize) -> Result<(Expr, usiz
 /// Names with commas between, and the place after them.
 #[tactic(auto, using(crate::proofs::Sequences::separated_more, crate::proofs::Sequences::separated_one))]
 pub fn names(alloc: Global, tokens: &[Token], at: usize) -> Result<(Items<Text>, usize), TextFault>
-    ensures { IfOk result (λ read. Separated (Comma tokens.now) (IsNamed true tokens.now) at read.0 read.1) }
+    ensures ok { IfOk result (λ read. Separated (Comma tokens.now) (IsNamed true tokens.now) at read.0 read.1) }
+    ensures past { IfOk result (λ read. at < read.1) }
+    ensures only { Answers (Separated (Comma tokens.now) (IsNamed true tokens.now)) (Semicolon tokens.now) flat 0 at result }
+    ensures long { IfErr result (IsLong tokens.now at) }
 {
     let (first, mut end) = name(alloc, tokens, at)?;
     let mut list = Items::new(alloc);
     list.push(first)?;
-    for _turn in at..tokens.len() {
-        let Ok(next) = sign(tokens, end, b",") else {
-            break;
-        };
-        let (more, next) = name(alloc, tokens, next)?;
+    while is_sign(tokens, end, b",") {
+        let (more, next) = name(alloc, tokens, after(tokens, end))?;
         list.push(more)?;
         end = next;
     }
@@ -130,15 +149,15 @@ pub fn formulas(
 ) -> Result<(Items<Expr>, usize), TextFault>
     ensures spelt { IfOk result (λ read. Separated (Comma tokens.now) (Spells true tokens.now) at read.0 read.1) }
     ensures low { IfOk result (λ read. highest height read.0 ≤ 498) }
+    ensures past { IfOk result (λ read. at < read.1) }
+    ensures only { Answers (Separated (Comma tokens.now) (Spells true tokens.now)) (Semicolon tokens.now) (highest height) 498 at result }
+    ensures long { IfErr result (IsLong tokens.now at) }
 {
     let (first, mut end) = formula(alloc, tokens, at)?;
     let mut list = Items::new(alloc);
     list.push(first)?;
-    for _turn in at..tokens.len() {
-        let Ok(next) = sign(tokens, end, b",") else {
-            break;
-        };
-        let (more, next) = formula(alloc, tokens, next)?;
+    while is_sign(tokens, end, b",") {
+        let (more, next) = formula(alloc, tokens, after(tokens, end))?;
         list.push(more)?;
         end = next;
     }

@@ -11,3 +11,7 @@ of_list-requires c = small_at true c.args.bytes.now c.deref.result.now (subst (L
 pub returns-in-Err-clause-err : goal.returns-in-Err-clause-err
 returns-in-Err-clause-err c =
     subst (Refuses c.args.bytes.now) (sym c.of_tokens.ensures) (lex_refuses c.args.bytes.now c.in-Err.fault c.in-Err.ensures.err)
+
+pub returns-in-Ok-clause-err : goal.returns-in-Ok-clause-err
+returns-in-Ok-clause-err c =
+    tokens_err c.args.bytes.now c.deref.result.now (subst (Lexes true c.args.bytes.now) (sym c.deref.ensures.value) c.in-Ok.ensures.ok) c.of_list.result c.of_list.ensures.err
