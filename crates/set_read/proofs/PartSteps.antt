@@ -1,11 +1,11 @@
 -- Declarations, rules and clauses: what is left of them after each of their parts.
-use Rattle.std.proofs.Common.{ℕ, ◌+◌, ◌≡◌, ◌<◌, ◌≤◌, ◌⊎◌, inl, inr, List, [], ◌∷◌, Option, Some, None, Bool, true, false, Result, Ok, Err, refl, sym, ap, subst, ◌∙◌, arith}
+use Rattle.std.proofs.Common.{ℕ, ◌+◌, ◌≡◌, ◌≤◌, ◌⊎◌, inl, inr, List, [], ◌∷◌, Option, Some, None, true, false, Result, Ok, Err, refl, sym, subst, arith}
 use Rattle.std.specs.Prelude.{IfOk, IfErr, codes}
 use Rattle.vlog_tree.specs.declared.token.Token.{Token}
 use Rattle.vlog_tree.specs.declared.expr.Expr.{Expr}
-use Rattle.vlog_tree.specs.Signs.{kind_at, IsSign, IsWord}
-use Rattle.vlog_tree.specs.Lists.{Maybe, Sequence, Separated, Comma, highest, highest_of}
-use Rattle.vlog_tree.specs.Spelling.{IsNamed, IsPath, Spells, height}
+use Rattle.vlog_tree.specs.Signs.{IsSign, IsWord}
+use Rattle.vlog_tree.specs.Lists.{Maybe, Separated, Comma, highest_of}
+use Rattle.vlog_tree.specs.Spelling.{IsPath, Spells, height}
 use Rattle.vlog_spell.proofs.Tokens.{two_signs, two_words}
 use Rattle.vlog_spell.proofs.Names.{name_begins}
 use Rattle.set_tree.specs.declared.set.Role.{Role}

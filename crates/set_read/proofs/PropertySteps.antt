@@ -1,15 +1,14 @@
 -- Properties and whole sets: what is left of them after each of their parts.
-use Rattle.std.proofs.Common.{ℕ, ◌+◌, ◌≡◌, ◌<◌, ◌≤◌, max, ◌⊎◌, inl, inr, List, [], ◌∷◌, Option, Some, None, Bool, true, false, length, refl, sym, ap, subst, ◌∙◌, arith}
+use Rattle.std.proofs.Common.{ℕ, ◌+◌, ◌≡◌, ◌⊎◌, inl, inr, List, [], ◌∷◌, Option, Some, None, Bool, true, false, length, refl, sym, subst, ◌∙◌, arith}
 use Rattle.std.specs.Prelude.{is_some, codes}
 use Rattle.std.specs.Str.{bytes_eq}
 use Rattle.vlog_tree.specs.declared.token.Token.{Token}
 use Rattle.vlog_tree.specs.declared.token.Kind.TheVariants as k
 use Rattle.vlog_tree.specs.declared.expr.Expr.{Expr}
-use Rattle.vlog_tree.specs.Signs.{kind_at, IsSign, IsWord}
-use Rattle.vlog_tree.specs.Lists.{Maybe, Sequence, Separated, Comma, highest, highest_of}
-use Rattle.vlog_tree.specs.Spelling.{IsNamed, Spells, height}
-use Rattle.vlog_spell.proofs.Tokens.{kind_within, two_signs, two_words}
-use Rattle.set_tree.specs.declared.set.Role.{Role}
+use Rattle.vlog_tree.specs.Signs.{IsSign, IsWord}
+use Rattle.vlog_tree.specs.Lists.{Maybe, Sequence, Separated, Comma}
+use Rattle.vlog_tree.specs.Spelling.{IsNamed, Spells}
+use Rattle.vlog_spell.proofs.Tokens.{kind_within, two_words}
 use Rattle.set_tree.specs.declared.set.Role.TheVariants as role
 use Rattle.set_tree.specs.declared.text.CoverText.{CoverText}
 use Rattle.set_tree.specs.declared.text.Declaration.{Declaration}
@@ -20,8 +19,8 @@ use Rattle.set_tree.specs.declared.text.RuleKind.TheVariants as rule
 use Rattle.set_tree.specs.declared.text.RuleText.{RuleText}
 use Rattle.set_tree.specs.declared.text.SetText.{SetText}
 use Rattle.set_tree.specs.declared.text.Until.{Until}
-use Rattle.set_tree.specs.Spelling.{Clause, IsDigits, SpellsConditions, SpellsCover, SpellsDeclaration, SpellsHand, SpellsLength, SpellsOperation, SpellsProperty, SpellsReset, SpellsRule, SpellsSet, SpellsTail, SpellsUntil, role_word, rule_word}
-use Rattle.set_read.specs.Answers.{Ended, IsTail, NoRole, NoRule, NoSign, NoWord, Semicolon}
+use Rattle.set_tree.specs.Spelling.{Clause, IsDigits, SpellsCover, SpellsDeclaration, SpellsHand, SpellsLength, SpellsOperation, SpellsProperty, SpellsReset, SpellsRule, SpellsSet, SpellsTail, SpellsUntil, rule_word}
+use Rattle.set_read.specs.Answers.{IsTail, NoRole, NoRule, NoWord, Semicolon}
 use Rattle.set_read.specs.declared.property.Conditions.{Conditions}
 use Rattle.set_read.specs.declared.property.Tail.{Tail}
 use Rattle.set_read.specs.Parts.{SpellsConditionsOf, SpellsTailOf}

@@ -1,5 +1,5 @@
 -- One more element at the end of what is spelt so far.
-use Rattle.std.proofs.Common.{◌≡◌, ℕ, ◌+◌, max, List, [], ◌∷◌, ◌++◌, refl, sym, ap, subst, arith}
+use Rattle.std.proofs.Common.{◌≡◌, ℕ, ◌+◌, max, List, [], ◌∷◌, ◌++◌, refl, sym, subst, arith}
 use Rattle.vlog_tree.specs.Lists.{More, Separated, Sequence, highest}
 
 module _ {A : Type 0} (P : ℕ → A → ℕ → Type 0) where

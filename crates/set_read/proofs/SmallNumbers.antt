@@ -1,6 +1,6 @@
 -- The numbers in the text of a set are below 2^32.
-use Rattle.std.proofs.Common.{◌≡◌, ℕ, ◌+◌, ◌<◌, ◌^◌, inl, inr, List, [], ◌∷◌, Option, Some, None, Bool, true, refl, sym, ap, subst, ◌∙◌, arith}
-use Rattle.std.specs.Prelude.{nat_lt, ◌&&◌}
+use Rattle.std.proofs.Common.{◌≡◌, ℕ, ◌+◌, ◌^◌, inl, inr, List, [], ◌∷◌, Option, Some, None, Bool, true, refl, arith}
+use Rattle.std.specs.Prelude.{nat_lt}
 use Rattle.std.specs.List.{list_all}
 use Rattle.std.proofs.lemmas.Bool.{lt-ltb, and_from}
 use Rattle.vlog_tree.specs.declared.token.Kind.TheVariants as k
@@ -15,7 +15,7 @@ use Rattle.set_tree.specs.declared.text.EndText.{EndText}
 use Rattle.set_tree.specs.declared.text.EndText.TheVariants as to
 use Rattle.set_tree.specs.declared.text.PropertyText.{PropertyText}
 use Rattle.set_tree.specs.declared.text.SetText.{SetText}
-use Rattle.set_tree.specs.Spelling.{IsDigits, SpellsBits, SpellsDeclaration, SpellsDistance, SpellsEnd, SpellsCover, SpellsProperty, SpellsReset, SpellsOperation, SpellsSet}
+use Rattle.set_tree.specs.Spelling.{IsDigits, SpellsBits, SpellsDeclaration, SpellsDistance, SpellsEnd, SpellsCover, SpellsProperty, SpellsOperation, SpellsSet}
 use Rattle.set_lookup.specs.Meaning.{low_of}
 use Rattle.set_lookup.specs.Faults.{is_small_end, is_small_cover, HasSmallNumbers}
 use Rattle.set_read.proofs.PlainNumbers.{IsSmall}

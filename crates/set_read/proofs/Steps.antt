@@ -1,12 +1,11 @@
 -- What is spelt passes on the refusal of its part; names, paths and formulas by the readers that they are read with.
-use Rattle.std.proofs.Common.{ℕ, ◌+◌, ◌≡◌, ◌<◌, ◌≤◌, ◌⊎◌, inl, inr, List, [], ◌∷◌, Option, Some, None, length, true, refl, sym, ap, subst, ◌∙◌, arith}
+use Rattle.std.proofs.Common.{ℕ, ◌+◌, ◌≡◌, ◌<◌, ◌≤◌, ◌⊎◌, inl, inr, List, [], ◌∷◌, Option, Some, None, length, true, refl, sym, subst, ◌∙◌, arith}
 use Rattle.std.specs.Prelude.{IfNone, codes}
 use Rattle.vlog_tree.specs.declared.token.Token.{Token}
-use Rattle.vlog_tree.specs.declared.token.Kind.TheVariants as k
 use Rattle.vlog_tree.specs.declared.expr.Expr.{Expr}
-use Rattle.vlog_tree.specs.Signs.{IsSign, IsWord}
+use Rattle.vlog_tree.specs.Signs.{IsSign}
 use Rattle.vlog_tree.specs.Lists.{More, Separated, Sequence, highest}
-use Rattle.vlog_tree.specs.Spelling.{IsNamed, IsPath, IsIdentifier, Spells, Reads, height}
+use Rattle.vlog_tree.specs.Spelling.{IsPath, Spells, Reads}
 use Rattle.vlog_spell.proofs.Tokens.{Stops, stops_comma, stops_semicolon, two_signs}
 use Rattle.vlog_spell.proofs.Forms.{height_pos, length_of, within}
 use Rattle.vlog_spell.proofs.Names.{one_path, name_long}

@@ -10,7 +10,6 @@ use Rattle.vlog_lex.specs.Tokens.{Lexes, HasFault}
 use Rattle.set_tree.specs.declared.set.Set.{Set}
 use Rattle.set_tree.specs.declared.text.SetText.{SetText}
 use Rattle.set_tree.specs.Spelling.{SpellsSet}
-use Rattle.set_lookup.specs.declared.quantity.Quantity.{Quantity}
 use Rattle.set_lookup.specs.declared.wrong.Wrong.{Wrong}
 use Rattle.set_lookup.specs.declared.wrong.Wrong.TheVariants as wrong
 use Rattle.set_lookup.specs.Meaning.{Means}

@@ -5,17 +5,17 @@ use Rattle.vlog_tree.specs.Signs.{IsSign}
 use Rattle.set_read.proofs.parts.clause.Goals as goal
 
 pub returns-in_err-end-clause-only : goal.returns-in_err-end-clause-only
-returns-in_err-end-clause-only c = 
+returns-in_err-end-clause-only c =
     let p = err_from_is_err_and c.from_residual.result c.from_residual.ensures.1 in
     rw (p.1, p.2) (λ x j q g. absurd (c.in_err-end.ensures.none q.1))
 
 pub returns-in_err-tree-clause-only : goal.returns-in_err-tree-clause-only
-returns-in_err-tree-clause-only c = 
+returns-in_err-tree-clause-only c =
     let p = err_from_is_err_and c.from_residual-in_err-tree.result c.from_residual-in_err-tree.ensures.1 in
     rw (p.1, p.2) (λ x j q g. (rw c.in_ok-end.ensures.ok.1 at c.in_err-tree.ensures.only) x q.0 q.2 (inr q.3))
 
 pub returns-in_err-end-2-clause-only : goal.returns-in_err-end-2-clause-only
-returns-in_err-end-2-clause-only c = 
+returns-in_err-end-2-clause-only c =
     let p = err_from_is_err_and c.from_residual-in_err-end-2.result c.from_residual-in_err-end-2.ensures.1 in
     rw (p.1, p.2) (λ x j q g. let s = (rw c.in_ok-end.ensures.ok.1 at c.in_ok-tree.ensures.only) x q.0 q.2 (inr q.3) in absurd (c.in_err-end-2.ensures.none (subst (λ z. IsSign c.args.tokens.now z (codes ";")) s q.3)))
 

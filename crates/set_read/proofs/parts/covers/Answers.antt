@@ -20,7 +20,7 @@ pub loop-alloc-smaller : goal.loop-alloc-smaller
 loop-alloc-smaller c = omega (arith, c.in_ok-more.ensures.past, kind_within _ _ _ (yes_by _ c.is_word.ensures c.loop-alloc-test.true))
 
 pub returns-in_err-more-clause-only : goal.returns-in_err-more-clause-only
-returns-in_err-more-clause-only c = 
+returns-in_err-more-clause-only c =
     let p = err_from_is_err_and c.from_residual.result c.from_residual.ensures.1 in
     rw (p.1, p.2) (λ ys j s g. passes (0 < highest flat ys) (0 < 0) (λ h. omega (arith, h, none_high ys)) _ (fails flat (SpellsCover c.args.tokens.now) (NoWord (codes "cover") c.args.tokens.now) c.args.at _ 0 c.loop-alloc.invariant.2 (λ z. z (yes_by _ c.is_word.ensures c.loop-alloc-test.true)) _ (λ x k p. c.in_err-more.ensures.only x k p tt) ys j s g))
 

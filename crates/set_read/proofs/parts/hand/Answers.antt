@@ -8,12 +8,12 @@ use Rattle.set_read.proofs.PartSteps.{no_hand, some_hand}
 use Rattle.set_read.proofs.parts.hand.Goals as goal
 
 pub returns-in_err-list-clause-only : goal.returns-in_err-list-clause-only
-returns-in_err-list-clause-only c = 
+returns-in_err-list-clause-only c =
     let p = err_from_is_err_and c.from_residual.result c.from_residual.ensures.1 in
     rw (p.1, p.2) (λ x j q g. let h = some_hand c.args.tokens.now c.args.at (yes_by _ c.is_word.ensures c.if-is_word.true) x j q g in (rw c.after.ensures at c.in_err-list.ensures.only) x h.0 h.2 h.3)
 
 pub returns-in_err-end-clause-only : goal.returns-in_err-end-clause-only
-returns-in_err-end-clause-only c = 
+returns-in_err-end-clause-only c =
     let p = err_from_is_err_and c.from_residual-in_err-end.result c.from_residual-in_err-end.ensures.1 in
     rw (p.1, p.2) (λ x j q g. let h = some_hand c.args.tokens.now c.args.at (yes_by _ c.is_word.ensures c.if-is_word.true) x j q g in let s = (rw c.after.ensures at c.in_ok-list.ensures.only) x h.0 h.2 h.3 in absurd (c.in_err-end.ensures.none (subst (λ z. IsSign c.args.tokens.now z (codes ";")) s h.3)))
 

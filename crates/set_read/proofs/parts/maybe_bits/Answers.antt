@@ -8,7 +8,7 @@ pub returns-in_ok-bits-clause-only : goal.returns-in_ok-bits-clause-only
 returns-in_ok-bits-clause-only c = λ x j q g. let s = some_bits c.args.tokens.now c.args.at (yes_by _ c.is_sign.ensures c.if-is_sign.true) x j q g in omega (arith, s.1.5, c.in_ok-bits.ensures.spelt.5)
 
 pub returns-in_err-bits-clause-only : goal.returns-in_err-bits-clause-only
-returns-in_err-bits-clause-only c = 
+returns-in_err-bits-clause-only c =
     let p = err_from_is_err_and c.from_residual.result c.from_residual.ensures.1 in
     rw (p.1, p.2) (λ x j q g. let s = some_bits c.args.tokens.now c.args.at (yes_by _ c.is_sign.ensures c.if-is_sign.true) x j q g in absurd (c.in_err-bits.ensures.none s.0 j s.1))
 

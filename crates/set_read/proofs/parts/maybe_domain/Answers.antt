@@ -12,7 +12,7 @@ pub returns-in_ok-domain-clause-only : goal.returns-in_ok-domain-clause-only
 returns-in_ok-domain-clause-only c = λ x j q g. let d = some_domain c.args.tokens.now c.args.at (yes_by _ c.is_word.ensures c.if-is_word.true) x j q g in (rw c.after.ensures at c.in_ok-domain.ensures.only) d.0 j d.1 (inr g)
 
 pub returns-in_err-domain-clause-only : goal.returns-in_err-domain-clause-only
-returns-in_err-domain-clause-only c = 
+returns-in_err-domain-clause-only c =
     let p = err_from_is_err_and c.from_residual.result c.from_residual.ensures.1 in
     rw (p.1, p.2) (λ x j q g. let d = some_domain c.args.tokens.now c.args.at (yes_by _ c.is_word.ensures c.if-is_word.true) x j q g in passes (498 < height d.0) (498 < highest_of height x) (λ h. omega (arith, h, d.2)) _ ((rw c.after.ensures at c.in_err-domain.ensures.only) d.0 j d.1 (inr g)))
 

@@ -11,7 +11,7 @@ pub returns-in_ok-until-clause-only : goal.returns-in_ok-until-clause-only
 returns-in_ok-until-clause-only c = λ x j q g. let u = some_until c.args.tokens.now c.args.at (yes_by _ c.is_word.ensures c.if-is_word.true) x j q g in c.in_ok-until.ensures.only u.0 j u.1 g
 
 pub returns-in_err-until-clause-only : goal.returns-in_err-until-clause-only
-returns-in_err-until-clause-only c = 
+returns-in_err-until-clause-only c =
     let p = err_from_is_err_and c.from_residual.result c.from_residual.ensures.1 in
     rw (p.1, p.2) (λ x j q g. let u = some_until c.args.tokens.now c.args.at (yes_by _ c.is_word.ensures c.if-is_word.true) x j q g in passes (498 < until_height u.0) (498 < highest_of until_height x) (λ h. omega (arith, h, u.2)) _ (c.in_err-until.ensures.only u.0 j u.1 g))
 

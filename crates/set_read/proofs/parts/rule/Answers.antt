@@ -9,22 +9,22 @@ use Rattle.set_read.proofs.Steps.{passes}
 use Rattle.set_read.proofs.parts.rule.Goals as goal
 
 pub returns-in_err-name-clause-only : goal.returns-in_err-name-clause-only
-returns-in_err-name-clause-only c = 
+returns-in_err-name-clause-only c =
     let p = err_from_is_err_and c.from_residual.result c.from_residual.ensures.1 in
     rw (p.1, p.2) (λ x j q g. passes (0 < 0) _ (λ h. absurd (omega (arith, h))) _ (c.in_err-name.ensures.only x.name (c.args.at + 2) q.2 tt))
 
 pub returns-in_err-end-clause-only : goal.returns-in_err-end-clause-only
-returns-in_err-end-clause-only c = 
+returns-in_err-end-clause-only c =
     let p = err_from_is_err_and c.from_residual-in_err-end.result c.from_residual-in_err-end.ensures.1 in
     rw (p.1, p.2) (let e : c.in_ok-name.end ≡ c.args.at + 2 = omega (arith, c.in_ok-name.ensures.ok.1) in λ x j q g. absurd ((rw e at c.in_err-end.ensures.none) q.3))
 
 pub returns-in_err-formula-clause-only : goal.returns-in_err-formula-clause-only
-returns-in_err-formula-clause-only c = 
+returns-in_err-formula-clause-only c =
     let p = err_from_is_err_and c.from_residual-in_err-formula.result c.from_residual-in_err-formula.ensures.1 in
     rw (p.1, p.2) (let e : c.in_ok-end.end ≡ c.args.at + 3 = omega (arith, c.in_ok-name.ensures.ok.1, c.in_ok-end.ensures.ok.1) in λ x j q g. passes (498 < height x.formula) (499 < rule_height x) (λ h. omega (arith, h)) _ ((rw e at c.in_err-formula.ensures.only) x.formula q.0 q.4 (inr q.5)))
 
 pub returns-in_err-end-2-clause-only : goal.returns-in_err-end-2-clause-only
-returns-in_err-end-2-clause-only c = 
+returns-in_err-end-2-clause-only c =
     let p = err_from_is_err_and c.from_residual-in_err-end-2.result c.from_residual-in_err-end-2.ensures.1 in
     rw (p.1, p.2) (let e : c.in_ok-end.end ≡ c.args.at + 3 = omega (arith, c.in_ok-name.ensures.ok.1, c.in_ok-end.ensures.ok.1) in λ x j q g. let s = (rw e at c.in_ok-formula.ensures.only) x.formula q.0 q.4 (inr q.5) in absurd (c.in_err-end-2.ensures.none (subst (λ z. IsSign c.args.tokens.now z (codes ";")) s q.5)))
 

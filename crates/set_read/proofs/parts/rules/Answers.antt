@@ -19,7 +19,7 @@ pub loop-kind-smaller : goal.loop-kind-smaller
 loop-kind-smaller c = omega (arith, c.in_ok-more.ensures.past, kind_within _ _ _ c.in-Some.ensures.some)
 
 pub returns-in_err-more-clause-only : goal.returns-in_err-more-clause-only
-returns-in_err-more-clause-only c = 
+returns-in_err-more-clause-only c =
     let p = err_from_is_err_and c.from_residual.result c.from_residual.ensures.1 in
     rw (p.1, p.2) (fails rule_height (SpellsRule c.args.tokens.now) (NoRule c.args.tokens.now) c.args.at _ 499 c.loop-kind.invariant.3 (λ z. z _ c.in-Some.ensures.some) _ (λ x k p. c.in_err-more.ensures.only x k p tt))
 

@@ -13,12 +13,12 @@ returns-clause-spelt c = (
 )
 
 pub returns-in_err-name-clause-only : goal.returns-in_err-name-clause-only
-returns-in_err-name-clause-only c = 
+returns-in_err-name-clause-only c =
     let p = err_from_is_err_and c.from_residual.result c.from_residual.ensures.1 in
     rw (p.1, p.2) (λ x j q g. passes (0 < 0) _ (λ h. absurd (omega (arith, h))) _ (c.in_err-name.ensures.only x.name (c.args.at + 2) (q.0, q.1, refl) tt))
 
 pub returns-in_err-property-clause-only : goal.returns-in_err-property-clause-only
-returns-in_err-property-clause-only c = 
+returns-in_err-property-clause-only c =
     let p = err_from_is_err_and c.from_residual-in_err-property.result c.from_residual-in_err-property.ensures.1 in
     rw (p.1, p.2) (λ x j q g. (rw c.in_ok-name.ensures.end at c.in_err-property.ensures.only) x j q.2 tt)
 

@@ -5,12 +5,12 @@ use Rattle.set_read.proofs.PropertySteps.{some_by, none_by_test, until_apart, as
 use Rattle.set_read.proofs.property.reset_property.Goals as goal
 
 pub returns-in_err-end-clause-only : goal.returns-in_err-end-clause-only
-returns-in_err-end-clause-only c = 
+returns-in_err-end-clause-only c =
     let p = err_from_is_err_and c.from_residual.result c.from_residual.ensures.1 in
     rw (p.1, p.2) (λ x j q g. absurd (c.in_err-end.ensures.none (q.0, q.1)))
 
 pub returns-in_err-first-clause-only : goal.returns-in_err-first-clause-only
-returns-in_err-first-clause-only c = 
+returns-in_err-first-clause-only c =
     let p = err_from_is_err_and c.from_residual-in_err-first.result c.from_residual-in_err-first.ensures.1 in
     rw (p.1, p.2) (λ x j q g. (rw c.in_ok-end.ensures.end at c.in_err-first.ensures.only) x j q.5 tt)
 

@@ -1,4 +1,4 @@
-use Rattle.std.proofs.Common.{◌≡◌, sym, subst}
+use Rattle.std.proofs.Common.{sym, subst}
 use Rattle.set_read.specs.Read.{RefusesTokens}
 use Rattle.set_read.proofs.SmallNumbers.{text_small}
 use Rattle.set_read.proofs.Answers.{wrong_refuses}

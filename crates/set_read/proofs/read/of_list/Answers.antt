@@ -1,4 +1,4 @@
-use Rattle.std.proofs.Common.{◌≡◌, sym, subst}
+use Rattle.std.proofs.Common.{sym, subst}
 use Rattle.set_read.specs.Read.{RefusesTokens}
 use Rattle.set_read.proofs.Answers.{text_refuses}
 use Rattle.set_read.proofs.read.of_list.Goals as goal

@@ -1,8 +1,8 @@
-use Rattle.std.proofs.Common.{◌≡◌, sym, subst, true}
+use Rattle.std.proofs.Common.{sym, subst, true}
 use Rattle.vlog_lex.specs.Tokens.{Lexes}
 use Rattle.set_read.specs.Read.{Refuses}
 use Rattle.set_read.proofs.PlainNumbers.{small_at}
-use Rattle.set_read.proofs.Answers.{lex_refuses, tokens_ok, tokens_err}
+use Rattle.set_read.proofs.Answers.{lex_refuses, tokens_err}
 use Rattle.set_read.proofs.read.read_set.Goals as goal
 
 pub of_list-requires : goal.of_list-requires

@@ -25,11 +25,11 @@ pub returns-clause-only : goal.returns-clause-only
 returns-clause-only c = list_ends flat (Comma c.args.tokens.now) (IsNamed true c.args.tokens.now) (Semicolon c.args.tokens.now) (comma_apart c.args.tokens.now) c.args.at _ c.loop-alloc.invariant.2 (no_by _ c.is_sign.ensures c.loop-alloc-test.false)
 
 pub returns-in_err-first-clause-only : goal.returns-in_err-first-clause-only
-returns-in_err-first-clause-only c = 
+returns-in_err-first-clause-only c =
     let p = err_from_is_err_and c.from_residual.result c.from_residual.ensures.1 in
     rw (p.1, p.2) (λ ys j s g. passes (0 < highest flat ys) (0 < 0) (λ h. omega (arith, h, none_high ys)) _ (first_fails flat (Comma c.args.tokens.now) (IsNamed true c.args.tokens.now) (Semicolon c.args.tokens.now) c.args.at 0 _ (λ x k p s. c.in_err-first.ensures.only x k p tt) ys j s g))
 
 pub returns-in_err-more-clause-only : goal.returns-in_err-more-clause-only
-returns-in_err-more-clause-only c = 
+returns-in_err-more-clause-only c =
     let p = err_from_is_err_and c.from_residual-in_err-more.result c.from_residual-in_err-more.ensures.1 in
     rw (p.1, p.2) (λ ys j s g. passes (0 < highest flat ys) (0 < 0) (λ h. omega (arith, h, none_high ys)) _ (list_fails flat (Comma c.args.tokens.now) (IsNamed true c.args.tokens.now) (Semicolon c.args.tokens.now) (comma_apart c.args.tokens.now) c.args.at _ c.loop-alloc.invariant.2 0 (yes_by _ c.is_sign.ensures c.loop-alloc-test.true) _ (λ x k p s. (rw c.after.ensures at c.in_err-more.ensures.only) x k p tt) ys j s g))
