@@ -1,13 +1,13 @@
 -- A head that was read, and the body read after it.
-use Rattle.std.proofs.Common.{◌≡◌, ◌≤◌, ◌<◌, ℕ, ◌+◌, ◌-◌, Bool, true, false, cond, List, [], ◌∷◌, ◌++◌, take, drop, length, refl, sym, ap, subst, ◌∙◌, arith, append_assoc, append-nil, length-append, length-drop}
+use Rattle.std.proofs.Common.{◌≡◌, ◌≤◌, ℕ, ◌-◌, Bool, true, false, cond, List, [], ◌∷◌, ◌++◌, take, drop, length, refl, sym, ap, subst, ◌∙◌, arith}
 use Prim.Native.Nat.{zero, suc}
 use Rattle.std.specs.Prelude.{◌==◌}
 use Rattle.std.proofs.lemmas.Grind.{common_steps}
 use Rattle.std.proofs.lemmas.List.{take_all}
-use Rattle.httparse.specs.Grammar.{RequestHead, ReadsRequest, print_request}
+use Rattle.httparse.specs.Grammar.{RequestHead, ReadsRequest}
 use Rattle.httparse.proofs.GrammarLemmas.{ReadsRequest-append}
 use Rattle.http_request.specs.Front.{front, lines_of, lines_after_breaks, is_line_break}
-use Rattle.desk_http.specs.Request.{BeginsWith, after_head}
+use Rattle.desk_http.specs.Request.{BeginsWith}
 
 abbrev Grows : List ℕ → List ℕ → Type 0
 Grows xs ys = (zs : List ℕ) × (ys ≡ xs ++ zs)

@@ -1,14 +1,13 @@
 -- A head that was read, the body read after it, and the request that they make.
-use Rattle.std.proofs.Common.{◌≡◌, ◌≤◌, ◌<◌, ℕ, ◌+◌, true, false, List, [], ◌++◌, take, drop, map, length, Option, Some, None, IfSome, Result, Ok, Err, refl, sym, ap, subst, ◌∙◌, inl, inr, ◌⊎◌, arith, length-append}
+use Rattle.std.proofs.Common.{◌≡◌, ◌≤◌, ◌<◌, ℕ, ◌+◌, false, List, ◌++◌, take, drop, map, length, Option, Some, None, IfSome, Result, Ok, refl, sym, ap, subst, ◌∙◌, inl, inr, arith}
 use Rattle.std.proofs.lemmas.Grind.{common_steps}
 use Rattle.std.specs.Option.{option_map}
-use Rattle.httparse.specs.Grammar.{RequestHead, HasNoRequest, NeverHasRequest, print_request}
-use Rattle.httparse.specs.Spans.{IsRequestWithin, IsRequestOf, span_bytes, header_bytes, name_and_value}
+use Rattle.httparse.specs.Grammar.{HasNoRequest}
+use Rattle.httparse.specs.Spans.{IsRequestOf, span_bytes, header_bytes}
 use Rattle.httparse.specs.declared.spans.HeaderSpan.{HeaderSpan}
 use Rattle.httparse.specs.declared.spans.RequestSpans.{RequestSpans}
 use Rattle.outside.specs.Faults.{Rose}
 use Rattle.outside.specs.Port.{Wire, read_off}
-use Rattle.desk_commands.specs.declared.command.Command.{Command}
 use Rattle.http_request.specs.declared.refusal.Refusal.{Refusal}
 use Rattle.http_request.specs.Front.{front, is_full}
 use Rattle.http_request.specs.Reading.{TakesBytes, OnlyRead, IsNoHead}

@@ -1,7 +1,7 @@
 -- A reply that was sent.
-use Rattle.std.proofs.Common.{◌≡◌, ℕ, List, take, Option, ap, subst, ◌∙◌, inl, inr}
+use Rattle.std.proofs.Common.{◌≡◌, ℕ, take, Option, ap, subst, ◌∙◌, inr}
 use Rattle.std.specs.Option.{option_map}
-use Rattle.outside.specs.Port.{Wire, read_off, replied}
+use Rattle.outside.specs.Port.{Wire, replied}
 use Rattle.outside.specs.Faults.{Rose}
 use Rattle.desk_commands.specs.declared.command.Command.{Command}
 use Rattle.desk_commands.specs.declared.command.Answer.{Answer}

@@ -1,5 +1,5 @@
 -- Bytes that begin with a head may be taken for one request at most.
-use Rattle.std.proofs.Common.{◌≡◌, ◌≤◌, ◌<◌, ℕ, List, [], ◌∷◌, ◌++◌, take, drop, length, refl, sym, ap, subst, ◌∙◌, ◌⊎◌, inl, inr, arith, Result, Ok, Err, length-append, length-drop}
+use Rattle.std.proofs.Common.{◌≡◌, ◌≤◌, ◌<◌, ℕ, List, [], ◌∷◌, ◌++◌, take, drop, length, refl, sym, ap, subst, ◌∙◌, inl, inr, arith, Ok, Err, length-append, length-drop}
 use Prim.Native.Nat.{zero, suc}
 use Rattle.std.proofs.lemmas.Grind.{common_steps}
 use Rattle.std.proofs.lemmas.List.{take-append-drop, take-append-le}
@@ -10,7 +10,7 @@ use Rattle.http_request.specs.declared.refusal.Refusal.{Refusal}
 use Rattle.http_request.specs.Front.{front}
 use Rattle.http_request.specs.Asked.{Order, asked_of, command_of}
 use Rattle.http_request.specs.Reading.{IsNoHead}
-use Rattle.desk_http.specs.Request.{BeginsWith, after_head, Asks, IsRefused, NeedsMore, Permits}
+use Rattle.desk_http.specs.Request.{BeginsWith, after_head, Asks, Permits}
 use Rattle.desk_http.specs.declared.request.Request.{Request}
 use Rattle.desk_http.specs.declared.request.Request.TheVariants.{Asked, Refused, Partial}
 use Rattle.desk_http.proofs.Joined.{begins_still, front_grows}

@@ -1,5 +1,5 @@
 -- What is read after a head.
-use Rattle.std.specs.Prelude.{◌≡◌, ◌≤◌, ◌<◌, ℕ, List, [], ◌++◌, take, length, Option, IfSome, Ok, Err}
+use Rattle.std.specs.Prelude.{◌≡◌, ◌<◌, ℕ, List, [], ◌++◌, take, length, Option, IfSome}
 use Rattle.outside.specs.Faults.{Rose}
 use Rattle.outside.specs.Port.{Wire}
 use Rattle.http_request.specs.Reading.{TakesBytes, OnlyRead}

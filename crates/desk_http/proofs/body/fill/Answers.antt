@@ -1,4 +1,4 @@
-use Rattle.std.proofs.Common.{◌≡◌, ◌≤◌, ◌+◌, ◌++◌, ℕ, List, length, refl, ap, ◌∙◌, append_assoc, length-append, arith}
+use Rattle.std.proofs.Common.{◌+◌, ◌++◌, ℕ, List, length, refl, ap, ◌∙◌, append_assoc, length-append, arith}
 use Rattle.std.specs.Option.{option_map}
 use Rattle.outside.specs.Port.{read_off}
 use Rattle.http_request.proofs.Taken.{takes_more, step_twice}

@@ -1,6 +1,5 @@
-use Rattle.std.proofs.Common.{◌≡◌, refl, inl, inr}
+use Rattle.std.proofs.Common.{refl, inr}
 use Rattle.http_reply.specs.Reply.{starved_reply}
-use Rattle.desk_http.specs.Serve.{reply_or_starved}
 use Rattle.desk_http.proofs.Sent.{serves_sent}
 use Rattle.desk_http.proofs.serve.serve_present.Goals as goal
 
