@@ -201,21 +201,33 @@ fn texts_that_spell_no_set_are_refused(rt: HostRuntime) -> Result<(), Fail> {
     refused(&rt, b"", b"syntax", b"", 0)?;
     refused(&rt, b"block m; clock", b"syntax", b"", 14)?;
     refused(&rt, b"block m; clock `c;", b"syntax", b"", 15)?;
+    refused(
+        &rt,
+        b"block m; clock c; reset r high 1; output q when q / q;",
+        b"syntax",
+        b"",
+        50,
+    )?;
     refused(&rt, b"block m \x01", b"bytes", b"", 8)?;
     refused(&rt, b"block 4'b2;", b"number", b"", 6)
 }
 
-#[test]
-fn a_formula_that_is_too_high_is_refused(rt: HostRuntime) -> Result<(), Fail> {
-    let mut text = Text::copy(
-        rt.alloc(),
-        b"block m; clock c; reset r high 1; output q when ",
-    )?;
-    for _turn in 0..501 {
+// A set whose formula has this many operators, one in the other.
+fn high_set(alloc: Global, operators: usize) -> Result<Text, AllocError> {
+    let mut text = Text::copy(alloc, b"block m; clock c; reset r high 1; output q when ")?;
+    for _turn in 0..operators {
         text.append(b"!")?;
     }
-    text.append(b"q;")?;
-    refused(&rt, text.bytes(), b"deep", b"", 0)
+    text.append(b"q; property reset { length 0; next go; } operation go { length 1; next go; }")?;
+    Ok(text)
+}
+
+#[test]
+fn a_formula_that_is_too_high_is_refused(rt: HostRuntime) -> Result<(), Fail> {
+    let highest = high_set(rt.alloc(), 497)?;
+    is_read(&rt, highest.bytes(), 1)?;
+    let higher = high_set(rt.alloc(), 498)?;
+    refused(&rt, higher.bytes(), b"deep", b"", 0)
 }
 
 const GO: &[u8] = b"length 1; next go;";
