@@ -29,15 +29,15 @@ Contains-later : {X : Type 0} (x y : X) (xs : List X) → Contains xs y → Cont
 Contains-later x y xs c = (suc c.0, omega (arith, c.1), c.2)
 
 -- truth tables
-both_of : (a b : Bool) → (a && b) ≡ true → (a ≡ true) × (b ≡ true)
+pub both_of : (a b : Bool) → (a && b) ≡ true → (a ≡ true) × (b ≡ true)
 both_of true true h = (refl, refl)
 both_of true false h = (refl, h)
 both_of false b h = absurd cc
 
-of_both : (a b : Bool) → a ≡ true → b ≡ true → (a && b) ≡ true
+pub of_both : (a b : Bool) → a ≡ true → b ≡ true → (a && b) ≡ true
 of_both a b h k = cc
 
-turned : (a : Bool) → not a ≡ true → a ≡ false
+pub turned : (a : Bool) → not a ≡ true → a ≡ false
 turned true h = cc
 turned false h = refl
 
@@ -45,20 +45,20 @@ untrue : (a : Bool) → ¬ (a ≡ true) → a ≡ false
 untrue true h = absurd (h refl)
 untrue false h = refl
 
-of_turned : (a : Bool) → a ≡ false → not a ≡ true
+pub of_turned : (a : Bool) → a ≡ false → not a ≡ true
 of_turned a h = rw h refl
 
-same_true : (a b : Bool) → same a b ≡ true → a ≡ b
+pub same_true : (a b : Bool) → same a b ≡ true → a ≡ b
 same_true true b h = sym h
 same_true false true h = cc
 same_true false false h = refl
 
-same_refl : (a : Bool) → same a a ≡ true
+pub same_refl : (a : Bool) → same a a ≡ true
 same_refl true = refl
 same_refl false = refl
 
 -- tests of lists and of numbers
-all_in : {X : Type 0} (p : X → Bool) (xs : List X) (x : X) → list_all p xs ≡ true → Contains xs x → p x ≡ true
+pub all_in : {X : Type 0} (p : X → Bool) (xs : List X) (x : X) → list_all p xs ≡ true → Contains xs x → p x ≡ true
 all_in p xs x h c = at xs c.0 h c.1 c.2
   where
     at : (xs : List _) (k : ℕ) → list_all p xs ≡ true → k < length xs → get_or xs k x ≡ x → p x ≡ true
@@ -66,11 +66,11 @@ all_in p xs x h c = at xs c.0 h c.1 c.2
     at (y ∷ ys) zero h lt is = ap p (sym is) ∙ (both_of (p y) (list_all p ys) h).0
     at (y ∷ ys) (suc k) h lt is = at ys k (both_of (p y) (list_all p ys) h).1 (omega arith) is
 
-all_made : {X : Type 0} (p : X → Bool) (xs : List X) → ((x : X) → Contains xs x → p x ≡ true) → list_all p xs ≡ true
+pub all_made : {X : Type 0} (p : X → Bool) (xs : List X) → ((x : X) → Contains xs x → p x ≡ true) → list_all p xs ≡ true
 all_made p [] h = refl
 all_made p (x ∷ xs) h = of_both _ _ (h x (Contains-first x xs)) (all_made p xs (λ y c. h y (Contains-later x y xs c)))
 
-any_in : {X : Type 0} (p : X → Bool) (xs : List X) → list_any p xs ≡ true → (x : X) × Contains xs x × (p x ≡ true)
+pub any_in : {X : Type 0} (p : X → Bool) (xs : List X) → list_any p xs ≡ true → (x : X) × Contains xs x × (p x ≡ true)
 any_in p [] h = absurd cc
 any_in p (x ∷ xs) h = elim (cases_Bool (p x)) [
   | inl hit ↦ (x, Contains-first x xs, hit)
@@ -80,7 +80,7 @@ any_in p (x ∷ xs) h = elim (cases_Bool (p x)) [
       (there.0, Contains-later x there.0 xs there.1, there.2)
 ]
 
-any_made : {X : Type 0} (p : X → Bool) (xs : List X) (x : X) → Contains xs x → p x ≡ true → list_any p xs ≡ true
+pub any_made : {X : Type 0} (p : X → Bool) (xs : List X) (x : X) → Contains xs x → p x ≡ true → list_any p xs ≡ true
 any_made p xs x c h = at xs c.0 c.1 c.2
   where
     at : (xs : List _) (k : ℕ) → k < length xs → get_or xs k x ≡ x → list_any p xs ≡ true
@@ -88,7 +88,7 @@ any_made p xs x c h = at xs c.0 c.1 c.2
     at (y ∷ ys) zero lt is = let here : p y ≡ true = ap p is ∙ h in rw here refl
     at (y ∷ ys) (suc k) lt is = elim (cases_Bool (p y)) [ inl hit ↦ rw hit refl | inr miss ↦ rw miss (at ys k (omega arith) is) ]
 
-below_in : (k : ℕ) (p : ℕ → Bool) (t : ℕ) → all_below k p ≡ true → t < k → p t ≡ true
+pub below_in : (k : ℕ) (p : ℕ → Bool) (t : ℕ) → all_below k p ≡ true → t < k → p t ≡ true
 below_in zero p t h lt = absurd (omega arith)
 below_in (suc k) p t h lt =
     let parts = both_of (all_below k p) (p k) h in
@@ -97,11 +97,11 @@ below_in (suc k) p t h lt =
       | inr more ↦ let is : k ≡ t = omega arith in ap p (sym is) ∙ parts.1
     ]
 
-below_made : (k : ℕ) (p : ℕ → Bool) → ((t : ℕ) → t < k → p t ≡ true) → all_below k p ≡ true
+pub below_made : (k : ℕ) (p : ℕ → Bool) → ((t : ℕ) → t < k → p t ≡ true) → all_below k p ≡ true
 below_made zero p h = refl
 below_made (suc k) p h = of_both _ _ (below_made k p (λ t lt. h t (omega arith))) (h k (omega arith))
 
-from_in : (n k : ℕ) (p : ℕ → Bool) → any_from n k p ≡ true → (t : ℕ) × (n ≤ t) × (t < n + k) × (p t ≡ true)
+pub from_in : (n k : ℕ) (p : ℕ → Bool) → any_from n k p ≡ true → (t : ℕ) × (n ≤ t) × (t < n + k) × (p t ≡ true)
 from_in n zero p h = absurd cc
 from_in n (suc k) p h = elim (cases_Bool (p n)) [
   | inl hit ↦ (n, omega arith, omega arith, hit)
@@ -111,7 +111,7 @@ from_in n (suc k) p h = elim (cases_Bool (p n)) [
       (there.0, omega (arith, there.1), omega (arith, there.2), there.3)
 ]
 
-from_made : (n k : ℕ) (p : ℕ → Bool) (t : ℕ) → n ≤ t → t < n + k → p t ≡ true → any_from n k p ≡ true
+pub from_made : (n k : ℕ) (p : ℕ → Bool) (t : ℕ) → n ≤ t → t < n + k → p t ≡ true → any_from n k p ≡ true
 from_made n zero p t low high h = absurd (omega arith)
 from_made n (suc k) p t low high h = elim (cases_Bool (p n)) [
   | inl hit ↦ rw hit refl
@@ -121,29 +121,29 @@ from_made n (suc k) p t low high h = elim (cases_Bool (p n)) [
   ])
 ]
 
-number_is : (o : Option ℕ) (n : ℕ) → is_number o n ≡ true → o ≡ Some n
+pub number_is : (o : Option ℕ) (n : ℕ) → is_number o n ≡ true → o ≡ Some n
 number_is None n h = absurd cc
 number_is (Some k) n h = ap Some (eqb-true k n h)
 
-is_the_number : (o : Option ℕ) (n : ℕ) → o ≡ Some n → is_number o n ≡ true
+pub is_the_number : (o : Option ℕ) (n : ℕ) → o ≡ Some n → is_number o n ≡ true
 is_the_number o n h = rw h (eq-eqb n n refl)
 
 module _ (m : Meaning) (set : Set) where
   -- constraints
-  met_in : (rows : List Row) → meets_constraints m set rows ≡ true → (rule : Rule) (t : ℕ) → Contains set.constraints rule → t + m.largest rule.formula < length rows → holds m rule.formula (drop t rows) ≡ true
+  pub met_in : (rows : List Row) → meets_constraints m set rows ≡ true → (rule : Rule) (t : ℕ) → Contains set.constraints rule → t + m.largest rule.formula < length rows → holds m rule.formula (drop t rows) ≡ true
   met_in rows h rule t member fits =
       below_in (length rows - m.largest rule.formula) (λ t. holds m rule.formula (drop t rows)) t (all_in (λ (rule : Rule). all_below (length rows - m.largest rule.formula) (λ t. holds m rule.formula (drop t rows))) set.constraints rule h member) (omega (arith, fits))
 
-  met_made : (rows : List Row) → ((rule : Rule) (t : ℕ) → Contains set.constraints rule → t + m.largest rule.formula < length rows → holds m rule.formula (drop t rows) ≡ true) → meets_constraints m set rows ≡ true
+  pub met_made : (rows : List Row) → ((rule : Rule) (t : ℕ) → Contains set.constraints rule → t + m.largest rule.formula < length rows → holds m rule.formula (drop t rows) ≡ true) → meets_constraints m set rows ≡ true
   met_made rows h = all_made _ set.constraints (λ rule member. below_made (length rows - m.largest rule.formula) (λ t. holds m rule.formula (drop t rows)) (λ t lt. h rule t member (omega (arith, lt))))
 
-  starts_in : (p : ℕ) (rows : List Row) → starts m set p rows ≡ true → Starts m set p rows
+  pub starts_in : (p : ℕ) (rows : List Row) → starts m set p rows ≡ true → Starts m set p rows
   starts_in p rows h = let parts = both_of (assumed m set p rows) (committed m set p rows) h in record { assumes = parts.0; commits = parts.1 }
 
-  starts_made : (p : ℕ) (rows : List Row) → Starts m set p rows → starts m set p rows ≡ true
+  pub starts_made : (p : ℕ) (rows : List Row) → Starts m set p rows → starts m set p rows ≡ true
   starts_made p rows s = of_both _ _ s.assumes s.commits
 
-  hands_in : (p : ℕ) (xs ys : List Row) → same_hands m set p xs ys ≡ true → SameHands m set p xs ys
+  pub hands_in : (p : ℕ) (xs ys : List Row) → same_hands m set p xs ys ≡ true → SameHands m set p xs ys
   hands_in p xs ys h = λ k d lt. eqb-true _ _ (all_in (λ (e : Expr). m.value e xs == m.value e ys) (property_at set p).hand _ h (k, lt, same_at _ k d lt))
     where
       same_at : (es : List Expr) (k : ℕ) (d : Expr) → k < length es → get_or es k (get_or es k d) ≡ get_or es k d
@@ -151,15 +151,15 @@ module _ (m : Meaning) (set : Set) where
       same_at (e ∷ es) zero d lt = refl
       same_at (e ∷ es) (suc k) d lt = same_at es k d (omega arith)
 
-  hands_made : (p : ℕ) (xs ys : List Row) → SameHands m set p xs ys → same_hands m set p xs ys ≡ true
+  pub hands_made : (p : ℕ) (xs ys : List Row) → SameHands m set p xs ys → same_hands m set p xs ys ≡ true
   hands_made p xs ys s = all_made _ (property_at set p).hand (λ e c. eq-eqb _ _ (subst (λ (f : Expr). m.value f xs ≡ m.value f ys) c.2 (s c.0 e c.1)))
 
-  opens_in : (p end : ℕ) (rows : List Row) → length rows ≡ end + 1 → IsTrace set rows → opens m set p rows ≡ true → IsWindow m set end rows × Starts m set p rows
+  pub opens_in : (p end : ℕ) (rows : List Row) → length rows ≡ end + 1 → IsTrace set rows → opens m set p rows ≡ true → IsWindow m set end rows × Starts m set p rows
   opens_in p end rows size trace h =
       let parts = both_of (meets_constraints m set rows) (starts m set p rows) h in
       (record { size = size; constrained = record { trace = trace; met = met_in rows parts.0 } }, starts_in p rows parts.1)
 
-  opens_made : (p end : ℕ) (rows : List Row) → IsWindow m set end rows → Starts m set p rows → opens m set p rows ≡ true
+  pub opens_made : (p end : ℕ) (rows : List Row) → IsWindow m set end rows → Starts m set p rows → opens m set p rows ≡ true
   opens_made p end rows w s = of_both _ _ (met_made rows w.constrained.met) (starts_made p rows s)
 
   module _ (e : Naming) where
@@ -189,7 +189,7 @@ module _ (m : Meaning) (set : Set) where
     pair_to_made p n end xs ys to = of_both _ _ (of_both _ _ (pair_made p end xs ys to.pair) (is_the_number _ n to.first_ends)) (is_the_number _ n to.second_ends)
 
   -- an offset that is found is one of those that were looked at
-  offset_within : (e : Expr) (rows : List Row) (n k j : ℕ) → first_offset m e rows n k ≡ Some j → (n ≤ j) × (j < n + k)
+  pub offset_within : (e : Expr) (rows : List Row) (n k j : ℕ) → first_offset m e rows n k ≡ Some j → (n ≤ j) × (j < n + k)
   offset_within e rows n zero j is = absurd cc
   offset_within e rows n (suc k) j is = elim (cases_Bool (holds m e (drop n rows))) [
     | inl hit ↦
@@ -203,7 +203,7 @@ module _ (m : Meaning) (set : Set) where
   ]
 
   -- an end is one of those that the length allows
-  end_within : (span : Length) (until : Option Expr) (rows : List Row) (n : ℕ) → span.low ≤ span.high → end_until m span until rows ≡ Some n → (span.low ≤ n) × (n < span.low + (suc span.high - span.low))
+  pub end_within : (span : Length) (until : Option Expr) (rows : List Row) (n : ℕ) → span.low ≤ span.high → end_until m span until rows ≡ Some n → (span.low ≤ n) × (n < span.low + (suc span.high - span.low))
   end_within span None rows n order h = let is : span.low ≡ n = cc in (omega arith, omega arith)
   end_within span (Some e) rows n order h = offset_within e rows span.low (suc span.high - span.low) n h
 
@@ -215,7 +215,7 @@ module _ (m : Meaning) (set : Set) where
   end_in : (p : ℕ) (test : ℕ → Bool) → any_end set p test ≡ true → (n : ℕ) × (test n ≡ true)
   end_in p test h = let there = from_in (property_at set p).length.low (suc (property_at set p).length.high - (property_at set p).length.low) test h in (there.0, there.3)
 
-  determined_in : (o : ℕ) (xs ys : List Row) → determined m set o xs ys ≡ true → IsDetermined m set o xs ys
+  pub determined_in : (o : ℕ) (xs ys : List Row) → determined m set o xs ys ≡ true → IsDetermined m set o xs ys
   determined_in o xs ys h =
       let parts = both_of (same (in_domain m set o xs) (in_domain m set o ys)) (not (in_domain m set o xs) || value_of o xs == value_of o ys) h in
       record {
@@ -223,7 +223,7 @@ module _ (m : Meaning) (set : Set) where
         values = λ inside. let equal : (value_of o xs == value_of o ys) ≡ true = rw inside at parts.1 in eqb-true _ _ equal;
       }
 
-  determined_made : (o : ℕ) (xs ys : List Row) → IsDetermined m set o xs ys → determined m set o xs ys ≡ true
+  pub determined_made : (o : ℕ) (xs ys : List Row) → IsDetermined m set o xs ys → determined m set o xs ys ≡ true
   determined_made o xs ys d =
       of_both (same (in_domain m set o xs) (in_domain m set o ys)) (not (in_domain m set o xs) || value_of o xs == value_of o ys) (rw d.domains (same_refl (in_domain m set o ys))) (elim (cases_Bool (in_domain m set o xs)) [
         | inl inside ↦ rw inside (eq-eqb _ _ (d.values inside))

@@ -102,7 +102,7 @@ same_at [] i d x lt = absurd (omega arith)
 same_at (y ∷ ys) zero d x lt = refl
 same_at (y ∷ ys) (suc i) d x lt = same_at ys i d x (omega arith)
 
-property_later : (set : Set) (at : ℕ) (x : Property) → 0 < at → at ≤ length set.operations → x ≡ get_or set.operations (at - 1) x → property_at set at ≡ x
+pub property_later : (set : Set) (at : ℕ) (x : Property) → 0 < at → at ≤ length set.operations → x ≡ get_or set.operations (at - 1) x → property_at set at ≡ x
 property_later set zero x lt le is = absurd (omega arith)
 property_later set (suc i) x lt le is =
     let before : suc i - 1 ≡ i = omega arith in

@@ -1,0 +1,4 @@
+mod Tracing
+mod Undivided
+mod Properties
+mod Exact

@@ -1,0 +1,12 @@
+use Rattle.std.proofs.Common.{refl, ◌≡◌, ℕ, false, subst, sym}
+use Rattle.line_judge.specs.Judging.{IsSized}
+use Rattle.line_judge.proofs.Exact.{answered, refused, end_sized, end_exact}
+use Rattle.line_judge.proofs.judge.violates_end.Goals as goal
+
+pub returns-then-not-is_sized : goal.returns-then-not-is_sized
+returns-then-not-is_sized c =
+    let missed : c.is_sized.result ≡ false = cc in
+    refused c.is_sized.result _ _ c.is_sized.ensures missed (λ v. subst (λ (k : ℕ). IsSized c.args.set.now k c.args.rows.now) (sym c.window-end.ensures.window) (end_sized c.args.set.now c.args.at c.args.rows.now v))
+
+pub returns : goal.returns
+returns c = answered _ _ _ c.in_ok-endless.ensures (end_exact c.args.set.now c.args.at c.args.rows.now (subst (λ (k : ℕ). IsSized c.args.set.now k c.args.rows.now) c.window-end.ensures.window (c.if-not-is_sized.ensures.0 refl)))

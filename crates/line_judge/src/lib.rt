@@ -1,0 +1,10 @@
+//! A plain program that says whether windows violate a line of a set: the judge of the circuits that say it for all windows at once.
+#![tactic(auto)]
+
+mod formula;
+mod judge;
+mod property;
+mod trace;
+
+pub use formula::{formula_value, holds};
+pub use judge::{is_constrained, is_violated};
