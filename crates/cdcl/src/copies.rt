@@ -25,7 +25,7 @@ impl Model for Packed {
 
 impl Packed {
     /// The literal in 32 bits. A variable that doesn't fit counts as want of memory: so many want more than 200 GB.
-    fn of(lit: Lit) -> Result<Packed, AllocError>
+    pub fn of(lit: Lit) -> Result<Packed, AllocError>
         ensures { IfOk result (λ p. p ≡ lit) }
     {
         if lit.var >= TOO_MANY {
