@@ -6,7 +6,7 @@ use Rattle.clause_check.specs.declared.formula.Step.{Step}
 use Rattle.clause_check.specs.declared.formula.Cnf.{Cnf}
 use Rattle.clause_check.specs.Clauses.{negated}
 use Rattle.clause_check.specs.Looks.{Shows, value_of}
-use Rattle.clause_check.specs.Derivations.{clause_at, clauses_of}
+use Rattle.clause_check.specs.Derivations.{clause_at, clauses_of, IsClauseAt}
 use Rattle.clause_check.proofs.Members.{negated-negated}
 use Rattle.clause_check.proofs.RefuteLemmas.{length-clauses_of, clause_of_input, cases_lit}
 use Rattle.cdcl.specs.declared.trail.Entry.{Entry}
@@ -21,6 +21,7 @@ use Rattle.cdcl.specs.Trails.{lits_of, IsTrail}
 use Rattle.cdcl.specs.Search.{IsLesson, LastLevel}
 use Rattle.cdcl.specs.Solvers.{Stands, Chooses, Forces, Jumps, IsComplete}
 use Rattle.cdcl.specs.Lists.{IsRoomFor, list_at, listed}
+use Rattle.cdcl.specs.Copying.{IsCopied}
 use Rattle.cdcl.specs.Watching.{IsTrueAt, IsKept, IsWatchOf, IsTable, IsPropagated}
 use Rattle.cdcl.specs.Turns.{IsPart, IsSolver, Begins, IsLearntWatch, IsLost, Learns, WatchesMore}
 use Rattle.cdcl.proofs.EndLemmas.{value_cases}
@@ -28,15 +29,23 @@ use Rattle.cdcl.proofs.FollowLemmas.{same_place}
 use Rattle.cdcl.proofs.LearnLemmas.{trail_consistent}
 use Rattle.cdcl.proofs.SearchLemmas.{clauses_push}
 use Rattle.cdcl.proofs.TrailLemmas.{avoids_from_free, place_of_lit, contains_at}
+use Rattle.cdcl.proofs.CopyLemmas.{copied_push, copied_among, copied_none}
 use Rattle.cdcl.proofs.TableLemmas.{each_pushed, table_push, room_for}
 use Rattle.cdcl.proofs.WatchLemmas.{Cases, met_from_kept, contains_true, true_at, kept_assigned, kept_decided, kept_cut, kept_learnt}
 use Rattle.cdcl.proofs.VisitSteps.{clauses_in, along, part_force}
 
 -- one more clause is watched
-pub watches_more : (cnf : Cnf) (s : Solver) (w : Watch) (ws : Watches) → IsPart cnf s → IsWatchOf (clause_at (clauses_in cnf s) (length s.watches.watched.items)) w → w.first.var < cnf.vars → w.second.var < cnf.vars → IsKept (clause_at (clauses_in cnf s) (length s.watches.watched.items)) s.search.trail.entries s.search.starts.items s.next w → ws.watched.items ≡ s.watches.watched.items ++ w ∷ [] → ws.lists ≡ listed (listed s.watches.lists w.first (length s.watches.watched.items)) w.second (length s.watches.watched.items) → WatchesMore cnf s (record { search = s.search; watches = ws; next = s.next })
-watches_more cnf s w ws p is first second kept hw hl =
+pub watches_more : (cnf : Cnf) (s : Solver) (w : Watch) (ws : Watches) (clause : List Lit) → IsPart cnf s → IsWatchOf (clause_at (clauses_in cnf s) (length s.watches.watched.items)) w → w.first.var < cnf.vars → w.second.var < cnf.vars → IsKept (clause_at (clauses_in cnf s) (length s.watches.watched.items)) s.search.trail.entries s.search.starts.items s.next w → ws.watched.items ≡ s.watches.watched.items ++ w ∷ [] → ws.lists ≡ listed (listed s.watches.lists w.first (length s.watches.watched.items)) w.second (length s.watches.watched.items) → IsClauseAt cnf.vars (clauses_in cnf s) (length s.watches.watched.items) clause → ws.copies.lits.items ≡ s.watches.copies.lits.items ++ clause → ws.copies.bounds.items ≡ s.watches.copies.bounds.items ++ length ws.copies.lits.items ∷ [] → WatchesMore cnf s (record { search = s.search; watches = ws; next = s.next })
+watches_more cnf s w ws clause p is first second kept hw hl at hlits hbounds =
     let clauses = clauses_in cnf s in let watched = s.watches.watched.items in let n = length watched in
     let room : (l : Lit) → l.var < cnf.vars → IsRoomFor s.watches.lists l = room_for clauses cnf.vars watched s.watches.lists p.table in
+    let lits = s.watches.copies.lits.items ++ clause in
+    let count : length ws.watched.items ≡ n + 1 = ap length hw ∙ length_push watched w in
+    let bounds : ws.copies.bounds.items ≡ s.watches.copies.bounds.items ++ length lits ∷ [] = hbounds ∙ ap (λ (xs : List Lit). s.watches.copies.bounds.items ++ length xs ∷ []) hlits in
+    let copied_more : IsCopied cnf.vars clauses (length ws.watched.items) ws.copies.lits.items ws.copies.bounds.items =
+    subst (λ c. IsCopied cnf.vars clauses c ws.copies.lits.items ws.copies.bounds.items) (sym count)
+    (subst (λ xs. IsCopied cnf.vars clauses (n + 1) xs ws.copies.bounds.items) (sym hlits)
+    (subst (IsCopied cnf.vars clauses (n + 1) lits) (sym bounds) (copied_push cnf.vars clauses n s.watches.copies.lits.items s.watches.copies.bounds.items clause p.copied at))) in
     record {
       part = record {
         search = p.search;
@@ -47,6 +56,7 @@ watches_more cnf s w ws p is first second kept hw hl =
               reached = p.propagated.reached;
               level = p.propagated.level;
             });
+        copied = copied_more;
       };
       search = refl;
       next = refl;
@@ -92,6 +102,7 @@ part_decide cnf s f is over h =
       part = record {
         search = h.stands;
         table = subst (λ c. IsTable c cnf.vars s.watches.watched.items s.watches.lists) (sym same) is.part.table;
+        copied = subst (λ c. IsCopied cnf.vars c (length s.watches.watched.items) s.watches.copies.lits.items s.watches.copies.bounds.items) (sym same) is.part.copied;
         propagated = record {
           kept = λ k d lt.
               along (λ c x y. IsKept (clause_at c k) x y s.next (get_or s.watches.watched.items k d)) (clauses_in cnf s) (clauses_of cnf.clauses.items f.steps.items) (entries ++ e ∷ []) f.trail.entries (starts ++ length entries ∷ []) f.starts.items same h.entries h.starts
@@ -176,6 +187,11 @@ module _ (cnf : Cnf) (s : Solver) (is : IsSolver cnf s) (l : Learnt) (last : Las
         numbers = t'.numbers;
       })
 
+  copied_jumped : IsCopied cnf.vars (clauses_in cnf jumped) (length watched) s.watches.copies.lits.items s.watches.copies.bounds.items
+  copied_jumped =
+      subst (λ c. IsCopied cnf.vars c (length watched) s.watches.copies.lits.items s.watches.copies.bounds.items) (sym same_clauses)
+      (copied_among cnf.vars clauses (clauses ++ l.step.clause ∷ []) (length watched) s.watches.copies.lits.items s.watches.copies.bounds.items (omega (arith, length_push clauses l.step.clause)) clause_still is.part.copied)
+
   levels : (i : ℕ) → i < length (take j.keep starts) → (get_or (take j.keep starts) i 0 < l.bound) × (get_or (take j.keep starts) i 0 ≤ t)
   levels i lt =
       let k : i < j.keep = omega (arith, length-take j.keep starts) in
@@ -189,6 +205,7 @@ module _ (cnf : Cnf) (s : Solver) (is : IsSolver cnf s) (l : Learnt) (last : Las
       record {
         search = j.stands;
         table = table_jumped;
+        copied = copied_jumped;
         propagated = subst (λ n. IsPropagated (clauses_in cnf jumped) f.trail.entries f.starts.items n watched) (sym next_is)
             (record {
               kept = λ k d lt.
@@ -386,8 +403,8 @@ one_of_one c d len m h =
     let z : h.0 ≡ 0 = omega arith in
     sym h.2 ∙ (ap (λ n. get_or c n m) z ∙ get_or_default c 0 m d (omega arith))
 
-pub begins_new : (cnf : Cnf) (s : Search) (ws : Watches) → Stands cnf s → length s.steps.items ≡ 0 → length s.starts.items ≡ 0 → ws.watched.items ≡ [] → length ws.lists ≡ 2 * cnf.vars → ((l : Lit) → length (list_at ws.lists l) ≡ 0) → Begins cnf 0 (record { search = s; watches = ws; next = 0 })
-begins_new cnf s ws stands steps starts watched room empty =
+pub begins_new : (cnf : Cnf) (s : Search) (ws : Watches) → Stands cnf s → length s.steps.items ≡ 0 → length s.starts.items ≡ 0 → ws.watched.items ≡ [] → length ws.lists ≡ 2 * cnf.vars → ((l : Lit) → length (list_at ws.lists l) ≡ 0) → ws.copies.lits.items ≡ [] → ws.copies.bounds.items ≡ 0 ∷ [] → Begins cnf 0 (record { search = s; watches = ws; next = 0 })
+begins_new cnf s ws stands steps starts watched room empty lits bounds =
     let none : length ws.watched.items ≡ 0 = ap length watched in
     record {
       part = record {
@@ -405,6 +422,9 @@ begins_new cnf s ws stands steps starts watched room empty =
           reached = omega arith;
           level = λ i lt. absurd (omega (arith, starts));
         };
+        copied =
+            subst (λ n. IsCopied cnf.vars (clauses_of cnf.clauses.items s.steps.items) n ws.copies.lits.items ws.copies.bounds.items) (sym none)
+            (copied_none cnf.vars (clauses_of cnf.clauses.items s.steps.items) ws.copies.lits.items ws.copies.bounds.items lits bounds);
       };
       watched = none;
       starts = starts;

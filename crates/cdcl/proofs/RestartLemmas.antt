@@ -9,6 +9,7 @@ use Rattle.cdcl.specs.declared.watches.Watch.{Watch}
 use Rattle.cdcl.specs.declared.solver.Solver.{Solver}
 use Rattle.cdcl.specs.Solvers.{Restarts}
 use Rattle.cdcl.specs.Turns.{IsSolver, Returns}
+use Rattle.cdcl.specs.Copying.{IsCopied}
 use Rattle.cdcl.specs.Watching.{IsKept, IsTable, IsPropagated}
 use Rattle.cdcl.proofs.WatchLemmas.{kept_cut}
 use Rattle.cdcl.proofs.VisitSteps.{clauses_in, along}
@@ -46,6 +47,7 @@ module _ (cnf : Cnf) (s : Solver) (is : IsSolver cnf s) (some : 0 < length s.sea
           part = record {
             search = j.stands;
             table = subst (λ c. IsTable c cnf.vars watched s.watches.lists) (sym same) is.part.table;
+            copied = subst (λ c. IsCopied cnf.vars c (length watched) s.watches.copies.lits.items s.watches.copies.bounds.items) (sym same) is.part.copied;
             propagated = subst (λ n. IsPropagated (clauses_in cnf restarted) f.trail.entries f.starts.items n watched) (sym next_is)
                 (record {
                   kept = λ k d lt.

@@ -233,6 +233,10 @@ pub both_ok : {A E P Q R : Type 0} (r : Result A E) → OnOk r P → OnOk r Q �
 both_ok (Ok x) p q f = f p q
 both_ok (Err e) p q f = tt
 
+pub all_ok : {A E P Q R S T : Type 0} (r : Result A E) → OnOk r P → OnOk r Q → OnOk r R → OnOk r S → (P → Q → R → S → T) → OnOk r T
+all_ok (Ok x) p q r s f = f p q r s
+all_ok (Err e) p q r s f = tt
+
 -- the trail before the first choice
 module _ (cnf : Cnf) (vars : ℕ) (entries : List Entry) (starts : List ℕ) (steps : List Step) (s : IsSearch cnf vars entries starts steps) (some : 0 < length starts) where
   abbrev root : ℕ

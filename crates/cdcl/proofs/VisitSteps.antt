@@ -11,12 +11,14 @@ use Rattle.clause_check.proofs.Members.{negated-negated}
 use Rattle.cdcl.specs.declared.trail.Entry.{Entry}
 use Rattle.cdcl.specs.declared.search.Search.{Search}
 use Rattle.cdcl.specs.declared.watches.Watch.{Watch}
+use Rattle.cdcl.specs.declared.copies.Copies.{Copies}
 use Rattle.cdcl.specs.declared.watches.Watches.{Watches}
 use Rattle.cdcl.specs.declared.solver.Solver.{Solver}
 use Rattle.cdcl.specs.Trails.{lits_of, IsTrail}
 use Rattle.cdcl.specs.Solvers.{Forces}
 use Rattle.cdcl.specs.Leaving.{Leaves}
 use Rattle.cdcl.specs.Lists.{IsWaiting, IsRoomFor, list_at, listed, unlisted}
+use Rattle.cdcl.specs.Copying.{IsCopyOf, IsCopied}
 use Rattle.cdcl.specs.Watching.{IsTrueAt, IsKept, IsWatchOf, IsTable, IsPropagated}
 use Rattle.cdcl.specs.Turns.{Rests, Moves, IsPart, IsSolver, Advances, Visits}
 use Rattle.cdcl.proofs.ListLemmas.{waiting_step, waiting_removed, list_other, list_same, cases_lit, room_still}
@@ -82,6 +84,9 @@ module _ (cnf : Cnf) (old : Solver) (denied : Lit) (i : ℕ) (s : Solver) (v : V
 
   pub number_known : number < length watched
   number_known = subst (λ n. n < length watched) (sym at) (table.numbers denied i lt)
+
+  pub copy_of : IsCopyOf cnf.vars clauses s.watches.copies.lits.items s.watches.copies.bounds.items number
+  copy_of = v.advances.is.part.copied.each number number_known
 
   pub number_in_range : number < length clauses
   number_in_range = omega (arith, number_known, v.advances.is.whole)
@@ -167,7 +172,7 @@ module _ (cnf : Cnf) (old : Solver) (denied : Lit) (i : ℕ) (s : Solver) (v : V
     moved : IsKept (clause_at clauses number) s.search.trail.entries s.search.starts.items (s.next + 1) m
     moved = kept_moved (clause_at clauses number) s.search.trail.entries s.search.starts.items s.next propagated.level denied v.here cnf.vars (subst (λ n. IsTrail n s.search.trail.entries) v.advances.is.part.search.vars_are trail) w m h kept_w
 
-    module _ (ws : Watches) (hw : ws.watched.items ≡ set watched number m) (hl : ws.lists ≡ unlisted mid denied i) where
+    module _ (ws : Watches) (hw : ws.watched.items ≡ set watched number m) (hl : ws.lists ≡ unlisted mid denied i) (hc : ws.copies ≡ s.watches.copies) where
       abbrev after : Solver
       after = record { search = s.search; watches = ws; next = s.next }
 
@@ -186,6 +191,11 @@ module _ (cnf : Cnf) (old : Solver) (denied : Lit) (i : ℕ) (s : Solver) (v : V
             level = propagated.level;
           })
 
+      copied_after : IsCopied cnf.vars clauses (length ws.watched.items) ws.copies.lits.items ws.copies.bounds.items
+      copied_after =
+          subst (λ n. IsCopied cnf.vars clauses n ws.copies.lits.items ws.copies.bounds.items) (sym (ap length hw ∙ length-set watched number m))
+          (subst (λ (x : Copies). IsCopied cnf.vars clauses (length watched) x.lits.items x.bounds.items) (sym hc) v.advances.is.part.copied)
+
       denied_after : list_at ws.lists denied ≡ swap_remove (list_at s.watches.lists denied) i 0
       denied_after =
           ap (λ ls. list_at ls denied) hl
@@ -200,7 +210,7 @@ module _ (cnf : Cnf) (old : Solver) (denied : Lit) (i : ℕ) (s : Solver) (v : V
           record {
             advances = record {
               is = record {
-                part = record { search = v.advances.is.part.search; table = table_after; propagated = propagated_after };
+                part = record { search = v.advances.is.part.search; table = table_after; propagated = propagated_after; copied = copied_after };
                 whole = ap length hw ∙ (length-set watched number m ∙ v.advances.is.whole);
               };
               starts = v.advances.starts;
@@ -247,6 +257,7 @@ module _ (cnf : Cnf) (s : Solver) (l : Lit) (number : ℕ) (f : Search) (h : For
       record {
         search = h.stands;
         table = subst (λ c. IsTable c cnf.vars s.watches.watched.items s.watches.lists) (sym same_clauses) p.table;
+        copied = subst (λ c. IsCopied cnf.vars c (length s.watches.watched.items) s.watches.copies.lits.items s.watches.copies.bounds.items) (sym same_clauses) p.copied;
         propagated = record {
           kept = λ k d lt. still s.next k (get_or s.watches.watched.items k d) p.propagated.reached (p.propagated.kept k d lt);
           reached = let r = p.propagated.reached in omega (arith, longer);
@@ -298,6 +309,7 @@ visits_end cnf old denied i s v over =
         part = record {
           search = p.search;
           table = p.table;
+          copied = p.copied;
           propagated = record {
             kept = λ k d lt. elim (v.done k d lt) [ inl kept ↦ kept | inr waits ↦ let le = waits.1 in let inside = waits.2 in absurd (omega arith) ];
             reached = let w = v.within in omega arith;

@@ -2,6 +2,7 @@
 #![tactic(auto)]
 
 mod conflict;
+mod copies;
 mod laws;
 mod learn;
 mod lists;

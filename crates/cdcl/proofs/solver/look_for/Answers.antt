@@ -1,4 +1,5 @@
-use Rattle.std.proofs.Common.{false, ◌≡◌, ◌<◌, Contains, get_or, subst, sym, inl, inr}
+use Rattle.std.proofs.Common.{false, ◌≡◌, ◌≢◌, ◌∙◌, ◌<◌, Contains, get_or, subst, sym, inl, inr}
+use Rattle.std.proofs.lemmas.List.{get_or_default}
 use Rattle.std.proofs.lemmas.List.Elements.{All-contains}
 use Rattle.clause_check.specs.declared.literal.Lit.{Lit}
 use Rattle.clause_check.specs.Clauses.{negated}
@@ -21,25 +22,26 @@ returns-then-is_true c =
 pub returns-in-Some-find_other : goal.returns-in-Some-find_other
 returns-in-Some-find_other c =
     let s = c.args.search.now in
-    let at = subst (λ b. IsClauseAt c.args.cnf.now.vars (clauses_of c.args.cnf.now.clauses.items b) c.args.number c.clause_at-clause.result.now) c.as_slice.ensures.value c.clause_at-clause.ensures in
+    let at = subst (IsClauseAt c.args.cnf.now.vars (clauses_of c.args.cnf.now.clauses.items s.steps.items) c.args.number) (sym c.clause-clause.ensures) c.requires.copied.clause in
     let found = c.in-Some-find_other.ensures in
-    let clause = c.clause_at-clause.result.now in
+    let clause = c.clause-clause.result.now in
     let first = get_or clause c.in-Some-find_other.place z in
     let among = contains_place clause c.in-Some-find_other.place z found.within in
+    let is : c.lit-first.result ≡ first = c.lit-first.ensures ∙ (c.index-clause-place.is ∙ get_or_default clause c.in-Some-find_other.place c.index-clause-place.result z found.within) in
     record {
       leaves = c.in-Some.ensures;
-      in_range = All-contains (λ (l : Lit). l.var < c.args.cnf.now.vars) clause first at.in_range among;
-      among = subst (λ k. Contains k first) at.is among;
-      apart = found.apart z;
-      not_false = λ h. found.not_false z (known_false c.values-values.result.now (lits_of s.trail.entries) c.values-values.ensures.shows first h);
+      in_range = subst (λ (l : Lit). l.var < c.args.cnf.now.vars) (sym is) (All-contains (λ (l : Lit). l.var < c.args.cnf.now.vars) clause first at.in_range among);
+      among = subst (Contains (clause_at (clauses_of c.args.cnf.now.clauses.items s.steps.items) c.args.number)) (sym is) (subst (λ k. Contains k first) at.is among);
+      apart = subst (λ (l : Lit). l.var ≢ c.in-Some.other.var) (sym is) (found.apart z);
+      not_false = λ h. found.not_false z (known_false c.values-values.result.now (lits_of s.trail.entries) c.values-values.ensures.shows first (subst (λ l. Contains (lits_of s.trail.entries) (negated l)) is h));
     }
 
 pub returns-then-is_free : goal.returns-then-is_free
 returns-then-is_free c =
     let s = c.args.search.now in let other = c.in-Some.other in
     let values = c.values-values.result.now in let shows = c.values-values.ensures.shows in
-    let at = subst (λ b. IsClauseAt c.args.cnf.now.vars (clauses_of c.args.cnf.now.clauses.items b) c.args.number c.clause_at-clause.result.now) c.as_slice.ensures.value c.clause_at-clause.ensures in
-    let clause = c.clause_at-clause.result.now in
+    let at = subst (IsClauseAt c.args.cnf.now.vars (clauses_of c.args.cnf.now.clauses.items s.steps.items) c.args.number) (sym c.clause-clause.ensures) c.requires.copied.clause in
+    let clause = c.clause-clause.result.now in
     let among = among_leaves (clause_at (clauses_of c.args.cnf.now.clauses.items s.steps.items) c.args.number) c.args.denied c.args.watch other c.requires.watch c.in-Some.ensures in
     record {
       leaves = c.in-Some.ensures;
@@ -57,8 +59,8 @@ pub returns-else-is_free : goal.returns-else-is_free
 returns-else-is_free c =
     let s = c.args.search.now in let other = c.in-Some.other in
     let values = c.values-values.result.now in let shows = c.values-values.ensures.shows in
-    let at = subst (λ b. IsClauseAt c.args.cnf.now.vars (clauses_of c.args.cnf.now.clauses.items b) c.args.number c.clause_at-clause.result.now) c.as_slice.ensures.value c.clause_at-clause.ensures in
-    let clause = c.clause_at-clause.result.now in
+    let at = subst (IsClauseAt c.args.cnf.now.vars (clauses_of c.args.cnf.now.clauses.items s.steps.items) c.args.number) (sym c.clause-clause.ensures) c.requires.copied.clause in
+    let clause = c.clause-clause.result.now in
     let among = among_leaves (clause_at (clauses_of c.args.cnf.now.clauses.items s.steps.items) c.args.number) c.args.denied c.args.watch other c.requires.watch c.in-Some.ensures in
     record {
       known = at.known;
