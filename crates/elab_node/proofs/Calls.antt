@@ -8,6 +8,9 @@ use Rattle.vlog_tree.specs.Value.{IsDefined, HasConstantParts, width_of, sign_of
 use Rattle.word_core.specs.Words.{Bits}
 use Rattle.word_dag.specs.declared.node.Node.{Node}
 use Rattle.word_dag.specs.Adding.{Keeps}
+use Rattle.word_dag.specs.Nodes.{word_at}
+use Rattle.vlog_tree.specs.Valuation.{IsLength}
+use Rattle.elab_node.proofs.Whole.{own_wide}
 use Rattle.vlog_value.specs.Shapes.{HasShape}
 use Rattle.elab_node.specs.declared.leaves.Leaf.{Leaf}
 use Rattle.elab_node.specs.declared.nodes.Wire.{Wire}
@@ -41,3 +44,18 @@ pub holds_has : (ls : List Leaf) (old m new : List Node) (a : Expr) (w : Wire) (
     Makes new i 1 (λ e. bit (not (nat_eq (own_value (valued ls (words e old)) a) 0)))
 holds_has ls old m new a w s i ready keeps node made = made_same new i 1 _ _ made (λ e.
     ap (λ z. bit (not (nat_eq z 0))) ((node.word e).value ∙ ap (λ (z : List Entry). own_value z a) (valued_kept e ls old m keeps ready)))
+
+word_by : (b : Bits) (n x : ℕ) → b.width ≡ n → b.value ≡ x → b ≡ record { width = n; value = x }
+word_by b n x h k = λ r. let w : Bits = record { width = h r; value = k r } in w
+
+pub own_has : (ls : List Leaf) (old m : List Node) (a : Expr) (w : Wire) (s : Bool) → AreReady ls old → Keeps old m → HasConstantParts nothing a → HasOwnNode ls m m a w s → Makes m w.node (width_of (declared ls) a) (λ e. own_value (valued ls (words e old)) a)
+own_has ls old m a w s ready keeps constant node = record {
+  within = node.node.0;
+  wide = node.node.1 ∙ node.shape.width;
+  word = λ e.
+      word_by (word_at (words e m) w.node) (width_of (declared ls) a) (own_value (valued ls (words e old)) a) (sym (own_wide ls m m a w s constant node e) ∙ node.shape.width)
+      ((node.word e).value ∙ ap (λ (z : List Entry). own_value z a) (valued_kept e ls old m keeps ready));
+}
+
+pub own_length : (ls : List Leaf) (m : List Node) (a : Expr) (w : Wire) (s : Bool) → HasOwnNode ls m m a w s → IsLength (width_of (declared ls) a)
+own_length ls m a w s node = subst IsLength node.shape.width node.shape.length

@@ -17,4 +17,4 @@ mod reductions;
 mod tests;
 
 pub use leaves::{Leaf, Leaves};
-pub use node::{assigned_node, holds_node, node_of};
+pub use node::{assigned_node, holds_node, node_of, value_node};

@@ -1,6 +1,7 @@
 //! Expressions as nodes.
 ghost use Rattle.std.specs.Prelude.{◌≡◌, ◌≤◌, max, not, nat_eq, IfOk};
 ghost use Rattle.word_dag.specs.Adding.{Keeps};
+ghost use Rattle.vlog_tree.specs.Valuation.{IsLength};
 ghost use Rattle.vlog_tree.specs.Value.{IsFormed, IsDefined, HasConstantParts, width_of, sign_of, own_value, assigned, bit};
 ghost use Rattle.elab_node.specs.Leaves.{AreReady, declared, valued};
 ghost use Rattle.elab_node.specs.Nodes.{Makes, words};
@@ -231,6 +232,21 @@ pub fn assigned_node(
     };
     let number = slice(dag, wire, 0, width)?;
     Ok(number)
+}
+
+/// The node of an expression's own value, at its own length. It is refused for want of memory alone, and then the nodes that were there stay
+/// as they were.
+#[tactic(auto, using(crate::proofs::Kept::keeps_then, crate::proofs::Kept::ready_kept))]
+pub fn value_node(dag: &mut Dag, expr: &Expr, leaves: &Leaves) -> Result<u64, AllocError>
+    requires ready { AreReady leaves.now dag.old }
+    requires alone { IsAlone leaves.now expr.now }
+    ensures keeps { Keeps dag.old dag.new }
+    ensures ready { AreReady leaves.now dag.new }
+    ensures length { IfOk result (λ i. IsLength (width_of (declared leaves.now) expr.now)) }
+    ensures node { IfOk result (λ i. Makes dag.new i (width_of (declared leaves.now) expr.now) (λ e. own_value (valued leaves.now (words e dag.old)) expr.now)) }
+{
+    let own = own_node(dag, expr, leaves)?;
+    Ok(own.wire.node)
 }
 
 /// The node of a condition: one bit that is 1 exactly where the expression's own value isn't 0. It is refused for want of memory alone, and
