@@ -1,5 +1,5 @@
 -- What views into the text of a module stand for.
-use Rattle.std.specs.Prelude.{List, ℕ, Option, unwrap_or}
+use Rattle.std.specs.Prelude.{Option, unwrap_or}
 use Rattle.std.specs.Borrow.{Bor}
 use Rattle.std.specs.Option.{option_copied}
 use Rattle.vlog_tree.specs.declared.item.Assign.{Assign}

@@ -1,1 +1,3 @@
 pub mod Borrowed
+pub mod Finding
+pub mod Sides

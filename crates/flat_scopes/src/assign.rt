@@ -60,11 +60,11 @@ fn add_item_assigns<'a>(all: &mut Vec<Assigned<'a>>, item: &'a Item) -> Result<(
 }
 
 /// The continuous assignments of a module, in the order of its text. Refused only for want of memory.
-pub fn assigns_in(alloc: Global, module: &Module) -> Result<Vec<Assigned<'_>>, AllocError>
-    ensures { IfOk result (λ r. map assigned_meant r.items ≡ assigns_in module.now) }
+pub fn assigns_in(alloc: Global, text: &Module) -> Result<Vec<Assigned<'_>>, AllocError>
+    ensures { IfOk result (λ r. map assigned_meant r.items ≡ assigns_in text.now) }
 {
     let mut all = Vec::new(alloc);
-    for item in module.items.as_slice() {
+    for item in text.items.as_slice() {
         add_item_assigns(&mut all, item)?;
     }
     Ok(all)

@@ -28,11 +28,11 @@ fn add_item_blocks<'a>(all: &mut Vec<Block<'a>>, item: &'a Item) -> Result<(), A
 }
 
 /// The `always` blocks of a module, in the order of its text. Refused only for want of memory.
-pub fn blocks_in(alloc: Global, module: &Module) -> Result<Vec<Block<'_>>, AllocError>
-    ensures { IfOk result (λ r. map block_meant r.items ≡ blocks_in module.now) }
+pub fn blocks_in(alloc: Global, text: &Module) -> Result<Vec<Block<'_>>, AllocError>
+    ensures { IfOk result (λ r. map block_meant r.items ≡ blocks_in text.now) }
 {
     let mut all = Vec::new(alloc);
-    for item in module.items.as_slice() {
+    for item in text.items.as_slice() {
         add_item_blocks(&mut all, item)?;
     }
     Ok(all)

@@ -198,11 +198,11 @@ fn add_item_decls<'a>(all: &mut Vec<Decl<'a>>, item: &'a Item) -> Result<(), All
 }
 
 /// The declarations of signals in a module, in the order of its text. Refused only for want of memory.
-pub fn decls_in(alloc: Global, module: &Module) -> Result<Vec<Decl<'_>>, AllocError>
-    ensures { IfOk result (λ r. map decl_meant r.items ≡ decls_in module.now) }
+pub fn decls_in(alloc: Global, text: &Module) -> Result<Vec<Decl<'_>>, AllocError>
+    ensures { IfOk result (λ r. map decl_meant r.items ≡ decls_in text.now) }
 {
-    let mut all = listed(alloc, &module.ports)?;
-    for item in module.items.as_slice() {
+    let mut all = listed(alloc, &text.ports)?;
+    for item in text.items.as_slice() {
         add_item_decls(&mut all, item)?;
     }
     Ok(all)

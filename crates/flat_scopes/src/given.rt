@@ -72,14 +72,14 @@ pub fn given_to<'a>(
 
 fn open_names<'a>(
     alloc: Global,
-    module: &Module,
+    text: &Module,
     params: &[Param<'a>],
 ) -> Result<Vec<&'a Text>, AllocError>
-    ensures { IfOk result (λ r. map name_meant r.items ≡ map param_name (filter (is_open module.now) (map param_meant params.now))) }
+    ensures { IfOk result (λ r. map name_meant r.items ≡ map param_name (filter (is_open text.now) (map param_meant params.now))) }
 {
     let mut all = Vec::new(alloc);
     for param in params {
-        if is_open(module, param) {
+        if is_open(text, param) {
             all.push(param.name)?;
         }
     }
@@ -89,12 +89,12 @@ fn open_names<'a>(
 /// An instance's overrides, by the names of the parameters of its module that can be overridden. Refused only for want of memory.
 pub fn overriding<'a>(
     alloc: Global,
-    module: &'a Module,
+    text: &'a Module,
     args: &'a Option<Args>,
 ) -> Result<Vec<Given<'a>>, AllocError>
-    ensures { IfOk result (λ r. map given_meant r.items ≡ overriding module.now args.now) }
+    ensures { IfOk result (λ r. map given_meant r.items ≡ overriding text.now args.now) }
 {
-    let params = params_in(alloc, module)?;
-    let names = open_names(alloc, module, &params)?;
+    let params = params_in(alloc, text)?;
+    let names = open_names(alloc, text, &params)?;
     given_to(alloc, &names, args)
 }

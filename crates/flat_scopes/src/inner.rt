@@ -51,11 +51,11 @@ fn add_item_instances<'a>(all: &mut Vec<Inner<'a>>, item: &'a Item) -> Result<()
 }
 
 /// The instances of a module, in the order of its text. Refused only for want of memory.
-pub fn instances_in(alloc: Global, module: &Module) -> Result<Vec<Inner<'_>>, AllocError>
-    ensures { IfOk result (λ r. map inner_meant r.items ≡ instances_in module.now) }
+pub fn instances_in(alloc: Global, text: &Module) -> Result<Vec<Inner<'_>>, AllocError>
+    ensures { IfOk result (λ r. map inner_meant r.items ≡ instances_in text.now) }
 {
     let mut all = Vec::new(alloc);
-    for item in module.items.as_slice() {
+    for item in text.items.as_slice() {
         add_item_instances(&mut all, item)?;
     }
     Ok(all)

@@ -102,11 +102,11 @@ fn add_item_params<'a>(all: &mut Vec<Param<'a>>, item: &'a Item) -> Result<(), A
 }
 
 /// The parameters of a module, in the order of its text. Refused only for want of memory.
-pub fn params_in(alloc: Global, module: &Module) -> Result<Vec<Param<'_>>, AllocError>
-    ensures { IfOk result (λ r. map param_meant r.items ≡ params_in module.now) }
+pub fn params_in(alloc: Global, text: &Module) -> Result<Vec<Param<'_>>, AllocError>
+    ensures { IfOk result (λ r. map param_meant r.items ≡ params_in text.now) }
 {
-    let mut all = listed(alloc, &module.parameters)?;
-    for item in module.items.as_slice() {
+    let mut all = listed(alloc, &text.parameters)?;
+    for item in text.items.as_slice() {
         add_item_params(&mut all, item)?;
     }
     Ok(all)
@@ -114,8 +114,8 @@ pub fn params_in(alloc: Global, module: &Module) -> Result<Vec<Param<'_>>, Alloc
 
 /// Whether an instance may override a parameter of its module: with a list in the header those of the list alone, and never a
 /// local one.
-pub fn is_open(module: &Module, param: &Param<'_>) -> bool
-    ensures { result ≡ is_open module.now (param_meant param.now) }
+pub fn is_open(text: &Module, param: &Param<'_>) -> bool
+    ensures { result ≡ is_open text.now (param_meant param.now) }
 {
     if param.in_header {
         return true;
@@ -123,7 +123,7 @@ pub fn is_open(module: &Module, param: &Param<'_>) -> bool
     if param.is_local {
         return false;
     }
-    match &module.parameters {
+    match &text.parameters {
         Some(_) => false,
         None => true,
     }

@@ -39,10 +39,10 @@ fn names<'a>(alloc: Global, names: &'a [Text]) -> Result<Vec<&'a Text>, AllocErr
 }
 
 /// The names of a module's ports, in the order of its header. Refused only for want of memory.
-pub fn port_names(alloc: Global, module: &Module) -> Result<Vec<&Text>, AllocError>
-    ensures { IfOk result (λ r. map name_meant r.items ≡ port_names module.now) }
+pub fn port_names(alloc: Global, text: &Module) -> Result<Vec<&Text>, AllocError>
+    ensures { IfOk result (λ r. map name_meant r.items ≡ port_names text.now) }
 {
-    match &module.ports {
+    match &text.ports {
         Some(Ports::Names(ports)) => names(alloc, ports.as_slice()),
         Some(Ports::Groups(ports)) => header_names(alloc, ports.as_slice()),
         None => Ok(Vec::new(alloc)),

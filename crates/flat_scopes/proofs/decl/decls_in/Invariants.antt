@@ -5,4 +5,4 @@ use Rattle.flat_scopes.specs.Borrowed.{decl_meant}
 use Rattle.flat_scopes.proofs.decl.decls_in.Given as goal
 
 abbrev pub invariant-loop-item : goal.invariant-loop-item
-invariant-loop-item l = map decl_meant l.all.items ++ flat_map item_decls (drop l.item-index l.item-items) ≡ ports_decls l.module.ports ++ flat_map item_decls l.item-items
+invariant-loop-item l = map decl_meant l.all.items ++ flat_map item_decls (drop l.item-index l.item-items) ≡ ports_decls l.text.ports ++ flat_map item_decls l.item-items

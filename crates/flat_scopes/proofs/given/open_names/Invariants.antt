@@ -5,5 +5,5 @@ use Rattle.flat_scopes.proofs.given.open_names.Given as goal
 
 abbrev pub invariant-loop-param : goal.invariant-loop-param
 invariant-loop-param l =
-    map name_meant l.all.items ++ map param_name (filter (is_open l.module) (map param_meant (drop l.param-index l.params)))
-    ≡ map param_name (filter (is_open l.module) (map param_meant l.params))
+    map name_meant l.all.items ++ map param_name (filter (is_open l.text) (map param_meant (drop l.param-index l.params)))
+    ≡ map param_name (filter (is_open l.text) (map param_meant l.params))

@@ -6,4 +6,4 @@ use Rattle.flat_scopes.proofs.param.params_in.Given as goal
 
 abbrev pub invariant-loop-item : goal.invariant-loop-item
 invariant-loop-item l =
-    map param_meant l.all.items ++ flat_map item_params (drop l.item-index l.item-items) ≡ listed_params l.module.parameters ++ flat_map item_params l.item-items
+    map param_meant l.all.items ++ flat_map item_params (drop l.item-index l.item-items) ≡ listed_params l.text.parameters ++ flat_map item_params l.item-items

@@ -1,0 +1,6 @@
+pub mod Searches
+pub mod FormNames
+pub mod Known
+pub mod Spans
+pub mod Values
+pub mod Parameters

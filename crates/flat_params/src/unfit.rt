@@ -1,0 +1,35 @@
+// Why an expression isn't a constant, a range isn't one of bits, and a parameter has no value.
+
+/// Why an expression has no constant value in its place.
+#[derive(Clone, Copy, PartialEq, Eq)]
+pub enum Unfit {
+    /// It names something that isn't one of the parameters that it is read over.
+    Name,
+    /// It isn't well formed: a length in it isn't from 1 to 64 bits, or a part-select leaves its vector.
+    Length,
+    /// A divisor is 0.
+    Divisor,
+}
+
+/// Why a range isn't `[m:l]` with constants m >= l >= 0 and from 1 to 64 bits.
+#[derive(Clone, Copy, PartialEq, Eq)]
+pub enum BadRange {
+    /// m has no constant value.
+    High(Unfit),
+    /// l has no constant value.
+    Low(Unfit),
+    /// m < l, or l < 0.
+    Order,
+    /// It has more than 64 bits.
+    Long,
+}
+
+/// Why a parameter has no value.
+#[derive(Clone, Copy, PartialEq, Eq)]
+pub enum BadParam {
+    Range(BadRange),
+    /// The value of its declaration, also where it is overridden.
+    Value(Unfit),
+    /// The value that overrides it.
+    Given(Unfit),
+}
