@@ -1,0 +1,5 @@
+mod Making
+mod Writing
+mod Trying
+mod Joins
+mod Giving

@@ -1,0 +1,4 @@
+pub mod Wires
+pub mod Standing
+pub mod Joining
+pub mod Targets
