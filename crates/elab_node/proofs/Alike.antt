@@ -1,5 +1,5 @@
 -- Lengths and signs don't depend on the values of names, where the parts that must be constant are.
-use Rattle.std.proofs.Common.{◌≡◌, ℕ, zero, suc, ◌+◌, ◌*◌, ◌^◌, ◌%◌, ◌≤◌, max, Bool, true, false, refl, sym, ap, ◌∙◌, subst, List, [], ◌∷◌, ◌&&◌, IsTrue, Option, Some, None, arith, ℤ, pos, ◌≤ℤ◌, ◌<ℤ◌}
+use Rattle.std.proofs.Common.{◌≡◌, ℕ, zero, suc, ◌+◌, max, Bool, false, refl, sym, ap, ◌∙◌, subst, List, ◌&&◌, IsTrue, pos, ◌≤ℤ◌, ◌<ℤ◌}
 use Rattle.std.specs.Prelude.{nat_eq, if◌then◌else◌}
 use Rattle.vlog_tree.specs.declared.expr.Binary.{Binary}
 use Rattle.vlog_tree.specs.declared.expr.Binary.TheVariants as b
@@ -12,7 +12,7 @@ use Rattle.vlog_tree.specs.declared.expr.Span.TheVariants as w
 use Rattle.vlog_tree.specs.declared.expr.Unary.{Unary}
 use Rattle.vlog_tree.specs.declared.valuation.Entry.{Entry}
 use Rattle.vlog_tree.specs.Valuation.{IsLength, named, depth_of}
-use Rattle.vlog_tree.specs.Value.{Operand, operand_of, row_of, own, own_defined, own_integer, natural, bit_of, word_of, part_of, cast_of, unary_of, binary_of, choice_of, joined, copies, repeated, IsFormed, AllFormed, IsPart, Stands, NamesOnly, AllNamesOnly, HasConstantParts, AllHaveConstantParts, IsPartConstant, IsDivisionConstant}
+use Rattle.vlog_tree.specs.Value.{Operand, operand_of, row_of, own_defined, own_integer, natural, bit_of, word_of, part_of, cast_of, unary_of, binary_of, choice_of, joined, copies, repeated, IsFormed, AllFormed, IsPart, Stands, NamesOnly, AllNamesOnly, HasConstantParts, AllHaveConstantParts, IsPartConstant, IsDivisionConstant}
 use Rattle.vlog_value.specs.Operators.{family_of, is_joined, left_width, right_width, left_sign, right_sign, joined_width, joined_sign, inner_width, inner_sign, made_width, made_sign}
 use Rattle.vlog_value.proofs.Families.{binary_width, binary_sign, binary_defined, unary_width, unary_sign, unary_defined}
 

@@ -1,21 +1,21 @@
 -- Each word of a dag fits: it has its node's width, and a number below 2 ^ width.
-use Rattle.std.proofs.Common.{◌≡◌, ℕ, zero, suc, ◌+◌, ◌-◌, ◌*◌, ◌/◌, ◌%◌, ◌^◌, ◌<◌, ◌≤◌, Bool, true, false, List, [], ◌∷◌, ◌++◌, length, refl, sym, ap, ◌∙◌, subst, arith, length-append, min, append_assoc}
-use Rattle.std.specs.Prelude.{map, slice_index, if◌then◌else◌, ◌==◌}
+use Rattle.std.proofs.Common.{◌≡◌, ℕ, zero, suc, ◌+◌, ◌-◌, ◌*◌, ◌/◌, ◌%◌, ◌^◌, ◌<◌, ◌≤◌, Bool, true, false, List, [], ◌∷◌, ◌++◌, length, refl, sym, ap, ◌∙◌, subst, arith}
+use Rattle.std.specs.Prelude.{if◌then◌else◌, ◌==◌}
 use Rattle.std.proofs.Math.Nat.{mod-lt, div-le_self}
 use Rattle.std.proofs.lemmas.Nat.{pow_pos}
 use Rattle.std.specs.Int.Bits.{and_lt}
-use Rattle.word_core.specs.Words.{Bits, IsWord, word, flag, reach, and_of, or_of, xor_of, not_of, sar_of, concat_of, zext_of, sext_of, sign_of}
+use Rattle.word_core.specs.Words.{Bits, IsWord, flag, reach, sar_of, sext_of, sign_of}
 use Rattle.word_core.proofs.Numbers.{or_fits, xor_fits, concat_fits, mask_grows, top_is_bit, moved_small}
 use Rattle.word_dag.specs.declared.node.Op.{Op}
 use Rattle.word_dag.specs.declared.node.Op.TheVariants.{Add, Sub, Mul, And, Or, Xor, Shl, Shr, Sar, Ult, Slt, Eq, Concat}
 use Rattle.word_dag.specs.declared.node.Node.{Node}
 use Rattle.word_dag.specs.declared.node.Node.TheVariants.{Free, Const, Two, Not, Slice, Zext, Sext, Mux}
-use Rattle.word_dag.specs.Nodes.{FitsNode, FitFrom, FitsOp, width_of, width_at, node_value, op_value, word_at, Naming, named, dag_values, no_word}
+use Rattle.word_dag.specs.Nodes.{FitsNode, FitFrom, FitsOp, width_of, node_value, op_value, word_at, Naming, named, dag_values}
 use Rattle.word_dag.specs.Given.{widths_of}
 use Rattle.word_dag.proofs.Operands.{width_at-words, length-widths_of}
 use Rattle.word_dag.proofs.Widths.{width-node_value}
-use Rattle.word_dag.proofs.NodeValues.{width_at-map, length-widths}
-use Rattle.word_dag.proofs.Valued.{values_wide, word_wide}
+use Rattle.word_dag.proofs.NodeValues.{length-widths}
+use Rattle.word_dag.proofs.Valued.{values_wide}
 use Rattle.elab_node.specs.Nodes.{words}
 
 abbrev pub AllWords : List Bits → Type 0

@@ -1,8 +1,7 @@
 -- What an operator makes, by its family.
-use Rattle.std.proofs.Common.{◌≡◌, ℕ, ◌<◌, ◌≤◌, min, Bool, true, false, List, refl, sym, ap, ◌∙◌, subst}
+use Rattle.std.proofs.Common.{◌≡◌, ℕ, min, Bool, true, false, List, sym, ap, ◌∙◌, subst}
 use Rattle.std.specs.Prelude.{nat_eq, not, if◌then◌else◌}
 use Rattle.word_dag.specs.declared.node.Node.{Node}
-use Rattle.word_dag.specs.Nodes.{Naming}
 use Rattle.vlog_tree.specs.declared.expr.Binary.{Binary}
 use Rattle.vlog_tree.specs.declared.expr.Unary.{Unary}
 use Rattle.vlog_tree.specs.Value.{bit, integer}

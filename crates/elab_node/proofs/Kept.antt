@@ -1,11 +1,11 @@
 -- Nodes and numbers in a dag that grows.
-use Rattle.std.proofs.Common.{◌≡◌, ℕ, zero, suc, ◌+◌, ◌^◌, ◌<◌, ◌≤◌, List, [], ◌∷◌, ◌++◌, length, refl, sym, ap, ◌∙◌, subst, arith}
-use Rattle.std.specs.Prelude.{map, slice_index}
+use Rattle.std.proofs.Common.{◌≡◌, ℕ, ◌^◌, ◌<◌, ◌≤◌, List, [], ◌∷◌, ◌++◌, refl, sym, ap, ◌∙◌, subst, arith}
+use Rattle.std.specs.Prelude.{map}
 use Rattle.word_core.specs.Words.{Bits, IsWord}
 use Rattle.word_dag.specs.declared.node.Node.{Node}
-use Rattle.word_dag.specs.Nodes.{FitsNode, FitFrom, width_of, width_at, word_at, Naming, named, dag_values, node_value}
+use Rattle.word_dag.specs.Nodes.{FitsNode, FitFrom, width_of, word_at, Naming, named, node_value}
 use Rattle.word_dag.specs.Adding.{Adds, Keeps}
-use Rattle.word_dag.proofs.NodeValues.{width_at-map, length-widths}
+use Rattle.word_dag.proofs.NodeValues.{width_at-map}
 use Rattle.word_dag.proofs.Valued.{values_wide, word_wide}
 use Rattle.word_dag.proofs.Widths.{width-node_value}
 use Rattle.vlog_tree.specs.declared.valuation.Entry.{Entry}

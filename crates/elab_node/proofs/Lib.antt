@@ -12,3 +12,6 @@ pub mod Positions
 pub mod Shaped
 pub mod Parts
 pub mod Whole
+pub mod Forms
+pub mod Rows
+pub mod Calls

@@ -1,13 +1,13 @@
 -- What single nodes make.
-use Rattle.std.proofs.Common.{◌≡◌, ℕ, zero, suc, ◌+◌, ◌-◌, ◌*◌, ◌/◌, ◌%◌, ◌^◌, ◌<◌, ◌≤◌, Bool, true, false, List, [], length, refl, sym, ap, ◌∙◌, subst, arith}
-use Rattle.std.specs.Prelude.{map, slice_index, nat_eq, nat_le, if◌then◌else◌}
-use Rattle.word_core.specs.Words.{Bits, IsWord, word, sext_of, zext_of}
+use Rattle.std.proofs.Common.{◌≡◌, ℕ, ◌+◌, ◌-◌, ◌/◌, ◌%◌, ◌^◌, ◌<◌, ◌≤◌, Bool, true, false, List, [], length, refl, sym, ap, ◌∙◌, subst, arith}
+use Rattle.std.specs.Prelude.{map, slice_index, nat_eq, if◌then◌else◌}
+use Rattle.word_core.specs.Words.{Bits, IsWord, sext_of}
 use Rattle.word_dag.specs.declared.node.Op.{Op}
 use Rattle.word_dag.specs.declared.node.Node.{Node}
 use Rattle.word_dag.specs.declared.node.Node.TheVariants.{Const, Two, Not, Slice, Zext, Sext, Mux}
-use Rattle.word_dag.specs.Nodes.{FitsNode, FitsOp, FitFrom, width_of, word_at, op_value, Naming}
+use Rattle.word_dag.specs.Nodes.{FitsNode, FitsOp, FitFrom, width_of, word_at, op_value}
 use Rattle.word_dag.specs.Adding.{Adds}
-use Rattle.word_dag.proofs.NodeValues.{width_at-map, length-widths}
+use Rattle.word_dag.proofs.NodeValues.{length-widths}
 use Rattle.vlog_tree.specs.Value.{extend}
 use Rattle.vlog_value.proofs.Signs.{extend_number}
 use Rattle.elab_node.specs.declared.nodes.Wire.{Wire}

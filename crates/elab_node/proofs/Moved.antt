@@ -1,12 +1,12 @@
 -- Numbers moved up and down by so many bits.
-use Rattle.std.proofs.Common.{◌≡◌, ℕ, zero, suc, ◌+◌, ◌-◌, ◌*◌, ◌/◌, ◌%◌, ◌^◌, ◌<◌, ◌≤◌, min, true, false, refl, sym, ap, ◌∙◌, subst, ⊎_elim, arith, ℤ, pos, negsuc, ◌<ℤ◌, ◌≤ℤ◌, ◌-ℤ◌}
+use Rattle.std.proofs.Common.{◌≡◌, ℕ, suc, ◌+◌, ◌-◌, ◌*◌, ◌/◌, ◌%◌, ◌^◌, ◌<◌, ◌≤◌, min, true, false, sym, ap, ◌∙◌, ⊎_elim, arith, ℤ, pos, negsuc, ◌<ℤ◌, ◌≤ℤ◌, ◌-ℤ◌}
 use Rattle.std.specs.Prelude.{nat_le}
 use Rattle.std.proofs.Math.Nat.{mod-eq_of_lt, mul-mod_left, div-one}
 use Rattle.std.proofs.lemmas.Bool.{leb-true, leb-false}
-use Rattle.std.proofs.lemmas.Nat.{pow-add, pow_pos, div-mul-add, mod-pow-add}
+use Rattle.std.proofs.lemmas.Nat.{pow_pos, div-mul-add, mod-pow-add}
 use Rattle.std.proofs.lemmas.Int.{ints}
 use Rattle.word_core.proofs.Numbers.{moved_small, mask_grows, shr_whole, shl_gone}
-use Rattle.vlog_tree.specs.Value.{moved_down, natural}
+use Rattle.vlog_tree.specs.Value.{moved_down}
 use Rattle.vlog_value.proofs.Numbers.{bool_cases}
 
 pub down_kept : (x n d w : ℕ) → x < 2 ^ n → d ≤ n → x / 2 ^ d % 2 ^ (min w (n - d)) ≡ x / 2 ^ d % 2 ^ w

@@ -1,5 +1,5 @@
 -- Parities.
-use Rattle.std.proofs.Common.{◌≡◌, ℕ, zero, suc, ◌+◌, ◌-◌, ◌*◌, ◌/◌, ◌%◌, ◌^◌, ◌<◌, ◌≤◌, refl, sym, ap, ◌∙◌, subst, arith}
+use Rattle.std.proofs.Common.{◌≡◌, ℕ, zero, suc, ◌+◌, ◌-◌, ◌/◌, ◌%◌, ◌^◌, ◌<◌, refl, sym, ap, ◌∙◌, arith}
 use Rattle.std.specs.Prelude.{nat_eq, bit_xor, count_ones}
 use Rattle.std.proofs.Math.Nat.{mod-lt, div-one, div-eq_of_lt, div-div-eq-div-mul}
 use Rattle.std.proofs.lemmas.Nat.{pow-add, ones_le_self}

@@ -1,5 +1,5 @@
 -- The parts of an expression that becomes a node.
-use Rattle.std.proofs.Common.{◌≡◌, ℕ, ◌≤◌, Bool, refl, sym, ap, ◌∙◌, subst, List, [], ◌∷◌, IsTrue, arith}
+use Rattle.std.proofs.Common.{◌≡◌, ℕ, ◌*◌, Bool, refl, sym, subst, List, [], ◌∷◌, IsTrue}
 use Rattle.vlog_tree.specs.declared.expr.Binary.{Binary}
 use Rattle.vlog_tree.specs.declared.expr.Cast.{Cast}
 use Rattle.vlog_tree.specs.declared.expr.Constant.{Constant}
@@ -9,14 +9,16 @@ use Rattle.vlog_tree.specs.declared.expr.Expr.TheBlock.{items-the_row-Expr, shap
 use Rattle.vlog_tree.specs.declared.expr.Name.{Name}
 use Rattle.vlog_tree.specs.declared.expr.Span.{Span}
 use Rattle.vlog_tree.specs.declared.expr.Unary.{Unary}
-use Rattle.vlog_tree.specs.Value.{NamesOnly, HasConstantParts, AllHaveConstantParts, IsPartConstant, IsDivisionConstant, IsDefined}
+use Rattle.vlog_tree.specs.Valuation.{IsLength}
+use Rattle.vlog_tree.specs.Value.{NamesOnly, HasConstantParts, AllHaveConstantParts, IsPartConstant, IsDivisionConstant, operand_of, own_defined, own_integer, natural}
 use Rattle.vlog_value.specs.Operators.{family_of, left_width, right_width, left_sign, right_sign, inner_width, inner_sign}
-use Rattle.vlog_value.specs.Shapes.{HasShape, IsReady}
+use Rattle.vlog_value.specs.Shapes.{HasShape, IsReady, each_row, each_formed}
+use Rattle.vlog_value.proofs.Facts.{both_true, copies_width}
 use Rattle.vlog_value.proofs.Forms.{select_formed, part_formed, constant_select_formed, constant_part_formed, cast_formed, choice_formed, concat_formed, repeat_formed}
-use Rattle.vlog_value.proofs.Values.{select_defined, constant_select_defined, part_defined, constant_part_defined, cast_defined, paren_defined, paren_ready, unary_ready, unary_defined_at, binary_ready, AreTaken, taken_at, binary_left, binary_right, choice_ready, choice_defined, shape_width, shape_sign}
+use Rattle.vlog_value.proofs.Values.{select_defined, constant_select_defined, part_defined, constant_part_defined, cast_defined, paren_defined, paren_ready, unary_ready, unary_defined_at, binary_ready, taken_at, binary_left, binary_right, choice_ready, choice_defined, shape_width, shape_sign, concat_defined, repeat_defined, row_length}
 use Rattle.elab_node.specs.declared.leaves.Leaf.{Leaf}
 use Rattle.elab_node.specs.Leaves.{declared}
-use Rattle.elab_node.specs.Terms.{nothing, IsTaken, IsAlone}
+use Rattle.elab_node.specs.Terms.{nothing, IsTaken, IsAlone, EachAlone, IsRow}
 use denote.Hole.Carrier
 
 -- ---- the parts that must be constant
@@ -77,6 +79,28 @@ repeat_constant a items tree is h =
     let h' = rw is at h in
     (h'.0, h'.1, rw items_hidden-the_row-Expr-1 at (row_constant (hidden-the_row-Expr-1 items) h'.2))
 
+-- ---- expressions that name nothing
+
+pub binary_names : (op : Binary) (a b tree : Expr) → tree ≡ e.Binary op a b → NamesOnly nothing a × NamesOnly nothing b → NamesOnly nothing tree
+unfolding shape-the_row-Expr-0 hidden-the_row-Expr-0 denote.Hole.Carrier.hidden
+binary_names op a b tree is h = rw is h
+
+pub constant_part_names : (k : Constant) (span : Span) (a b tree : Expr) → tree ≡ e.ConstantPart k span a b → NamesOnly nothing a × NamesOnly nothing b → NamesOnly nothing tree
+unfolding shape-the_row-Expr-0 hidden-the_row-Expr-0 denote.Hole.Carrier.hidden
+constant_part_names k span a b tree is h = rw is h
+
+-- ---- rows
+
+each_alone : (ls : List Leaf) (items : List Expr) → each_formed (declared ls) items → EachConstant items → IsTrue (own_defined (each_row (declared ls) items)) → EachAlone ls items
+each_alone ls [] f c d = tt
+each_alone ls (a ∷ rest) f c d =
+    let t = both_true (own_defined (operand_of (declared ls) a)) (own_defined (each_row (declared ls) rest)) d in
+    (record { formed = f.0; constant = c.0; defined = t.0 }, each_alone ls rest f.1 c.1 t.1)
+
+pub each_constant : (ls : List Leaf) (items : List Expr) → EachAlone ls items → EachConstant items
+each_constant ls [] h = tt
+each_constant ls (a ∷ rest) h = (h.0.constant, each_constant ls rest h.1)
+
 -- ---- how each part is taken
 
 module _ (ls : List Leaf) (tree : Expr) (L : ℕ) (s : Bool) (h : IsTaken ls tree L s) where
@@ -126,3 +150,40 @@ module _ (ls : List Leaf) (tree : Expr) (L : ℕ) (s : Bool) (h : IsTaken ls tre
 
   pub choice_second : (c a b : Expr) → tree ≡ e.Choice c a b → IsTaken ls b L s
   choice_second c a b is = record { ready = (choice_ready (declared ls) c a b tree L is h.ready).1; constant = (choice_constant c a b tree is h.constant).2; defined = (choice_defined (declared ls) c a b tree L s is h.defined).2 }
+
+  pub part_first : (x : Name) (span : Span) (a b : Expr) → tree ≡ e.Part x span a b → IsAlone ls a
+  part_first x span a b is = record { formed = (part_formed (declared ls) x span a b tree is h.ready.formed).1; constant = (part_constant x span a b tree is h.constant).0; defined = (part_defined (declared ls) x span a b tree L s is h.defined).0 }
+
+  pub part_second : (x : Name) (span : Span) (a b : Expr) → tree ≡ e.Part x span a b → IsAlone ls b
+  part_second x span a b is = record { formed = (part_formed (declared ls) x span a b tree is h.ready.formed).2; constant = (part_constant x span a b tree is h.constant).1; defined = (part_defined (declared ls) x span a b tree L s is h.defined).1 }
+
+  pub constant_part_first : (k : Constant) (span : Span) (a b : Expr) → tree ≡ e.ConstantPart k span a b → IsAlone ls a
+  constant_part_first k span a b is = record {
+    formed = (constant_part_formed (declared ls) k span a b tree is h.ready.formed).1;
+    constant = (constant_part_constant k span a b tree is h.constant).0;
+    defined = (constant_part_defined (declared ls) k span a b tree L s is h.defined).0;
+  }
+
+  pub concat_row : (items : List Expr) → tree ≡ e.Concat items → IsRow ls items
+  concat_row items is =
+      let f = concat_formed (declared ls) items tree is h.ready.formed in
+      record { alone = each_alone ls items f.0 (concat_constant items tree is h.constant) (concat_defined (declared ls) items tree L s is h.defined); length = f.1 }
+
+  pub repeat_row : (a : Expr) (items : List Expr) → tree ≡ e.Repeat a items → IsRow ls items
+  repeat_row a items is =
+      let f = repeat_formed (declared ls) a items tree is h.ready.formed in
+      record {
+        alone = each_alone ls items f.2 (repeat_constant a items tree is h.constant).2 (repeat_defined (declared ls) a items tree L s is h.defined).1;
+        length = row_length (declared ls) (operand_of (declared ls) a) items f.3;
+      }
+
+  pub repeat_count : (a : Expr) (items : List Expr) → tree ≡ e.Repeat a items → IsAlone ls a
+  repeat_count a items is = record {
+    formed = (repeat_formed (declared ls) a items tree is h.ready.formed).0;
+    constant = (repeat_constant a items tree is h.constant).0;
+    defined = (repeat_formed (declared ls) a items tree is h.ready.formed).1;
+  }
+
+  pub repeat_bits : (a : Expr) (items : List Expr) → tree ≡ e.Repeat a items → IsLength (natural (own_integer (operand_of (declared ls) a)) * (each_row (declared ls) items).width)
+  repeat_bits a items is =
+      subst IsLength (copies_width (natural (own_integer (operand_of (declared ls) a))) (each_row (declared ls) items)) (repeat_formed (declared ls) a items tree is h.ready.formed).3

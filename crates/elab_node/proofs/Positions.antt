@@ -1,5 +1,5 @@
 -- The bits at one position of an index.
-use Rattle.std.proofs.Common.{◌≡◌, ℕ, ◌-◌, ◌%◌, ◌^◌, ◌<◌, Bool, true, false, List, refl, sym, ap, ◌∙◌, subst, ℤ, pos, ◌-ℤ◌, ◌+ℤ◌}
+use Rattle.std.proofs.Common.{◌≡◌, ℕ, ◌%◌, ◌^◌, ◌<◌, Bool, false, List, sym, ap, ◌∙◌, ℤ}
 use Rattle.std.specs.Prelude.{nat_eq, if◌then◌else◌}
 use Rattle.word_dag.specs.declared.node.Node.{Node}
 use Rattle.word_dag.specs.Nodes.{Naming}

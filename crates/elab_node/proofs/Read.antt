@@ -7,11 +7,11 @@ use Rattle.word_dag.specs.Nodes.{word_at}
 use Rattle.vlog_tree.specs.declared.expr.Constant.{Constant}
 use Rattle.vlog_tree.specs.declared.expr.Name.{Name}
 use Rattle.vlog_tree.specs.declared.valuation.Entry.{Entry}
-use Rattle.vlog_tree.specs.Valuation.{IsLength, entry_at, meant, meaning_of, named, depth_of}
+use Rattle.vlog_tree.specs.Valuation.{IsLength, entry_at, meant, named, depth_of}
 use Rattle.vlog_tree.specs.Value.{Stands}
 use Rattle.word_core.specs.Words.{Bits}
 use Rattle.elab_node.specs.declared.leaves.Leaf.{Leaf}
-use Rattle.elab_node.specs.Leaves.{entry_of, entries, valued, declared, leaf_at, AreReady, AreWide}
+use Rattle.elab_node.specs.Leaves.{entry_of, entries, valued, declared, leaf_at, AreReady}
 use Rattle.elab_node.specs.Nodes.{IsNode}
 use Rattle.word_dag.specs.declared.node.Node.{Node}
 use Rattle.elab_node.proofs.Alike.{Alike}

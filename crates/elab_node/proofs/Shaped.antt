@@ -1,18 +1,16 @@
 -- Shapes and values of expressions over the leaves' nodes.
-use Rattle.std.proofs.Common.{◌≡◌, ℕ, ◌+◌, ◌*◌, ◌^◌, ◌%◌, ◌<◌, ◌≤◌, Bool, true, false, refl, sym, ap, ◌∙◌, subst, List, [], ◌∷◌, IsTrue, arith}
+use Rattle.std.proofs.Common.{◌≡◌, ℕ, ◌≤◌, Bool, sym, ap, ◌∙◌, subst, List, IsTrue, arith}
 use Rattle.vlog_tree.specs.declared.expr.Expr.{Expr}
-use Rattle.vlog_tree.specs.declared.valuation.Entry.{Entry}
-use Rattle.vlog_tree.specs.Valuation.{IsLength}
-use Rattle.vlog_tree.specs.Value.{IsFormed, IsDefined, HasConstantParts, operand_of, own_defined, width_of, sign_of, value_of, own_value}
+use Rattle.vlog_tree.specs.Value.{IsFormed, IsDefined, HasConstantParts, operand_of, own_defined, width_of, value_of}
 use Rattle.vlog_value.specs.Shapes.{IsReady, HasShape, HasValue, HasOwn}
 use Rattle.word_core.specs.Words.{Bits}
 use Rattle.word_dag.specs.declared.node.Node.{Node}
-use Rattle.word_dag.specs.Nodes.{Naming, word_at}
+use Rattle.word_dag.specs.Nodes.{word_at}
 use Rattle.word_dag.specs.Adding.{Keeps}
 use Rattle.elab_node.specs.declared.leaves.Leaf.{Leaf}
 use Rattle.elab_node.specs.declared.nodes.Wire.{Wire}
 use Rattle.elab_node.specs.Leaves.{valued, declared, AreReady}
-use Rattle.elab_node.specs.Nodes.{IsNode, IsWire, words, Makes}
+use Rattle.elab_node.specs.Nodes.{words, Makes}
 use Rattle.elab_node.specs.Terms.{nothing, IsTaken, IsAlone, HasNode, HasOwnNode}
 use Rattle.elab_node.proofs.Alike.{same_operand, same_formed, own_same}
 use Rattle.elab_node.proofs.Read.{alike_valued}

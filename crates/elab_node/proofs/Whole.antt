@@ -1,8 +1,6 @@
 -- The node of each form of an expression, from those of its parts.
-use Rattle.std.proofs.Common.{◌≡◌, ℕ, ◌+◌, ◌%◌, ◌^◌, ◌≤◌, ◌<◌, Bool, true, false, refl, sym, ap, ◌∙◌, subst, List, [], IsTrue, Some, arith, pos, ◌-ℤ◌}
-use Rattle.std.specs.Prelude.{nat_eq, nat_lt, not, if◌then◌else◌}
-use Rattle.std.proofs.Math.Nat.{mod-eq_of_lt}
-use Rattle.vlog_tree.specs.declared.expr.Constant.{Constant}
+use Rattle.std.proofs.Common.{◌≡◌, ℕ, ◌%◌, ◌^◌, Bool, true, false, refl, sym, ap, ◌∙◌, subst, List}
+use Rattle.std.specs.Prelude.{nat_eq, if◌then◌else◌}
 use Rattle.vlog_tree.specs.declared.expr.Binary.{Binary}
 use Rattle.vlog_tree.specs.declared.expr.Binary.TheVariants as b
 use Rattle.vlog_tree.specs.declared.expr.Cast.{Cast}
@@ -11,29 +9,23 @@ use Rattle.vlog_tree.specs.declared.expr.Expr.TheVariants as e
 use Rattle.vlog_tree.specs.declared.expr.Name.{Name}
 use Rattle.vlog_tree.specs.declared.token.Number.{Number}
 use Rattle.vlog_tree.specs.declared.expr.Unary.{Unary}
-use Rattle.vlog_tree.specs.Valuation.{named, depth_of, word_name}
-use Rattle.vlog_tree.specs.Value.{extend, number_width, value_of, width_of, sign_of, IsDefined, bit, HasConstantParts, bits_of, moved_down, integer, NamesOnly, IsDivisionConstant, binary_of, operand_of, Operand}
-use Rattle.vlog_tree.specs.declared.valuation.Entry.{Entry}
+use Rattle.vlog_tree.specs.Valuation.{named}
+use Rattle.vlog_tree.specs.Value.{extend, number_width, HasConstantParts, NamesOnly, IsDivisionConstant}
 use Rattle.word_core.specs.Words.{Bits}
 use Rattle.word_dag.specs.declared.node.Node.{Node}
-use Rattle.word_dag.specs.Nodes.{Naming, word_at, FitFrom}
-use Rattle.word_dag.specs.Adding.{Keeps}
+use Rattle.word_dag.specs.Nodes.{Naming, word_at}
 use Rattle.vlog_value.specs.declared.operators.Family.{Family}
 use Rattle.vlog_value.specs.declared.operators.Family.TheVariants as f
 use Rattle.vlog_value.specs.Operators.{family_of, is_joined, joined_number, made_number, inner_width, inner_sign, left_width, right_width, left_sign, right_sign}
-use Rattle.vlog_value.specs.Shapes.{HasShape, HasValue, HasOwn, select_word}
-use Rattle.vlog_value.proofs.Values.{cast_value, paren_value, unary_value, binary_value, choice_value, taken_at, select_value, constant_select_value}
+use Rattle.vlog_value.specs.Shapes.{HasShape}
+use Rattle.vlog_value.proofs.Values.{cast_value, paren_value, unary_value, binary_value, choice_value, taken_at}
 use Rattle.elab_node.specs.declared.leaves.Leaf.{Leaf}
 use Rattle.elab_node.specs.declared.nodes.Wire.{Wire}
-use Rattle.elab_node.specs.Leaves.{valued, declared, AreReady, leaf_at}
-use Rattle.elab_node.specs.Nodes.{IsNode, words, number_at, Makes}
+use Rattle.elab_node.specs.Leaves.{valued, declared}
+use Rattle.elab_node.specs.Nodes.{words, number_at, Makes}
 use Rattle.elab_node.specs.Terms.{nothing, IsTaken, IsAlone, HasNode, HasOwnNode}
-use Rattle.elab_node.proofs.Kept.{made_node, node_kept, number_kept, number_fits}
-use Rattle.elab_node.proofs.Read.{named_leaf, depth_is, leaf_ready}
-use Rattle.vlog_value.proofs.Forms.{binary_operand}
-use Rattle.elab_node.proofs.Alike.{constant_same}
-use Rattle.elab_node.proofs.Parts.{binary_constant}
-use Rattle.elab_node.proofs.Shaped.{shape_valued, defined_valued}
+use Rattle.elab_node.proofs.Kept.{made_node}
+use Rattle.elab_node.proofs.Shaped.{shape_valued}
 
 abbrev at : ℕ → ℕ → Bits
 at n x = record { width = n; value = x }
@@ -93,7 +85,7 @@ binary_has ls old mid new op a b tree y u L m n j k s t o p q g h i is ya ub lef
 }
 
 -- the length of a word that is taken by itself
-own_wide : (ls : List Leaf) (old new : List Node) (a : Expr) (w : Wire) (s : Bool) → HasConstantParts nothing a → HasOwnNode ls old new a w s → (x : Naming) → w.width ≡ (word_at (words x new) w.node).width
+pub own_wide : (ls : List Leaf) (old new : List Node) (a : Expr) (w : Wire) (s : Bool) → HasConstantParts nothing a → HasOwnNode ls old new a w s → (x : Naming) → w.width ≡ (word_at (words x new) w.node).width
 own_wide ls old new a w s d h x = (shape_valued ls (words x old) a d w.width s h.shape).width ∙ sym (h.word x).shape.width
 
 pub cast_has : (ls : List Leaf) (old mid new : List Node) (c : Cast) (a tree y : Expr) (L : ℕ) (s t : Bool) (w : Wire) (i : ℕ) → tree ≡ e.Cast c a → y ≡ a → IsAlone ls y → HasOwnNode ls old mid y w t →
@@ -126,38 +118,8 @@ choice_has ls old mid new c a b tree x y u L s t w p q i is xc ya ub h k g made 
     pick true j l L hj hl = sym hl
     pick false j l L hj hl = sym hj
 
--- a bit of a vector
-pub constant_select_has : (ls : List Leaf) (old mid new : List Node) (k : Constant) (a tree y : Expr) (L : ℕ) (s t : Bool) (w : Wire) (vector : Naming → ℕ) (i : ℕ) → tree ≡ e.ConstantSelect k a → y ≡ a → IsAlone ls y → HasOwnNode ls old mid y w t →
-    ((x : Naming) → vector x ≡ k.value % 2 ^ k.width) → Makes new i L (λ x. moved_down (integer t w.width (number_at x mid w.node) -ℤ pos k.low) (vector x) % 2 ^ 1) → HasNode ls old new tree L s i
-constant_select_has ls old mid new k a tree y L s t w vector i is ya alone h vn made = record {
-  node = made_node new i L _ made;
-  word = λ x.
-      let r = word_at (words x mid) w.node in
-      constant_select_value (valued ls (words x old)) k a tree y L s t r (at 1 (bits_of k (integer t r.width r.value) 1)) (word_at (words x new) i) is ya (h.word x) refl
-      (made.word x ∙ (λ j. at L (moved_down (integer t (own_wide ls old mid y w t alone.constant h x j) r.value -ℤ pos k.low) (vn x j) % 2 ^ 1)));
-}
-
-pub select_has : (ls : List Leaf) (old mid new : List Node) (n : Name) (a tree y : Expr) (l : Leaf) (L : ℕ) (s t : Bool) (w : Wire) (i : ℕ) → FitFrom [] mid → AreReady ls old → Keeps old mid → leaf_at ls n.text n.offset ≡ Some l → tree ≡ e.Select n a → y ≡ a → IsAlone ls y →
-    HasOwnNode ls old mid y w t → Makes new i L (λ x. moved_down (integer t w.width (number_at x mid w.node) -ℤ pos l.low) (number_at x mid l.node) % 2 ^ 1) → HasNode ls old new tree L s i
-select_has ls old mid new n a tree y l L s t w i fit ready keeps found is ya alone h made = record {
-  node = made_node new i L _ made;
-  word = λ x.
-      let v = valued ls (words x old) in
-      let r = word_at (words x mid) w.node in
-      let k : Constant = record { width = l.width; low = l.low; signed = l.signed; value = number_at x old l.node } in
-      let kn : k ≡ named v n = sym (named_leaf (λ m. number_at x old m.node) ls n l found) in
-      let flat : depth_of v n ≡ 0 = depth_is (λ m. number_at x old m.node) ls n in
-      let node = (leaf_ready ls old n.text n.offset l ready found).1 in
-      let same = number_kept x old mid l.node l.width keeps node in
-      let value : number_at x mid l.node ≡ k.value % 2 ^ k.width = same ∙ sym (mod-eq_of_lt (subst (λ z. z < 2 ^ l.width) same (number_fits x mid l.node l.width fit (node_kept old mid l.node l.width keeps node)))) in
-      let bit' : at 1 (bits_of k (integer t r.width r.value) 1) ≡ select_word v n k (integer t r.width r.value) r.value =
-      sym (ap (λ d. if nat_eq d 0 then at 1 (bits_of k (integer t r.width r.value) 1) else at k.width (if nat_lt r.value (depth_of v n) then (named v (word_name n r.value)).value % 2 ^ k.width else 0)) flat) in
-      select_value v n a tree y k L s t r (at 1 (bits_of k (integer t r.width r.value) 1)) (word_at (words x new) i) is kn ya (h.word x) bit'
-      (made.word x ∙ (λ j. at L (moved_down (integer t (own_wide ls old mid y w t alone.constant h x j) r.value -ℤ pos l.low) (value j) % 2 ^ 1)));
-}
-
 -- both operands of a division name nothing
-division_names : (op : Binary) (a c : Expr) → family_of op ≡ f.Division → IsDivisionConstant nothing op a c → NamesOnly nothing a × NamesOnly nothing c
+pub division_names : (op : Binary) (a c : Expr) → family_of op ≡ f.Division → IsDivisionConstant nothing op a c → NamesOnly nothing a × NamesOnly nothing c
 division_names b.Div a c h d = d
 division_names b.Rem a c h d = d
 division_names b.Mul a c h d = cc
@@ -179,18 +141,3 @@ division_names b.BitXnor a c h d = cc
 division_names b.BitOr a c h d = cc
 division_names b.LogicalAnd a c h d = cc
 division_names b.LogicalOr a c h d = cc
-
-as_binary : (v : List Entry) (op : Binary) (a c tree : Expr) (L : ℕ) (s : Bool) → tree ≡ e.Binary op a c → value_of v tree L s ≡ (binary_of op (operand_of v a) (operand_of v c)).value L s
-as_binary v op a c tree L s is = ap (λ (t : Expr). value_of v t L s) is ∙ ap (λ (o : Operand). o.value L s) (binary_operand v op a c)
-
--- a division is a number
-pub division_has : (ls : List Leaf) (old new : List Node) (op : Binary) (a c tree : Expr) (L : ℕ) (s : Bool) (i : ℕ) → tree ≡ e.Binary op a c → family_of op ≡ f.Division → IsTaken ls tree L s → Makes new i L (λ x. value_of (declared ls) tree L s) → HasNode ls old new tree L s i
-division_has ls old new op a c tree L s i is div taken made = record {
-  node = made_node new i L _ made;
-  word = λ x.
-      let v = valued ls (words x old) in
-      let n = division_names op a c div (binary_constant op a c tree is taken.constant).2 in
-      let same : value_of (declared ls) tree L s ≡ value_of v tree L s =
-      as_binary (declared ls) op a c tree L s is ∙ (λ r. (binary_of op (constant_same (declared ls) v a n.0 r) (constant_same (declared ls) v c n.1 r)).value L s) ∙ sym (as_binary v op a c tree L s is) in
-      record { defined = defined_valued ls (words x old) tree taken.constant L s taken.defined; word = made.word x ∙ ap (λ n. at L n) same };
-}

@@ -1,5 +1,5 @@
 -- Bits of a vector that a variable index names.
-use Rattle.std.specs.Prelude.{ℕ, Bool, false, ℤ, pos, negsuc, nat_eq}
+use Rattle.std.specs.Prelude.{Bool, false, ℤ, pos, negsuc, nat_eq}
 
 -- whether two integers are one
 abbrev pub is_same : ℤ → ℤ → Bool

@@ -3,3 +3,4 @@ pub mod Nodes
 pub mod Places
 pub mod Indexed
 pub mod Terms
+pub mod Vectors

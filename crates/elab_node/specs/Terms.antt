@@ -1,14 +1,18 @@
 -- What is asked of an expression that becomes a node, and what is known then.
-use Rattle.std.specs.Prelude.{ℕ, ◌≡◌, Bool, false, List, IsTrue}
+use Rattle.std.specs.Prelude.{ℕ, ◌≡◌, Bool, false, List, [], ◌∷◌, IsTrue, nat_eq, if◌then◌else◌}
+use Rattle.vlog_tree.specs.declared.expr.Binary.{Binary}
 use Rattle.vlog_tree.specs.declared.expr.Expr.{Expr}
+use Rattle.vlog_tree.specs.declared.expr.Unary.{Unary}
+use Rattle.vlog_tree.specs.Valuation.{IsLength}
 use Rattle.vlog_tree.specs.Value.{IsFormed, IsDefined, HasConstantParts, operand_of, own_defined}
-use Rattle.vlog_value.specs.Shapes.{IsReady, HasShape, HasValue, HasOwn}
+use Rattle.vlog_value.specs.Operators.{family_of, left_width, right_width, left_sign, right_sign, inner_width, inner_sign}
+use Rattle.vlog_value.specs.Shapes.{IsReady, HasShape, HasValue, HasOwn, HasRowWord, each_row}
 use Rattle.word_dag.specs.declared.node.Node.{Node}
 use Rattle.word_dag.specs.Nodes.{Naming, word_at}
 use Rattle.elab_node.specs.declared.leaves.Leaf.{Leaf}
 use Rattle.elab_node.specs.declared.nodes.Wire.{Wire}
 use Rattle.elab_node.specs.Leaves.{valued, declared}
-use Rattle.elab_node.specs.Nodes.{IsNode, IsWire, words}
+use Rattle.elab_node.specs.Nodes.{IsNode, IsWire, number_at, words}
 
 -- no name is a parameter's: where an expression becomes a node, a parameter is a number
 abbrev pub nothing : List ℕ → Bool
@@ -26,6 +30,36 @@ pub record IsAlone (ls : List Leaf) (a : Expr) : Type 0 where
   pub constant : HasConstantParts nothing a
   pub defined : IsTrue (own_defined (operand_of (declared ls) a))
 
+abbrev pub EachAlone : List Leaf → List Expr → Type 0
+EachAlone ls [] = Unit {0}
+EachAlone ls (a ∷ rest) = IsAlone ls a × EachAlone ls rest
+
+-- the parts of a concatenation, each of which may be taken by itself
+pub record IsRow (ls : List Leaf) (row : List Expr) : Type 0 where
+  pub alone : EachAlone ls row
+  pub length : IsLength (each_row (declared ls) row).width
+
+-- a unary operator takes its operand at the length p and the sign q
+pub record IsInner (ls : List Leaf) (op : Unary) (a : Expr) (L : ℕ) (s : Bool) (p : ℕ) (q : Bool) : Type 0 where
+  pub own : ℕ
+  pub own_sign : Bool
+  pub shape : HasShape (declared ls) a own own_sign
+  pub width : p ≡ inner_width op L own
+  pub sign : q ≡ inner_sign op s own_sign
+
+-- a binary operator takes its operands at the lengths j and k and the signs p and q
+pub record AreOperands (ls : List Leaf) (op : Binary) (a b : Expr) (L : ℕ) (s : Bool) (j : ℕ) (p : Bool) (k : ℕ) (q : Bool) : Type 0 where
+  pub first : ℕ
+  pub first_sign : Bool
+  pub second : ℕ
+  pub second_sign : Bool
+  pub first_shape : HasShape (declared ls) a first first_sign
+  pub second_shape : HasShape (declared ls) b second second_sign
+  pub left : j ≡ left_width (family_of op) L first second
+  pub left_signed : p ≡ left_sign (family_of op) s first_sign second_sign
+  pub right : k ≡ right_width (family_of op) L first second
+  pub right_signed : q ≡ right_sign (family_of op) s first_sign second_sign
+
 -- node i has its value at this length and sign, whatever the free words are
 pub record HasNode (ls : List Leaf) (old new : List Node) (a : Expr) (L : ℕ) (s : Bool) (i : ℕ) : Type 0 where
   pub node : IsNode new i L
@@ -36,3 +70,13 @@ pub record HasOwnNode (ls : List Leaf) (old new : List Node) (a : Expr) (n : Wir
   pub node : IsWire new n
   pub shape : HasShape (declared ls) a n.width s
   pub word : (e : Naming) → HasOwn (valued ls (words e old)) a (word_at (words e new) n.node) s
+
+-- the node has the value of a concatenation
+pub record HasRowNode (ls : List Leaf) (old new : List Node) (row : List Expr) (n : Wire) : Type 0 where
+  pub node : IsWire new n
+  pub width : n.width ≡ (each_row (declared ls) row).width
+  pub word : (e : Naming) → HasRowWord (valued ls (words e old)) row (word_at (words e new) n.node)
+
+-- the number of the first parts of a concatenation, which is 0 where there is none
+abbrev pub so_far : Naming → List Node → Wire → ℕ
+so_far e ns n = if nat_eq n.width 0 then 0 else number_at e ns n.node

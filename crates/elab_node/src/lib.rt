@@ -4,13 +4,17 @@
 mod bits;
 mod families;
 mod indexed;
+mod joins;
 mod leaves;
 mod node;
 mod nodes;
+mod operands;
 mod operators;
+mod pieces;
 mod places;
 mod reductions;
 #[cfg(test)]
 mod tests;
 
 pub use leaves::{Leaf, Leaves};
+pub use node::{assigned_node, holds_node, node_of};

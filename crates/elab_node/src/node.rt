@@ -1,173 +1,249 @@
-// Expressions as nodes.
-ghost use Rattle.std.specs.Prelude.{◌≡◌, [], ◌+◌, ◌%◌, ◌^◌, ◌≤◌, ◌<◌, ◌≢◌, IfOk, IsTrue, Some, max, ℤ, pos, negsuc, ◌≤ℤ◌, ◌<ℤ◌, ◌-ℤ◌};
-ghost use Rattle.word_dag.specs.Nodes.{FitFrom};
+//! Expressions as nodes.
+ghost use Rattle.std.specs.Prelude.{◌≡◌, ◌≤◌, max, not, nat_eq, IfOk};
 ghost use Rattle.word_dag.specs.Adding.{Keeps};
-ghost use Rattle.vlog_tree.specs.Valuation.{IsLength, named};
-ghost use Rattle.vlog_tree.specs.Value.{IsFormed, Stands, number_width, extend, integer, moved_down};
-ghost use Rattle.vlog_value.specs.Shapes.{HasShape};
-ghost use Rattle.elab_node.specs.Leaves.{AreReady, declared, valued, leaf_at};
-ghost use Rattle.elab_node.specs.Nodes.{Makes, IsNode, IsWire, number_at, words};
-ghost use Rattle.elab_node.specs.Terms.{IsTaken, IsAlone, HasNode, HasOwnNode};
+ghost use Rattle.vlog_tree.specs.Value.{IsFormed, IsDefined, HasConstantParts, width_of, sign_of, own_value, assigned, bit};
+ghost use Rattle.elab_node.specs.Leaves.{AreReady, declared, valued};
+ghost use Rattle.elab_node.specs.Nodes.{Makes, words};
+ghost use Rattle.elab_node.specs.Terms.{nothing, IsTaken, IsAlone, IsRow, HasNode, HasOwnNode, HasRowNode};
 
 use crate::families::{chosen, joined, made};
-use crate::indexed::{Own, indexed};
-use crate::leaves::{Leaf, Leaves};
-use crate::nodes::{Wire, constant, extended};
-use crate::places::{family_of, inner_place, left_place, right_place};
-use sqlite_items::Boxed;
+use crate::indexed::Own;
+use crate::joins::{appended, copies};
+use crate::leaves::Leaves;
+use crate::nodes::{Wire, extended, slice};
+use crate::operands::{
+    alone, binary_places, constant_integer, count_of, is_division, is_fixed, operand, own_place,
+    part, row, shape, unary_place,
+};
+use crate::operators::truth;
+use crate::pieces::{
+    based_bits, constant_node, constant_vector, fixed_bits, name_node, name_vector, number_node,
+};
 use std::alloc::AllocError;
-use vlog_tree::{Expr, Name, Number};
-use vlog_value::shape_of;
-use word_core::Word;
+use vlog_tree::{Expr, Span};
 use word_dag::Dag;
 
-// The length and the sign that an expression has by itself.
-fn shape(expr: &Expr, leaves: &Leaves) -> (u8, bool)
-    requires { IsFormed (declared leaves.now) expr.now }
-    ensures { HasShape (declared leaves.now) expr.now result.0 result.1 }
-{
-    match shape_of(expr, leaves.declared()) {
-        Some(shape) => shape,
-        None => unreachable!(),
-    }
-}
-
-// A part of an expression that is taken at a length and a sign.
-fn operand<'a>(boxed: &'a Boxed<Expr>, here: (u8, bool), leaves: &Leaves) -> &'a Expr
-    requires { IsTaken leaves.now boxed.now here.0 here.1 }
-    ensures same { result.now ≡ boxed.now }
-    ensures taken { IsTaken leaves.now result.now here.0 here.1 }
-{
-    let _here = here;
-    let _leaves = leaves;
-    boxed.get()
-}
-
-// A part of an expression that is taken by itself.
-fn alone<'a>(boxed: &'a Boxed<Expr>, leaves: &Leaves) -> &'a Expr
-    requires { IsAlone leaves.now boxed.now }
-    ensures same { result.now ≡ boxed.now }
-    ensures alone { IsAlone leaves.now result.now }
-{
-    let _leaves = leaves;
-    boxed.get()
-}
-
-// An expression that is taken by itself, at its own length and sign.
-#[tactic(auto, using(crate::proofs::Shaped::alone_taken))]
-fn taken<'a>(expr: &'a Expr, here: (u8, bool), leaves: &Leaves) -> &'a Expr
-    requires alone { IsAlone leaves.now expr.now }
-    requires shape { HasShape (declared leaves.now) expr.now here.0 here.1 }
-    ensures same { result.now ≡ expr.now }
-    ensures taken { IsTaken leaves.now result.now here.0 here.1 }
-{
-    let _here = here;
-    let _leaves = leaves;
-    expr
-}
-
-// The node of a number.
-#[tactic(auto, using(crate::proofs::Kept::keeps_then, crate::proofs::Kept::made_node))]
-fn number_node(dag: &mut Dag, number: &Number, here: (u8, bool)) -> Result<u64, AllocError>
-    requires formed { IsLength (number_width number.now.size) }
-    requires long { number_width number.now.size ≤ here.0 }
-    requires most { here.0 ≤ 64 }
+// The node of an expression at a length and a sign, each name having the value of its leaf.
+#[cycle(nodes)]
+#[tactic(auto, using(crate::proofs::Kept::keeps_then, crate::proofs::Kept::ready_kept))]
+fn node_at(dag: &mut Dag, expr: &Expr, here: (u8, bool), leaves: &Leaves) -> Result<u64, AllocError>
+    requires ready { AreReady leaves.now dag.old }
+    requires taken { IsTaken leaves.now expr.now here.0 here.1 }
     ensures keeps { Keeps dag.old dag.new }
-    ensures makes { IfOk result (λ r. Makes dag.new r here.0 (λ e. extend here.1 (number_width number.now.size) here.0 (number.now.value % 2 ^ number_width number.now.size))) }
+    ensures ready { AreReady leaves.now dag.new }
+    ensures node { IfOk result (λ i. HasNode leaves.now dag.new dag.new expr.now here.0 here.1 i) }
 {
-    let width = width_of(number);
-    let value = Word::slice(Word::new(64, number.value), 0, width).value();
-    let node = constant(dag, width, value)?;
-    let number = extended(dag, Wire { node, width }, here.0, here.1)?;
-    Ok(number)
-}
-
-// A number's length.
-fn width_of(number: &Number) -> u8
-    ensures { result ≡ number_width number.now.size }
-{
-    match number.size {
-        Some(size) => size,
-        None => 32,
+    match expr {
+        Expr::Number(number) => {
+            let node = number_node(dag, number, here)?;
+            Ok(node)
+        }
+        Expr::Name(name) => {
+            let node = name_node(dag, name, here, leaves)?;
+            Ok(node)
+        }
+        Expr::Select(name, index) => {
+            let index = own_node(dag, alone(index, leaves), leaves)?;
+            let vector = name_vector(dag, name, leaves);
+            let node = based_bits(dag, vector, Span::Up, index, 1, here.0)?;
+            Ok(node)
+        }
+        Expr::Part(name, span, a, b) => {
+            let (width, _) = shape(expr, leaves);
+            if is_fixed(*span) {
+                let low = constant_integer(b, leaves);
+                let vector = name_vector(dag, name, leaves);
+                let node = fixed_bits(dag, vector, low, width, here.0)?;
+                return Ok(node);
+            }
+            let base = own_node(dag, alone(a, leaves), leaves)?;
+            let vector = name_vector(dag, name, leaves);
+            let node = based_bits(dag, vector, *span, base, width, here.0)?;
+            Ok(node)
+        }
+        Expr::ConstantSelect(number, index) => {
+            let index = own_node(dag, alone(index, leaves), leaves)?;
+            let vector = constant_vector(dag, *number)?;
+            let node = based_bits(dag, vector, Span::Up, index, 1, here.0)?;
+            Ok(node)
+        }
+        Expr::ConstantPart(number, span, a, _) => {
+            if is_fixed(*span) {
+                let node = constant_node(dag, expr, here, leaves)?;
+                return Ok(node);
+            }
+            let (width, _) = shape(expr, leaves);
+            let base = own_node(dag, alone(a, leaves), leaves)?;
+            let vector = constant_vector(dag, *number)?;
+            let node = based_bits(dag, vector, *span, base, width, here.0)?;
+            Ok(node)
+        }
+        Expr::Cast(_, inner) => {
+            let inner = own_node(dag, alone(inner, leaves), leaves)?;
+            let node = extended(dag, inner.wire, here.0, here.1)?;
+            Ok(node)
+        }
+        Expr::Paren(inner) => {
+            let node = node_at(dag, operand(inner, here, leaves), here, leaves)?;
+            Ok(node)
+        }
+        Expr::Concat(items) => {
+            let all = row_node(dag, row(items, leaves), leaves)?;
+            let node = extended(dag, all, here.0, false)?;
+            Ok(node)
+        }
+        Expr::Repeat(count, items) => {
+            let once = row_node(dag, row(items, leaves), leaves)?;
+            let all = copies(dag, once, count_of(count, once.width, leaves))?;
+            let node = extended(dag, all, here.0, false)?;
+            Ok(node)
+        }
+        Expr::Unary(op, inner) => {
+            let place = unary_place(expr, *op, inner, here, leaves);
+            let inner = node_at(dag, operand(inner, place, leaves), place, leaves)?;
+            let width = place.0;
+            let node = made(dag, *op, here.0, Wire { node: inner, width })?;
+            Ok(node)
+        }
+        Expr::Binary(op, a, b) => {
+            if is_division(*op) {
+                let node = constant_node(dag, expr, here, leaves)?;
+                return Ok(node);
+            }
+            let places = binary_places(expr, *op, a, b, here, leaves);
+            let left = places.left;
+            let right = places.right;
+            let a = node_at(dag, operand(a, left, leaves), left, leaves)?;
+            let b = node_at(dag, operand(b, right, leaves), right, leaves)?;
+            let a = Wire {
+                node: a,
+                width: left.0,
+            };
+            let b = Wire {
+                node: b,
+                width: right.0,
+            };
+            let node = joined(dag, *op, here, left.1, a, b)?;
+            Ok(node)
+        }
+        Expr::Choice(condition, a, b) => {
+            let condition = own_node(dag, alone(condition, leaves), leaves)?;
+            let a = node_at(dag, operand(a, here, leaves), here, leaves)?;
+            let b = node_at(dag, operand(b, here, leaves), here, leaves)?;
+            let a = Wire {
+                node: a,
+                width: here.0,
+            };
+            let b = Wire {
+                node: b,
+                width: here.0,
+            };
+            let node = chosen(dag, condition.wire, a, b)?;
+            Ok(node)
+        }
     }
 }
 
-// The leaf of a name.
-#[tactic(auto, using(crate::proofs::Read::stands_leaf))]
-fn leaf_of<'a>(name: &Name, leaves: &'a Leaves) -> &'a Leaf
-    requires { Stands (declared leaves.now) name.now }
-    ensures { leaf_at leaves.now name.now.text name.now.offset ≡ Some result.now }
+// The node of an expression by itself, and its sign.
+#[cycle(nodes)]
+fn own_node(dag: &mut Dag, expr: &Expr, leaves: &Leaves) -> Result<Own, AllocError>
+    requires ready { AreReady leaves.now dag.old }
+    requires alone { IsAlone leaves.now expr.now }
+    ensures keeps { Keeps dag.old dag.new }
+    ensures ready { AreReady leaves.now dag.new }
+    ensures node { IfOk result (λ o. HasOwnNode leaves.now dag.new dag.new expr.now o.wire o.signed) }
 {
-    match leaves.find(name.text.bytes(), name.offset) {
-        Some(leaf) => leaf,
-        None => unreachable!(),
-    }
+    let here = own_place(expr, leaves);
+    let node = node_at(dag, expr, here, leaves)?;
+    let wire = Wire {
+        node,
+        width: here.0,
+    };
+    Ok(Own {
+        wire,
+        signed: here.1,
+    })
 }
 
-// The node of a name.
-fn name_node(
+// The node of the parts of a concatenation, joined.
+#[cycle(nodes)]
+fn row_node(dag: &mut Dag, items: &[Expr], leaves: &Leaves) -> Result<Wire, AllocError>
+    requires ready { AreReady leaves.now dag.old }
+    requires row { IsRow leaves.now items.now }
+    ensures keeps { Keeps dag.old dag.new }
+    ensures ready { AreReady leaves.now dag.new }
+    ensures node { IfOk result (λ w. HasRowNode leaves.now dag.new dag.new items.now w) }
+{
+    let mut all = Wire { node: 0, width: 0 };
+    for item in items {
+        let low = own_node(dag, part(item, leaves), leaves)?;
+        all = appended(dag, all, low.wire)?;
+    }
+    Ok(all)
+}
+
+/// The node of an expression at a length in bits, at least its own, and a sign, as they come from the expression that it stands in. Its number
+/// is the expression's value, each name having the number of its leaf's node, whatever the free words are. It is refused for want of memory
+/// alone, and then the nodes that were there stay as they were.
+#[tactic(auto, using(crate::proofs::Kept::keeps_then, crate::proofs::Kept::ready_kept))]
+pub fn node_of(
     dag: &mut Dag,
-    name: &Name,
-    here: (u8, bool),
+    expr: &Expr,
+    length: u8,
+    signed: bool,
     leaves: &Leaves,
 ) -> Result<u64, AllocError>
     requires ready { AreReady leaves.now dag.old }
-    requires formed { Stands (declared leaves.now) name.now }
-    requires long { (named (declared leaves.now) name.now).width ≤ here.0 }
-    requires most { here.0 ≤ 64 }
+    requires taken { IsTaken leaves.now expr.now length signed }
     ensures keeps { Keeps dag.old dag.new }
-    ensures makes { IfOk result (λ r. Makes dag.new r here.0 (λ e. extend here.1 (named (valued leaves.now (words e dag.old)) name.now).width here.0 (named (valued leaves.now (words e dag.old)) name.now).value)) }
+    ensures ready { AreReady leaves.now dag.new }
+    ensures node { IfOk result (λ i. HasNode leaves.now dag.old dag.new expr.now length signed i) }
 {
-    let leaf = leaf_of(name, leaves);
-    let wire = Wire {
-        node: leaf.node,
-        width: leaf.width,
-    };
-    let number = extended(dag, wire, here.0, here.1)?;
-    Ok(number)
+    let node = node_at(dag, expr, (length, signed), leaves)?;
+    Ok(node)
 }
 
-/// The bits of a word that an index names, at a length.
-#[tactic(auto, using(crate::proofs::Kept::keeps_then, crate::proofs::Kept::made_node))]
-fn indexed_at(
+/// The node of what an assignment gives to a left side of so many bits (IEEE 1364-2005, 5.4). It is refused for want of memory alone, and then
+/// the nodes that were there stay as they were.
+#[tactic(auto, using(crate::proofs::Kept::keeps_then, crate::proofs::Kept::ready_kept))]
+pub fn assigned_node(
     dag: &mut Dag,
-    a: Wire,
-    index: Own,
-    from: i128,
+    expr: &Expr,
     width: u8,
-    length: u8,
+    leaves: &Leaves,
 ) -> Result<u64, AllocError>
-    requires node { IsWire dag.old a }
-    requires index { IsWire dag.old index.wire }
+    requires ready { AreReady leaves.now dag.old }
+    requires formed { IsFormed (declared leaves.now) expr.now }
+    requires constant { HasConstantParts nothing expr.now }
+    requires defined { IsDefined (declared leaves.now) expr.now (max (width_of (declared leaves.now) expr.now) width) (sign_of (declared leaves.now) expr.now) }
     requires some { 1 ≤ width }
-    requires long { width ≤ length }
-    requires most { length ≤ 64 }
-    requires low { negsuc (2 ^ 80) ≤ℤ from }
-    requires high { from <ℤ pos (2 ^ 80) }
+    requires most { width ≤ 64 }
     ensures keeps { Keeps dag.old dag.new }
-    ensures makes { IfOk result (λ r. Makes dag.new r length (λ e. moved_down (integer index.signed index.wire.width (number_at e dag.old index.wire.node) -ℤ from) (number_at e dag.old a.node) % 2 ^ width)) }
+    ensures ready { AreReady leaves.now dag.new }
+    ensures node { IfOk result (λ i. Makes dag.new i width (λ e. assigned (valued leaves.now (words e dag.old)) expr.now width)) }
 {
-    let bits = indexed(dag, a, index, from, width)?;
-    let number = extended(dag, Wire { node: bits, width }, length, false)?;
+    let (own, signed) = shape(expr, leaves);
+    let length = own.max(width);
+    let node = node_at(dag, expr, (length, signed), leaves)?;
+    let wire = Wire {
+        node,
+        width: length,
+    };
+    let number = slice(dag, wire, 0, width)?;
     Ok(number)
 }
 
-// The bit of a name's vector that an index names.
-fn select_node(dag: &mut Dag, leaf: &Leaf, index: Own, length: u8) -> Result<u64, AllocError>
-    requires node { IsNode dag.old leaf.now.node leaf.now.width }
-    requires index { IsWire dag.old index.wire }
-    requires some { 1 ≤ length }
-    requires most { length ≤ 64 }
-    ensures fit { FitFrom [] dag.old }
+/// The node of a condition: one bit that is 1 exactly where the expression's own value isn't 0. It is refused for want of memory alone, and
+/// then the nodes that were there stay as they were.
+#[tactic(auto, using(crate::proofs::Kept::keeps_then, crate::proofs::Kept::ready_kept))]
+pub fn holds_node(dag: &mut Dag, expr: &Expr, leaves: &Leaves) -> Result<u64, AllocError>
+    requires ready { AreReady leaves.now dag.old }
+    requires alone { IsAlone leaves.now expr.now }
     ensures keeps { Keeps dag.old dag.new }
-    ensures makes { IfOk result (λ r. Makes dag.new r length (λ e. moved_down (integer index.signed index.wire.width (number_at e dag.old index.wire.node) -ℤ pos leaf.now.low) (number_at e dag.old leaf.now.node) % 2 ^ 1)) }
+    ensures ready { AreReady leaves.now dag.new }
+    ensures node { IfOk result (λ i. Makes dag.new i 1 (λ e. bit (not (nat_eq (own_value (valued leaves.now (words e dag.old)) expr.now) 0)))) }
 {
-    // the nodes of a dag fit
-    let _fit = dag.nodes();
-    let wire = Wire {
-        node: leaf.node,
-        width: leaf.width,
-    };
-    let number = indexed_at(dag, wire, index, i128::from(leaf.low), 1, length)?;
+    let own = own_node(dag, expr, leaves)?;
+    let number = truth(dag, own.wire)?;
     Ok(number)
 }

@@ -1,4 +1,4 @@
-use Rattle.std.proofs.Common.{◌≡◌, arith, pos, ◌≤ℤ◌, ◌-ℤ◌}
+use Rattle.std.proofs.Common.{arith, pos, ◌≤ℤ◌, ◌-ℤ◌}
 use Rattle.std.proofs.lemmas.Int.{ints}
 use Rattle.elab_node.specs.Nodes.{number_at}
 use Rattle.elab_node.proofs.Kept.{made_same, number_fits}

@@ -1,4 +1,4 @@
-use Rattle.std.proofs.Common.{◌≡◌, ◌+◌, ◌/◌, ◌%◌, ◌^◌}
+use Rattle.std.proofs.Common.{◌+◌, ◌/◌, ◌%◌, ◌^◌}
 use Rattle.std.specs.Prelude.{count_ones}
 use Rattle.word_dag.specs.Adding.{Keeps}
 use Rattle.elab_node.specs.Nodes.{Makes, number_at}

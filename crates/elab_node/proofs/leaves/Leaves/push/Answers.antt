@@ -1,7 +1,7 @@
 use Rattle.std.proofs.Common.{sym, ◌∙◌, ap, subst, List, ◌≡◌, ◌++◌, ◌∷◌, []}
 use Rattle.vlog_tree.specs.declared.valuation.Entry.{Entry}
 use Rattle.elab_node.specs.declared.leaves.Leaf.{Leaf}
-use Rattle.elab_node.specs.Leaves.{AreWide, declared, entry_of}
+use Rattle.elab_node.specs.Leaves.{AreWide, declared}
 use Rattle.elab_node.proofs.Leaving.{wide_push, declared_push}
 use Rattle.elab_node.proofs.leaves.Leaves.push.Goals as goal
 

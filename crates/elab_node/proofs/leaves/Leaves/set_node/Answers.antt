@@ -1,4 +1,4 @@
-use Rattle.std.proofs.Common.{sym, ◌∙◌, ap, subst, List, ◌≡◌, ◌<◌, length, arith}
+use Rattle.std.proofs.Common.{sym, ◌∙◌, ap, subst, List, ◌≡◌, ◌<◌, length}
 use Rattle.elab_node.specs.declared.leaves.Leaf.{Leaf}
 use Rattle.elab_node.specs.Leaves.{AreWide, declared, with_node}
 use Rattle.elab_node.proofs.Leaving.{set_is, wide_with, declared_with}

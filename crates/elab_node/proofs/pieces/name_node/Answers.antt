@@ -1,10 +1,10 @@
-use Rattle.std.proofs.Common.{◌≡◌, ◌≤◌, ap, sym, ◌∙◌, arith}
+use Rattle.std.proofs.Common.{ap, sym, arith}
 use Rattle.vlog_tree.specs.declared.expr.Constant.{Constant}
 use Rattle.vlog_tree.specs.Value.{extend}
 use Rattle.elab_node.specs.Nodes.{number_at}
 use Rattle.elab_node.proofs.Kept.{made_same}
 use Rattle.elab_node.proofs.Read.{leaf_ready, named_leaf}
-use Rattle.elab_node.proofs.node.name_node.Goals as goal
+use Rattle.elab_node.proofs.pieces.name_node.Goals as goal
 
 pub extended-requires-clause-node : goal.extended-requires-clause-node
 extended-requires-clause-node c = (leaf_ready c.args.leaves.now c.args.dag.now c.args.name.now.text c.args.name.now.offset c.leaf_of-leaf.result.now c.requires.ready c.leaf_of-leaf.ensures).1

@@ -1,0 +1,172 @@
+// The parts of expressions, as they are taken.
+ghost use Rattle.std.specs.Prelude.{◌≡◌, ◌*◌, ◌^◌, ◌≤◌, ◌<◌, IsTrue, ℤ, pos, negsuc, ◌≤ℤ◌, ◌<ℤ◌};
+ghost use Rattle.std.specs.Bool.{MatchBool};
+ghost use Rattle.vlog_tree.specs.Valuation.{IsLength};
+ghost use Rattle.vlog_tree.specs.Value.{IsFormed, natural, operand_of, own_integer};
+ghost use Rattle.vlog_value.specs.declared.operators.Family.TheVariants as family;
+ghost use Rattle.vlog_value.specs.Operators.{family_of};
+ghost use Rattle.vlog_value.specs.Shapes.{HasShape};
+ghost use Rattle.elab_node.specs.Leaves.{declared};
+ghost use Rattle.elab_node.specs.Terms.{IsTaken, IsAlone, IsRow, IsInner, AreOperands};
+
+use crate::indexed::integer;
+use crate::leaves::Leaves;
+use crate::nodes::Wire;
+use crate::places::{family_of, inner_place, left_place, right_place};
+use sqlite_items::{Boxed, Items};
+use vlog_tree::{Binary, Expr, Span, Unary};
+use vlog_value::{checked_own_value, shape_of};
+
+/// The bits of a vector, and the number of the lowest one.
+#[derive(Clone, Copy)]
+pub struct Vector {
+    pub wire: Wire,
+    pub low: u64,
+}
+
+/// Where a binary operator takes its operands: the length and the sign of each.
+#[derive(Clone, Copy)]
+pub struct Places {
+    pub left: (u8, bool),
+    pub right: (u8, bool),
+}
+
+/// The length and the sign that an expression has by itself.
+pub fn shape(expr: &Expr, leaves: &Leaves) -> (u8, bool)
+    requires { IsFormed (declared leaves.now) expr.now }
+    ensures { HasShape (declared leaves.now) expr.now result.0 result.1 }
+{
+    match shape_of(expr, leaves.declared()) {
+        Some(shape) => shape,
+        None => unreachable!(),
+    }
+}
+
+/// A part of an expression that is taken at a length and a sign.
+pub fn operand<'a>(boxed: &'a Boxed<Expr>, here: (u8, bool), leaves: &Leaves) -> &'a Expr
+    requires { IsTaken leaves.now boxed.now here.0 here.1 }
+    ensures same { result.now ≡ boxed.now }
+    ensures taken { IsTaken leaves.now result.now here.0 here.1 }
+{
+    let _here = here;
+    let _leaves = leaves;
+    boxed.get()
+}
+
+/// A part of an expression that is taken by itself.
+pub fn alone<'a>(boxed: &'a Boxed<Expr>, leaves: &Leaves) -> &'a Expr
+    requires { IsAlone leaves.now boxed.now }
+    ensures same { result.now ≡ boxed.now }
+    ensures alone { IsAlone leaves.now result.now }
+{
+    let _leaves = leaves;
+    boxed.get()
+}
+
+/// A part of a concatenation.
+pub fn part<'a>(expr: &'a Expr, leaves: &Leaves) -> &'a Expr
+    requires { IsAlone leaves.now expr.now }
+    ensures same { result.now ≡ expr.now }
+    ensures alone { IsAlone leaves.now result.now }
+{
+    let _leaves = leaves;
+    expr
+}
+
+/// The parts of a concatenation.
+pub fn row<'a>(items: &'a Items<Expr>, leaves: &Leaves) -> &'a [Expr]
+    requires { IsRow leaves.now items.now }
+    ensures same { result.now ≡ items.now }
+    ensures row { IsRow leaves.now result.now }
+{
+    let _leaves = leaves;
+    items.as_slice()
+}
+
+/// The length and the sign of an expression that is taken by itself.
+#[tactic(auto, using(crate::proofs::Shaped::alone_taken))]
+pub fn own_place(expr: &Expr, leaves: &Leaves) -> (u8, bool)
+    requires { IsAlone leaves.now expr.now }
+    ensures shape { HasShape (declared leaves.now) expr.now result.0 result.1 }
+    ensures taken { IsTaken leaves.now expr.now result.0 result.1 }
+{
+    shape(expr, leaves)
+}
+
+/// Where a unary operator takes its operand.
+pub fn unary_place(
+    expr: &Expr,
+    op: Unary,
+    inner: &Boxed<Expr>,
+    here: (u8, bool),
+    leaves: &Leaves,
+) -> (u8, bool)
+    requires is { expr.now ≡ Expr.Unary op inner.now }
+    requires taken { IsTaken leaves.now expr.now here.0 here.1 }
+    ensures place { IsInner leaves.now op inner.now here.0 here.1 result.0 result.1 }
+    ensures taken { IsTaken leaves.now inner.now result.0 result.1 }
+{
+    let _expr = expr;
+    inner_place(op, here, shape(inner.get(), leaves))
+}
+
+/// Where a binary operator takes its operands.
+pub fn binary_places(
+    expr: &Expr,
+    op: Binary,
+    a: &Boxed<Expr>,
+    b: &Boxed<Expr>,
+    here: (u8, bool),
+    leaves: &Leaves,
+) -> Places
+    requires is { expr.now ≡ Expr.Binary op a.now b.now }
+    requires taken { IsTaken leaves.now expr.now here.0 here.1 }
+    ensures places { AreOperands leaves.now op a.now b.now here.0 here.1 result.left.0 result.left.1 result.right.0 result.right.1 }
+    ensures left { IsTaken leaves.now a.now result.left.0 result.left.1 }
+    ensures right { IsTaken leaves.now b.now result.right.0 result.right.1 }
+{
+    let _expr = expr;
+    let first = shape(a.get(), leaves);
+    let second = shape(b.get(), leaves);
+    Places {
+        left: left_place(family_of(op), here, first, second),
+        right: right_place(family_of(op), here, first, second),
+    }
+}
+
+/// Whether an operator divides.
+pub fn is_division(op: Binary) -> bool
+    ensures { MatchBool result (family_of op ≡ family.Division) (family_of op ≡ family.Division → ⊥) }
+{
+    matches!(op, Binary::Div | Binary::Rem)
+}
+
+/// Whether a part-select is `[high:low]`.
+pub fn is_fixed(span: Span) -> bool
+    ensures { MatchBool result (span ≡ Span.Fixed) (span ≡ Span.Fixed → ⊥) }
+{
+    matches!(span, Span::Fixed)
+}
+
+/// The integer of a part that is the same whatever the names' values are.
+pub fn constant_integer(boxed: &Boxed<Expr>, leaves: &Leaves) -> i128
+    requires { IsAlone leaves.now boxed.now }
+    ensures value { result ≡ own_integer (operand_of (declared leaves.now) boxed.now) }
+    ensures low { negsuc (2 ^ 64) ≤ℤ result }
+    ensures high { result <ℤ pos (2 ^ 64) }
+{
+    match checked_own_value(boxed.get(), leaves.declared()) {
+        Some((word, signed)) => integer(word, signed),
+        None => unreachable!(),
+    }
+}
+
+/// How many copies of so many bits there are.
+pub fn count_of(boxed: &Boxed<Expr>, width: u8, leaves: &Leaves) -> u8
+    requires alone { IsAlone leaves.now boxed.now }
+    requires length { IsLength (natural (own_integer (operand_of (declared leaves.now) boxed.now)) * width) }
+    ensures { result ≡ natural (own_integer (operand_of (declared leaves.now) boxed.now)) }
+{
+    let _width = width;
+    constant_integer(boxed, leaves) as u8
+}
