@@ -154,7 +154,7 @@ pub record Giving (all rest : List Target) (n left : ℕ) (ls : List Leaf) (a : 
 pub giving_none : (ts : List Target) (n left : ℕ) (ls : List Leaf) (a : List Node) → AreReady ls a → left ≡ bits_in ts → Giving ts ts n left ls a ls a
 giving_none ts n left ls a r is = record { keeps = keeps_same a; ready = r; same = refl; left_is = is; gives = λ e d h. (d, h, λ x. refl) }
 
-total_bits : (e : Naming) (ns : List Node) (ls : List Leaf) (ts : List Target) → bits_in ts ≡ total (pieces_of e ns ls ts)
+pub total_bits : (e : Naming) (ns : List Node) (ls : List Leaf) (ts : List Target) → bits_in ts ≡ total (pieces_of e ns ls ts)
 total_bits e ns ls [] = refl
 total_bits e ns ls (t ∷ ts) = ap (λ k. t.count + k) (total_bits e ns ls ts)
 

@@ -3,3 +3,6 @@ mod Writing
 mod Trying
 mod Joins
 mod Giving
+mod Sides
+mod Storing
+mod Matching

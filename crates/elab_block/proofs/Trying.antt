@@ -20,7 +20,7 @@ less_false i j h = grind (arith, ints)
 less_is : (i j : ℤ) → i <ℤ j → int_lt i j ≡ true
 less_is i j h = grind (arith, ints)
 
-iff : (p q : Bool) → (p ≡ true → q ≡ true) → (q ≡ true → p ≡ true) → p ≡ q
+pub iff : (p q : Bool) → (p ≡ true → q ≡ true) → (q ≡ true → p ≡ true) → p ≡ q
 iff true q f g = sym (f refl)
 iff false true f g = g refl
 iff false false f g = refl

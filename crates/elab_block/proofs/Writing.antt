@@ -14,10 +14,10 @@ use Rattle.write_laws.specs.Laws.{WritesInside, WritesNothingElse, WritesInOnePi
 parts : (x k : ℕ) → x ≡ x / 2 ^ k * 2 ^ k + x % 2 ^ k
 parts x k = omega (arith, div-add-mod x (2 ^ k))
 
-low_bit : (x k j : ℕ) → j < k → bit_at (x % 2 ^ k) j ≡ bit_at x j
+pub low_bit : (x k j : ℕ) → j < k → bit_at (x % 2 ^ k) j ≡ bit_at x j
 low_bit x k j l = sym (ap (λ z. bit_at z j) (parts x k) ∙ bit_at_cat_low (x / 2 ^ k) k (x % 2 ^ k) j l)
 
-less_or : (j b : ℕ) → (j < b) ⊎ (b ≤ j)
+pub less_or : (j b : ℕ) → (j < b) ⊎ (b ≤ j)
 less_or j b = ⊎_elim (λ (e : nat_lt j b ≡ true). inl (ltb-true j b e)) (λ (e : nat_lt j b ≡ false). inr (ltb-false j b e)) (bool_cases (nat_lt j b))
 
 -- ---- in one piece

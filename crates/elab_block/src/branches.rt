@@ -5,6 +5,7 @@ ghost use Rattle.elab_node.specs.Leaves.{AreReady, declared};
 ghost use Rattle.elab_node.specs.Nodes.{Makes, IsNode, number_at};
 ghost use Rattle.elab_block.specs.Standing.{AreNodes, nodes_of, with_nodes, AreShown, chosen};
 ghost use Rattle.elab_block.specs.Joining.{AreChoices};
+ghost use Rattle.elab_block.specs.Runs.{Joins};
 
 use crate::nodes::{Wire, choice};
 use elab_node::Leaves;
@@ -76,4 +77,59 @@ pub fn joined(
         nodes.push(node)?;
     }
     Ok(nodes)
+}
+
+/// Gives the leaves these nodes, and takes theirs.
+pub fn replaced(alloc: Global, state: &mut Leaves, nodes: &[u64]) -> Result<Vec<u64>, AllocError>
+    requires { length nodes.now ≡ length state.old }
+    ensures taken { IfOk result (λ r. r.items ≡ nodes_of state.old) }
+    ensures given { IfOk result (λ r. state.new ≡ with_nodes state.old nodes.now) }
+    ensures same { declared state.new ≡ declared state.old }
+{
+    let taken = nodes_of(alloc, state)?;
+    set_nodes(state, nodes);
+    Ok(taken)
+}
+
+/// Gives each leaf the node of this number where a bit is 1; else it keeps its own.
+pub fn join(
+    alloc: Global,
+    dag: &mut Dag,
+    condition: u64,
+    ones: &[u64],
+    state: &mut Leaves,
+) -> Result<(), AllocError>
+    requires condition { IsNode dag.old condition 1 }
+    requires ones { AreNodes state.old ones.now dag.old }
+    requires others { AreReady state.old dag.old }
+    ensures keeps { Keeps dag.old dag.new }
+    ensures same { declared state.new ≡ declared state.old }
+    ensures ready { IfOk result (λ u. AreReady state.new dag.new) }
+    ensures joins { IfOk result (λ u. Joins condition ones.now state.old dag.old state.new dag.new) }
+{
+    let nodes = joined(alloc, dag, condition, ones, state)?;
+    set_nodes(state, &nodes);
+    Ok(())
+}
+
+/// Where a bit is 1, the leaves keep their nodes; else they get these.
+#[tactic(auto, using(elab_node::proofs::Kept::keeps_then))]
+pub fn rejoin(
+    alloc: Global,
+    dag: &mut Dag,
+    condition: u64,
+    others: &[u64],
+    state: &mut Leaves,
+) -> Result<(), AllocError>
+    requires condition { IsNode dag.old condition 1 }
+    requires others { AreNodes state.old others.now dag.old }
+    requires ones { AreReady state.old dag.old }
+    ensures keeps { Keeps dag.old dag.new }
+    ensures same { declared state.new ≡ declared state.old }
+    ensures ready { IfOk result (λ u. AreReady state.new dag.new) }
+    ensures joins { IfOk result (λ u. Joins condition (nodes_of state.old) (with_nodes state.old others.now) dag.old state.new dag.new) }
+{
+    let ones = replaced(alloc, state, others)?;
+    join(alloc, dag, condition, &ones, state)?;
+    Ok(())
 }

@@ -11,8 +11,8 @@ use std::alloc::AllocError;
 use word_core::Word;
 use word_dag::{Dag, Op};
 
-// The low bits of a number.
-fn low_bits(number: u64, width: u8) -> Word
+/// The low bits of a number.
+pub fn low_bits(number: u64, width: u8) -> Word
     requires some { 1 ≤ width }
     requires most { width ≤ 64 }
     ensures { result ≡ record { width = width; value = number % 2 ^ width } }

@@ -3,7 +3,12 @@
 
 mod bits;
 mod branches;
+mod cases;
 mod codes;
 mod indexed;
+mod left;
 mod nodes;
+mod stores;
 mod targets;
+
+pub use stores::assign;
