@@ -1,0 +1,16 @@
+use Rattle.std.proofs.Common.{◌-◌, pos, ◌∙◌}
+use Rattle.vlog_runs.specs.Places.{write_bits}
+use Rattle.elab_node.specs.Nodes.{number_at}
+use Rattle.elab_node.proofs.Kept.{made_same, made_number, number_fits, number_kept}
+use Rattle.elab_block.proofs.Writing.{from_below_is}
+use Rattle.elab_block.proofs.bits.from_below.Goals as goal
+
+pub returns-clause-makes : goal.returns-clause-makes
+returns-clause-makes c =
+    let d = c.args.dag.now in
+    let o = c.args.old in
+    let b = c.args.bits in
+    let mid = c.slice.new.dag in
+    made_same c.clipped.new.dag c.in_ok-number.number o.width _ _ c.in_ok-number.ensures.makes
+    (λ e. (λ r. write_bits o.width (pos 0) (b.width - c.args.skipped) (made_number e mid c.in_ok-part.part _ _ c.in_ok-part.ensures.makes r) (number_kept e d mid o.node o.width c.in_ok-part.ensures.keeps c.requires.old r))
+    ∙ from_below_is c.bits_are_written.ensures.below o.width c.args.skipped b.width (number_at e d b.node) (number_at e d o.node) c.requires.some c.requires.within (number_fits e d b.node b.width c.length_of.ensures.fit c.requires.bits))

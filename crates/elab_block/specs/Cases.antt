@@ -1,0 +1,38 @@
+-- Which labels of a case statement match a number (IEEE 1364-2005, section 9.5).
+use Rattle.std.specs.Prelude.{ℕ, Bool, List, [], ◌∷◌, ◌++◌, nat_eq, bit_or, if◌then◌else◌}
+use Rattle.std.specs.List.{list_any}
+use Rattle.vlog_tree.specs.declared.expr.Expr.{Expr}
+use Rattle.vlog_tree.specs.declared.stmt.CaseItem.{CaseItem}
+use Rattle.vlog_tree.specs.declared.stmt.CaseKind.{CaseKind}
+use Rattle.vlog_tree.specs.declared.stmt.Labels.{Labels}
+use Rattle.vlog_tree.specs.declared.valuation.Entry.{Entry}
+use Rattle.vlog_tree.specs.Value.{value_of}
+use Rattle.vlog_runs.specs.Places.{Cycle, Place}
+use Rattle.vlog_runs.specs.Blocks.{ignored, exprs_in, is_default, run}
+
+-- two numbers are the same but for some bits
+abbrev pub is_same_but : ℕ → ℕ → ℕ → Bool
+is_same_but bits x y = nat_eq (bit_or x bits) (bit_or y bits)
+
+-- a label matches the number of the case expression, both of n bits
+abbrev pub is_match : CaseKind → List Entry → ℕ → Bool → ℕ → Expr → Bool
+is_match kind v n signed x label = is_same_but (ignored kind label) x (value_of v label n signed)
+
+-- one of an item's labels does
+abbrev pub is_chosen : CaseKind → List Entry → ℕ → Bool → ℕ → Labels → Bool
+is_chosen kind v n signed x labels = list_any (is_match kind v n signed x) (exprs_in labels)
+
+-- the labels of items
+abbrev pub each_labels : List CaseItem → List Expr
+each_labels [] = []
+each_labels (i ∷ rest) = exprs_in i.labels ++ each_labels rest
+
+-- what the first item makes of a cycle of which a label passes a test, and otherwise this cycle
+abbrev pub each_items : Bool → Place → (Labels → Bool) → List CaseItem → Cycle → Cycle → Cycle → Cycle
+each_items at_once p test [] c d otherwise x = otherwise x
+each_items at_once p test (i ∷ rest) c d otherwise x = if test i.labels then run at_once p i.body c d x else each_items at_once p test rest c d otherwise x
+
+-- what stands for `default`
+abbrev pub each_default : Bool → Place → List CaseItem → Cycle → Cycle → Cycle
+each_default at_once p [] c d x = d x
+each_default at_once p (i ∷ rest) c d x = if is_default i.labels then run at_once p i.body c d x else each_default at_once p rest c d x

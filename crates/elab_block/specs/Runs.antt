@@ -1,0 +1,60 @@
+-- Blocks that are run on nodes.
+use Rattle.std.specs.Prelude.{ℕ, ◌≡◌, Bool, true, false, List, [], ◌∷◌, Option, Some, None}
+use Rattle.word_dag.specs.declared.node.Node.{Node}
+use Rattle.word_dag.specs.Nodes.{Naming}
+use Rattle.vlog_runs.specs.declared.flat.Signal.{Signal}
+use Rattle.vlog_tree.specs.declared.stmt.Stmt.{Stmt}
+use Rattle.vlog_tree.specs.Value.{bit}
+use Rattle.vlog_runs.specs.Places.{Cycle, Place}
+use Rattle.vlog_runs.specs.Blocks.{run}
+use Rattle.elab_node.specs.declared.leaves.Leaf.{Leaf}
+use Rattle.elab_node.specs.Leaves.{declared, AreReady}
+use Rattle.elab_node.specs.Nodes.{number_at}
+use Rattle.elab_block.specs.Standing.{flat, AreLeavesOf, AreApart, AreShown, with_nodes, chosen}
+
+-- the leaves that expressions are read from: those of the cycle before the edge, and where there are none, those that stand now
+abbrev pub seen_by : Option (List Leaf) → List Leaf → List Leaf
+seen_by None ms = ms
+seen_by (Some ls) ms = ls
+
+-- assignments take effect at once
+abbrev pub is_at_once : Option (List Leaf) → Bool
+is_at_once None = true
+is_at_once (Some ls) = false
+
+-- the leaves of the cycle before the edge, if there are any, show this cycle
+abbrev pub AreBefore : Naming → List Node → Option (List Leaf) → Cycle → Type 0
+AreBefore e ns None c = Unit {0}
+AreBefore e ns (Some ls) c = AreShown e ns ls c
+
+-- the leaves have nodes of their lengths, no two of them have one name, and those that are read are of the same names
+pub record AreSet (reads : Option (List Leaf)) (ms : List Leaf) (ns : List Node) : Type 0 where
+  pub ready : AreReady ms ns
+  pub seen : AreReady (seen_by reads ms) ns
+  pub same : declared (seen_by reads ms) ≡ declared ms
+  pub apart : AreApart ms
+
+-- the later leaves show f of each two cycles that are shown before: the one before the edge, and the one so far
+abbrev pub Runs : Option (List Leaf) → (List Signal → Cycle → Cycle → Cycle) → List Leaf → List Node → List Leaf → List Node → Type 0
+Runs reads f ls old ms new =
+    (gs : List Signal) (e : Naming) (c d : Cycle) → AreLeavesOf gs ls → AreBefore e old reads c → AreShown e old ls d → AreShown e new ms (f gs c d)
+
+-- the later leaves show the first of two cycles where a node is 1, else the second
+abbrev pub Joins : ℕ → List ℕ → List Leaf → List Node → List Leaf → List Node → Type 0
+Joins condition ones ls old ms new =
+    (e : Naming) (c d : Cycle) → AreShown e old (with_nodes ls ones) c → AreShown e old ls d → AreShown e new ms (chosen (number_at e old condition) c d)
+
+-- statements, one after another
+abbrev pub each_runs : Bool → Place → List Stmt → Cycle → Cycle → Cycle
+each_runs at_once p [] c d = d
+each_runs at_once p (a ∷ rest) c d = each_runs at_once p rest c (run at_once p a c d)
+
+-- a node is 1 where a test holds of the cycles that are shown, and 0 where it doesn't
+abbrev pub Tests : Option (List Leaf) → (List Signal → Cycle → Cycle → Bool) → List Leaf → List Node → List Node → ℕ → Type 0
+Tests reads t ms old new z = (gs : List Signal) (e : Naming) (p q : Cycle) → AreLeavesOf gs ms → AreBefore e old reads p → AreShown e old ms q → number_at e new z ≡ bit (t gs p q)
+
+-- the later leaves show what a statement makes of what these nodes show where a test's node is 1, else what was shown
+abbrev pub Branches : Option (List Leaf) → Stmt → ℕ → List ℕ → List Leaf → List Node → List Leaf → List Node → Type 0
+Branches reads body test before ms old ks new =
+    (gs : List Signal) (e : Naming) (p q d : Cycle) → AreLeavesOf gs ms → AreBefore e old reads p → AreShown e old (with_nodes ms before) q → AreShown e old ms d
+    → AreShown e new ks (chosen (number_at e old test) (run (is_at_once reads) (flat gs) body p q) d)

@@ -1,0 +1,108 @@
+// Bits of a word that are written where a variable index says.
+ghost use Rattle.std.specs.Prelude.{◌≡◌, ℕ, ◌-◌, ◌^◌, ◌≤◌, ◌<◌, IfOk, ℤ, pos, negsuc, ◌≤ℤ◌, ◌<ℤ◌, ◌+ℤ◌, ◌-ℤ◌, nat_eq, if◌then◌else◌};
+ghost use Rattle.word_dag.specs.Adding.{Keeps};
+ghost use Rattle.vlog_tree.specs.Value.{integer};
+ghost use Rattle.vlog_runs.specs.Places.{write_bits};
+ghost use Rattle.elab_node.specs.Indexed.{is_same};
+ghost use Rattle.elab_node.specs.Nodes.{Makes, number_at};
+ghost use Rattle.elab_block.specs.Wires.{IsWire};
+
+use crate::bits::written;
+use crate::codes::{code_of, hit};
+use crate::nodes::{Wire, choice, length_of};
+use std::alloc::AllocError;
+use word_dag::Dag;
+use write_laws::bits_are_written;
+
+/// A word, and bits that are written in it.
+#[derive(Clone, Copy)]
+pub struct Change {
+    pub old: Wire,
+    pub bits: Wire,
+}
+
+/// A word that is taken by itself, and its sign.
+#[derive(Clone, Copy)]
+pub struct Own {
+    pub wire: Wire,
+    pub signed: bool,
+}
+
+// The word with its change at this place where another word has this number, and a third one where it hasn't.
+#[tactic(auto, using(elab_node::proofs::Kept::keeps_then, elab_node::proofs::Kept::made_node, elab_node::proofs::Kept::node_kept))]
+fn with_code(
+    dag: &mut Dag,
+    change: Change,
+    word: Wire,
+    code: u64,
+    at: i128,
+    other: u64,
+) -> Result<u64, AllocError>
+    requires old { IsWire dag.old change.old }
+    requires bits { IsWire dag.old change.bits }
+    requires word { IsWire dag.old word }
+    requires other { IsWire dag.old (record { node = other; width = change.old.width }) }
+    requires fits { code < 2 ^ word.width }
+    requires low { negsuc (2 ^ 100) ≤ℤ at }
+    requires high { at <ℤ pos (2 ^ 100) }
+    ensures keeps { Keeps dag.old dag.new }
+    ensures makes { IfOk result (λ r. Makes dag.new r change.old.width (λ e. if nat_eq (number_at e dag.old word.node) code then write_bits change.old.width at change.bits.width (number_at e dag.old change.bits.node) (number_at e dag.old change.old.node) else number_at e dag.old other)) }
+{
+    let width = change.old.width;
+    let hit = hit(dag, word, code)?;
+    let node = written(dag, change.old, change.bits, at)?;
+    let number = choice(dag, hit, Wire { node, width }, Wire { node: other, width })?;
+    Ok(number)
+}
+
+// The same where an index stands for an integer: the one that is `step` above the lowest that writes any bits.
+fn with_position(
+    dag: &mut Dag,
+    change: Change,
+    index: Own,
+    from: i128,
+    step: u8,
+    other: u64,
+) -> Result<u64, AllocError>
+    requires old { IsWire dag.old change.old }
+    requires bits { IsWire dag.old change.bits }
+    requires index { IsWire dag.old index.wire }
+    requires other { IsWire dag.old (record { node = other; width = change.old.width }) }
+    requires low { negsuc (2 ^ 80) ≤ℤ from }
+    requires high { from <ℤ pos (2 ^ 80) }
+    ensures keeps { Keeps dag.old dag.new }
+    ensures makes { IfOk result (λ r. Makes dag.new r change.old.width (λ e. if is_same (integer index.signed index.wire.width (number_at e dag.old index.wire.node)) (from +ℤ (pos step -ℤ pos (change.bits.width - 1))) then write_bits change.old.width (pos step -ℤ pos (change.bits.width - 1)) change.bits.width (number_at e dag.old change.bits.node) (number_at e dag.old change.old.node) else number_at e dag.old other)) }
+{
+    // a node has from 1 to 64 bits
+    let _lengths = (length_of(dag, index.wire), length_of(dag, change.bits));
+    let at = i128::from(step) - i128::from(change.bits.width - 1);
+    match code_of(from + at, index.wire.width, index.signed) {
+        Some(code) => {
+            let number = with_code(dag, change, index.wire, code, at, other)?;
+            Ok(number)
+        }
+        None => Ok(other),
+    }
+}
+
+/// A word with bits from the one that an index names upwards, where the word's lowest bit has the number `from`; bits that it
+/// hasn't aren't written.
+#[tactic(auto, using(elab_node::proofs::Kept::keeps_then, elab_node::proofs::Kept::made_node, elab_node::proofs::Kept::node_kept, elab_node::proofs::Kept::keeps_same))]
+pub fn indexed(dag: &mut Dag, change: Change, index: Own, from: i128) -> Result<u64, AllocError>
+    requires old { IsWire dag.old change.old }
+    requires bits { IsWire dag.old change.bits }
+    requires index { IsWire dag.old index.wire }
+    requires low { negsuc (2 ^ 80) ≤ℤ from }
+    requires high { from <ℤ pos (2 ^ 80) }
+    ensures keeps { Keeps dag.old dag.new }
+    ensures makes { IfOk result (λ r. Makes dag.new r change.old.width (λ e. write_bits change.old.width (integer index.signed index.wire.width (number_at e dag.old index.wire.node) -ℤ from) change.bits.width (number_at e dag.old change.bits.node) (number_at e dag.old change.old.node))) }
+{
+    bits_are_written();
+    let size = length_of(dag, change.old);
+    let count = length_of(dag, change.bits);
+    let mut number = change.old.node;
+    for step in 0..count - 1 + size {
+        number = with_position(dag, change, index, from, step, number)?;
+    }
+    Ok(number)
+}

@@ -1,0 +1,14 @@
+//! Blocks as nodes of a dag: from a node for each signal to a node for each signal after the block.
+#![tactic(auto)]
+
+mod bits;
+mod branches;
+mod cases;
+mod codes;
+mod indexed;
+mod left;
+mod nodes;
+mod stores;
+mod targets;
+
+pub use stores::assign;

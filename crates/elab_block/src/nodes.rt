@@ -1,0 +1,119 @@
+// Single nodes of a dag, each with the number that it has whatever the free words are.
+ghost use Rattle.std.specs.Prelude.{◌≡◌, ◌+◌, ◌/◌, ◌%◌, ◌^◌, ◌<◌, ◌≤◌, [], map, IfOk, nat_eq, if◌then◌else◌};
+ghost use Rattle.word_dag.specs.Nodes.{FitFrom, FitsNode, FitsOp, op_value, width_of};
+ghost use Rattle.word_dag.specs.Adding.{Adds, Keeps};
+ghost use Rattle.vlog_tree.specs.Valuation.{IsLength};
+ghost use Rattle.elab_node.specs.Nodes.{Makes, IsNode, number_at};
+ghost use Rattle.elab_block.specs.Wires.{IsWire, wire_word};
+
+use std::alloc::AllocError;
+use word_core::Word;
+use word_dag::{Dag, Node, Op};
+
+/// A node, and its length in bits.
+#[derive(Clone, Copy)]
+pub struct Wire {
+    pub node: u64,
+    pub width: u8,
+}
+
+/// The length of a node, which is from 1 to 64.
+#[tactic(auto, using(elab_node::proofs::Kept::node_long))]
+pub fn length_of(dag: &Dag, a: Wire) -> u8
+    requires { IsWire dag.now a }
+    ensures same { result ≡ a.width }
+    ensures long { IsLength a.width }
+    ensures fit { FitFrom [] dag.now }
+{
+    // the nodes of a dag fit
+    let _fit = dag.nodes();
+    a.width
+}
+
+// Adds a node; the older ones are kept also where it is refused.
+#[tactic(auto, using(elab_node::proofs::Kept::keeps_refused))]
+fn put(dag: &mut Dag, node: Node) -> Result<u64, AllocError>
+    requires { FitsNode (map width_of dag.old) node }
+    ensures fit { FitFrom [] dag.old }
+    ensures keeps { Keeps dag.old dag.new }
+    ensures adds { IfOk result (λ i. Adds dag.old dag.new node i) }
+{
+    // the nodes of a dag fit
+    let _fit = dag.nodes();
+    let number = dag.add(node)?;
+    Ok(number)
+}
+
+/// A constant.
+#[tactic(auto, using(elab_node::proofs::Making::made_const))]
+pub fn constant(dag: &mut Dag, width: u8, value: u64) -> Result<u64, AllocError>
+    requires some { 1 ≤ width }
+    requires most { width ≤ 64 }
+    requires fits { value < 2 ^ width }
+    ensures keeps { Keeps dag.old dag.new }
+    ensures makes { IfOk result (λ r. Makes dag.new r width (λ e. value)) }
+{
+    let number = put(dag, Node::Const(Word::new(width, value)))?;
+    Ok(number)
+}
+
+/// An operation on two words.
+pub fn two(dag: &mut Dag, op: Op, width: u8, a: Wire, b: Wire) -> Result<u64, AllocError>
+    requires left { IsWire dag.old a }
+    requires right { IsWire dag.old b }
+    requires fits { FitsOp op width a.width b.width }
+    ensures fit { FitFrom [] dag.old }
+    ensures keeps { Keeps dag.old dag.new }
+    ensures makes { IfOk result (λ r. Makes dag.new r width (λ e. (op_value op (wire_word e dag.old a) (wire_word e dag.old b)).value)) }
+{
+    let number = put(
+        dag,
+        Node::Two {
+            op,
+            width,
+            a: a.node,
+            b: b.node,
+        },
+    )?;
+    Ok(number)
+}
+
+/// So many bits from one upwards.
+pub fn slice(dag: &mut Dag, a: Wire, lo: u8, width: u8) -> Result<u64, AllocError>
+    requires node { IsWire dag.old a }
+    requires some { 1 ≤ width }
+    requires within { lo + width ≤ a.width }
+    ensures keeps { Keeps dag.old dag.new }
+    ensures makes { IfOk result (λ r. Makes dag.new r width (λ e. number_at e dag.old a.node / 2 ^ lo % 2 ^ width)) }
+{
+    let number = put(
+        dag,
+        Node::Slice {
+            width,
+            a: a.node,
+            lo,
+        },
+    )?;
+    Ok(number)
+}
+
+/// One of two words of a length: the first where the bit is 1.
+pub fn choice(dag: &mut Dag, bit: u64, a: Wire, b: Wire) -> Result<u64, AllocError>
+    requires bit { IsNode dag.old bit 1 }
+    requires left { IsWire dag.old a }
+    requires right { IsWire dag.old b }
+    requires same { a.width ≡ b.width }
+    ensures keeps { Keeps dag.old dag.new }
+    ensures makes { IfOk result (λ r. Makes dag.new r a.width (λ e. if nat_eq (number_at e dag.old bit) 1 then number_at e dag.old a.node else number_at e dag.old b.node)) }
+{
+    let number = put(
+        dag,
+        Node::Mux {
+            width: a.width,
+            c: bit,
+            a: a.node,
+            b: b.node,
+        },
+    )?;
+    Ok(number)
+}
