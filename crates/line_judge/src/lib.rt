@@ -6,5 +6,4 @@ mod judge;
 mod property;
 mod trace;
 
-pub use formula::{formula_value, holds};
 pub use judge::{is_constrained, is_violated};
