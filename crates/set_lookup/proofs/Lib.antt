@@ -2,3 +2,16 @@ pub mod Each
 pub mod FormNames
 pub mod Searches
 pub mod Meant
+pub mod PresentForms
+pub mod ConstantForms
+pub mod Constants
+pub mod Readings
+pub mod Zeros
+pub mod Judged
+pub mod Uses
+pub mod Alike
+pub mod Elements
+pub mod Rows
+pub mod Sized
+pub mod WellFormed
+pub mod Undivided

@@ -11,9 +11,10 @@ use Rattle.set_tree.specs.declared.text.EndText.{EndText}
 use Rattle.set_tree.specs.declared.text.EndText.TheVariants as end
 use Rattle.set_tree.specs.declared.text.PropertyText.{PropertyText}
 use Rattle.set_tree.specs.declared.text.SetText.{SetText}
+use Rattle.set_lookup.specs.declared.quantity.Quantity.{Quantity}
 use Rattle.set_lookup.specs.declared.quantity.Quantity.TheVariants as q
 use Rattle.set_lookup.specs.Meaning.{within, width_of, low_of, name_with, name_of, each, joined, output_from, end_of, cover_with, cover_of, successor_of, high_from, window_from, sizes_with, sizes_of, looked_with, looked_of, property_of, properties_of, constraints_of, invariants_of, MeansNothing}
-use Rattle.set_lookup.specs.Faults.{Has, is_outside, leaves_width, leaves_length, leaves_window, leaves, is_no_output, is_no_property, outputs_of, properties_in, is_small_end, is_small_cover, HasSmallNumbers, IsValid, StandsLimit}
+use Rattle.set_lookup.specs.Faults.{Has, is_outside, leaves_width, leaves_length, leaves_window, leaves, is_no_output, is_no_property, outputs_of, properties_in, is_small_end, is_small_cover, HasSmallNumbers, IsValid, Leaves, StandsLimit}
 
 -- a value that is there
 abbrev pub Is : {A : Type 0} → Option A → Type 0
@@ -101,12 +102,12 @@ looked_is ds ps p k =
     let c = next_is ps p.next k.next in
     (_, λ r. looked_with (a.1 r) (b.1 r) (c.1 r))
 
-has_left : {A : Type 0} (xs ys : List A) (x : A) → Has xs x → Has (xs ++ ys) x
+pub has_left : {A : Type 0} (xs ys : List A) (x : A) → Has xs x → Has (xs ++ ys) x
 has_left [] ys x h = absurd h
 has_left (z ∷ zs) ys x (inl e) = inl e
 has_left (z ∷ zs) ys x (inr h) = inr (has_left zs ys x h)
 
-has_right : {A : Type 0} (xs ys : List A) (x : A) → Has ys x → Has (xs ++ ys) x
+pub has_right : {A : Type 0} (xs ys : List A) (x : A) → Has ys x → Has (xs ++ ys) x
 has_right [] ys x h = h
 has_right (z ∷ zs) ys x h = inr (has_right zs ys x h)
 
@@ -131,22 +132,36 @@ all_looked ds ps (p ∷ qs) len win cov small next =
 
 -- ---- the set
 module _ (t : SetText) where
-  pub few_operations : ((quantity : _) → StandsLimit t quantity → ⊥) → length t.operations ≤ 64
+  pub limit_stands : (quantity : Quantity) → Leaves t quantity → StandsLimit t quantity
+  limit_stands q.Width s = inl s
+  limit_stands q.Cycles s = s
+  limit_stands q.Length s = s
+  limit_stands q.Window s = s
+  limit_stands q.Operations s = s
+  limit_stands q.Invariants s = s
+  limit_stands q.Constraints s = s
+  limit_stands q.Names s = s
+  limit_stands q.Hands s = s
+
+  pub none_leaves : IsValid t → (quantity : Quantity) → Leaves t quantity → ⊥
+  none_leaves v quantity s = v.kept quantity (limit_stands quantity s)
+
+  pub few_operations : ((quantity : _) → Leaves t quantity → ⊥) → length t.operations ≤ 64
   few_operations h = (keeps 1 64 (length t.operations) (no_is_false (leaves t q.Operations) (h q.Operations))).1
 
-  pub few_names : ((quantity : _) → StandsLimit t quantity → ⊥) → length t.declarations ≤ 256
+  pub few_names : ((quantity : _) → Leaves t quantity → ⊥) → length t.declarations ≤ 256
   few_names h = (keeps 1 256 (length t.declarations) (no_is_false (leaves t q.Names) (h q.Names))).1
 
-  pub few_cycles : ((quantity : _) → StandsLimit t quantity → ⊥) → t.cycles ≤ 16
+  pub few_cycles : ((quantity : _) → Leaves t quantity → ⊥) → t.cycles ≤ 16
   few_cycles h = (keeps 1 16 t.cycles (no_is_false (leaves t q.Cycles) (h q.Cycles))).1
 
   pub meant : IsValid t → HasSmallNumbers t → MeansNothing t → ⊥
   meant v small none =
-      let len = or_parts (nat_lt 64 t.first.length.low) (list_any leaves_length t.operations) (no_is_false (leaves t q.Length) (v.kept q.Length)) in
-      let win = or_parts (list_any leaves_window (properties_in t)) _ (no_is_false (leaves t q.Window) (v.kept q.Window)) in
+      let len = or_parts (nat_lt 64 t.first.length.low) (list_any leaves_length t.operations) (no_is_false (leaves t q.Length) (none_leaves v q.Length)) in
+      let win = or_parts (list_any leaves_window (properties_in t)) _ (no_is_false (leaves t q.Window) (none_leaves v q.Window)) in
       let w = or_parts (leaves_window t.first) (list_any leaves_window t.operations) win.0 in
       let s = and_parts (list_all is_small_cover t.first.covers) (list_all (λ p. list_all is_small_cover p.covers) t.operations) small.covers in
-      let n = names_are t.declarations (no_is_false (leaves t q.Width) (v.kept q.Width)) small.names in
+      let n = names_are t.declarations (no_is_false (leaves t q.Width) (none_leaves v q.Width)) small.names in
       let f = looked_is t.declarations t.operations t.first (record {
         low = ltb-false 64 t.first.length.low len.0;
         window = w.0;

@@ -15,7 +15,7 @@ use Rattle.set_tree.specs.declared.text.SetText.{SetText}
 use Rattle.set_lookup.specs.declared.names.Wanted.TheVariants as w
 use Rattle.set_lookup.specs.declared.quantity.Quantity.{Quantity}
 use Rattle.set_lookup.specs.declared.quantity.Quantity.TheVariants as q
-use Rattle.set_lookup.specs.Faults.{Has, HasTwice, LeadsTwice, Finds, first_twice, first_next_twice, is_declared, is_wanted, is_no_output, is_no_property, names_used, outputs_used, successors_used, properties_in, signal_names, property_names, StandsUnknown, StandsTwice, StandsLimit, leaves}
+use Rattle.set_lookup.specs.Faults.{Has, HasTwice, LeadsTwice, Finds, first_twice, first_next_twice, is_declared, is_wanted, is_no_output, is_no_property, names_used, outputs_used, successors_used, properties_in, signal_names, property_names, StandsUnknown, StandsTwice, Leaves, leaves}
 
 pub by_test : (b : Bool) {P : Type 0} → (b ≡ true → P) → (b ≡ false → P) → P
 by_test true y n = y refl
@@ -184,7 +184,7 @@ module _ (t : SetText) where
 
   -- ---- quantities
   pub none_left : leaves t q.Names ≡ false → leaves t q.Operations ≡ false → leaves t q.Constraints ≡ false → leaves t q.Invariants ≡ false → leaves t q.Cycles ≡ false
-      → leaves t q.Width ≡ false → leaves t q.Length ≡ false → leaves t q.Window ≡ false → leaves t q.Hands ≡ false → (quantity : Quantity) → StandsLimit t quantity → ⊥
+      → leaves t q.Width ≡ false → leaves t q.Length ≡ false → leaves t q.Window ≡ false → leaves t q.Hands ≡ false → (quantity : Quantity) → Leaves t quantity → ⊥
   none_left a b c d e f g h i = λ quantity s. both (leaves t quantity) s (each quantity)
     where
       each : (quantity : Quantity) → leaves t quantity ≡ false

@@ -1,6 +1,6 @@
 -- What a set's text may have against it once it is spelt: names that aren't declared, names that are declared twice, and
 -- quantities that leave their bounds.
-use Rattle.std.specs.Prelude.{ℕ, ◌≡◌, ◌⊎◌, ◌++◌, ◌&&◌, ◌||◌, not, List, [], ◌∷◌, length, map, Option, Some, None, Bool, false, IsTrue, nat_lt, is_some, codes, if◌then◌else◌, ◌^◌}
+use Rattle.std.specs.Prelude.{ℕ, ◌≡◌, ◌⊎◌, ◌++◌, ◌&&◌, ◌||◌, not, List, [], ◌∷◌, length, map, Option, Some, None, Bool, true, false, IsTrue, nat_lt, is_some, codes, if◌then◌else◌, ◌^◌}
 use Rattle.std.specs.List.{list_any, list_all, find, flat_map}
 use Rattle.std.specs.Option.{option_to_list, option_map, option_or}
 use Rattle.std.specs.Str.{bytes_eq}
@@ -20,7 +20,9 @@ use Rattle.set_lookup.specs.declared.wrong.Wrong.{Wrong}
 use Rattle.set_lookup.specs.declared.wrong.Wrong.TheVariants as wrong
 use Rattle.set_lookup.specs.declared.quantity.Quantity.{Quantity}
 use Rattle.set_lookup.specs.declared.quantity.Quantity.TheVariants as q
-use Rattle.set_lookup.specs.Meaning.{width_of, low_of, is_constraint, constraints_of, invariants_of, output_from, successor_of, high_from, window_from}
+use Rattle.set_tree.specs.declared.set.Name.{Name as Signal}
+use Rattle.set_lookup.specs.Formed.{IsFormedOver, formulas_in}
+use Rattle.set_lookup.specs.Meaning.{each, name_of, width_of, low_of, is_constraint, constraints_of, invariants_of, output_from, successor_of, high_from, window_from}
 
 -- ---- names
 
@@ -45,13 +47,14 @@ abbrev mutual
   names_in_row end_of-Expr = []
   names_in_row (more_of-Expr a rest) = names_in a ++ names_in_row rest
 
--- what is looked for in formulas: a name that isn't declared, or one with an offset above a bound
+-- what is looked for in formulas: a name that isn't declared, one with an offset above a bound, or any name
 abbrev pub is_declared : List Declaration → List ℕ → Bool
 is_declared ds n = list_any (λ d. bytes_eq d.name n) ds
 
 abbrev pub is_wanted : Wanted → Name → Bool
 is_wanted (w.Undeclared ds) x = not (is_declared ds.now x.text)
 is_wanted (w.Beyond bound) x = nat_lt bound x.offset
+is_wanted w.Any x = true
 
 -- the reset property and the operations
 abbrev pub properties_in : SetText → List PropertyText
@@ -159,8 +162,23 @@ leaves t q.Constraints = nat_lt 64 (length (constraints_of t.rules))
 leaves t q.Names = is_outside 1 256 (length t.declarations)
 leaves t q.Hands = list_any leaves_hands t.operations
 
+abbrev pub Leaves : SetText → Quantity → Type 0
+Leaves t quantity = IsTrue (leaves t quantity)
+
+-- a formula isn't well formed, its names being declared and all declared lengths good
+pub record IsIllFormed (t : SetText) (f : Expr) : Type 0 where
+  pub names : List Signal
+  pub lengths : each name_of t.declarations ≡ Some names
+  pub declared : (x : Name) → Has (names_in f) x → is_declared t.declarations x.text ≡ true
+  pub faulty : IsFormedOver names f → ⊥
+
+abbrev pub HasIllFormed : SetText → Type 0
+HasIllFormed t = (f : Expr) × Has (formulas_in t) f × IsIllFormed t f
+
+-- a length isn't from 1 to 64 bits where it is declared or in a formula, or a quantity leaves its bounds
 abbrev pub StandsLimit : SetText → Quantity → Type 0
-StandsLimit t quantity = IsTrue (leaves t quantity)
+StandsLimit t q.Width = Leaves t q.Width ⊎ HasIllFormed t
+StandsLimit t quantity = Leaves t quantity
 
 -- its word in a message
 abbrev pub word_of : Quantity → List ℕ
@@ -190,11 +208,12 @@ abbrev pub first_next_twice : List PropertyText → Option (List ℕ)
 first_next_twice [] = None
 first_next_twice (p ∷ ps) = option_or (first_twice p.next) (first_next_twice ps)
 
--- every name is declared, none twice, and every quantity keeps its bounds
+-- every name is declared, none twice, every quantity keeps its bounds, and every formula is well formed
 pub record IsValid (t : SetText) : Type 0 where
   pub known : (n : List ℕ) → StandsUnknown t n → ⊥
   pub once : (n : List ℕ) → StandsTwice t n → ⊥
   pub kept : (quantity : Quantity) → StandsLimit t quantity → ⊥
+  pub formed : (names : List Signal) → each name_of t.declarations ≡ Some names → (f : Expr) → Has (formulas_in t) f → IsFormedOver names f
 
 -- the numbers of bits and of offsets are below 2^32, as those of a text are
 abbrev pub is_small_end : EndText → Bool

@@ -11,7 +11,7 @@ ghost use Rattle.set_lookup.specs.Faults.{
   leaves_hands,
   leaves,
   Finds,
-  StandsLimit,
+  Leaves,
 };
 
 use crate::looked::{high_of, width_of};
@@ -157,7 +157,7 @@ fn leaves(text: &SetText, quantity: Quantity) -> bool
 
 /// A quantity of a set that leaves its bounds, the counts first.
 pub fn limit_of(text: &SetText) -> Option<Quantity>
-    ensures { Finds (StandsLimit text.now) result }
+    ensures { Finds (Leaves text.now) result }
 {
     if leaves(text, Quantity::Names) {
         return Some(Quantity::Names);

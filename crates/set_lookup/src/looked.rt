@@ -24,7 +24,9 @@ ghost use Rattle.set_lookup.specs.Meaning.{
 };
 ghost use Rattle.set_lookup.specs.Faults.{HasSmallNumbers, IsValid, Stands};
 
+use crate::formed::all_formed;
 use crate::limit::limit_of;
+use crate::quantity::Quantity;
 use crate::twice::twice_of;
 use crate::unknown::unknown_of;
 use crate::wrong::Wrong;
@@ -88,7 +90,7 @@ pub fn width_of(bits: Option<Bits>) -> Option<u8>
     }
 }
 
-fn low_of(bits: Option<Bits>) -> u64
+pub fn low_of(bits: Option<Bits>) -> u64
     ensures { result ≡ low_of bits }
 {
     match bits {
@@ -524,6 +526,7 @@ fn set_of(alloc: Global, text: SetText) -> Result<Option<Set>, AllocError>
 
 /// Whether a text has nothing against it.
 fn check(alloc: Global, text: &SetText) -> Result<(), Wrong>
+    requires { HasSmallNumbers text.now }
     ensures ok { OnOk result (IsValid text.now) }
     ensures err { IfErr result (Stands text.now) }
 {
@@ -535,6 +538,9 @@ fn check(alloc: Global, text: &SetText) -> Result<(), Wrong>
     }
     if let Some(name) = unknown_of(text) {
         return Err(Wrong::Unknown(Text::copy(alloc, name.bytes())?));
+    }
+    if !all_formed(alloc, text)? {
+        return Err(Wrong::Limit(Quantity::Width));
     }
     Ok(())
 }

@@ -7,11 +7,12 @@ ghost use Rattle.set_lookup.specs.Faults.{names_in, is_declared, is_wanted};
 use set_tree::Declaration;
 use vlog_tree::{Expr, Name};
 
-/// What is looked for in formulas: a name that isn't declared, or one with an offset above a bound.
+/// What is looked for in formulas: a name that isn't declared, one with an offset above a bound, or any name.
 #[derive(Drop)]
 pub enum Wanted<'a> {
     Undeclared(&'a [Declaration]),
     Beyond(u32),
+    Any,
 }
 
 /// Whether a name is declared.
@@ -32,6 +33,7 @@ fn is_wanted(wanted: &Wanted<'_>, name: &Name) -> bool
     match wanted {
         Wanted::Undeclared(declarations) => !is_declared(declarations, name.text.bytes()),
         Wanted::Beyond(bound) => *bound < name.offset,
+        Wanted::Any => true,
     }
 }
 
