@@ -5,3 +5,4 @@ pub mod Answers
 pub mod Steps
 pub mod PartSteps
 pub mod PropertySteps
+pub mod Formed

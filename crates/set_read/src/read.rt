@@ -1,6 +1,7 @@
 // The reader of a set.
 ghost use Rattle.std.specs.Prelude.{◌≤◌, IfOk, IfErr};
 ghost use Rattle.set_tree.specs.Spelling.{SpellsSet};
+ghost use Rattle.set_sound.specs.Condition.{IsWellFormed};
 ghost use Rattle.set_read.specs.Heights.{set_height};
 ghost use Rattle.set_read.specs.Read.{Spells, SpellsTokens, HasSmallDigits, Refuses, RefusesTokens};
 
@@ -38,12 +39,13 @@ fn of_list(alloc: Global, tokens: &[Token]) -> Result<Set, SetFault>
     }
 }
 
-/// The set that a text spells, its names looked up. The grammar is that of the document on formats.
+/// The set that a text spells, its names looked up; it is well formed, as `structure` asks. The grammar is that of the document on formats.
 /// `Bytes` and `Number`: the first fault of the text's tokens, with the place of the byte. `Syntax`: its tokens spell no set.
 /// `Deep`: each set that they spell is higher than 500, and there are more than 500 of them. `Unknown`, `Twice` and `Limit`: the text spells a set that has this against it; where several
 /// such faults stand, one of them is answered.
 pub fn read_set(alloc: Global, bytes: &[u8]) -> Result<Set, SetFault>
     ensures ok { IfOk result (Spells bytes.now) }
+    ensures formed { IfOk result IsWellFormed }
     ensures err { IfErr result (Refuses bytes.now) }
 {
     match read_tokens(alloc, bytes, true) {

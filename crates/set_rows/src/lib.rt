@@ -1,51 +1,14 @@
-//! Shows the first fault of the structure of a set's text as words.
+//! Shows what a set's text comes to as a line: why it is refused, the first fault of its structure, or that it is sound.
 #![tactic(auto)]
 
-ghost use Rattle.std.specs.Prelude.{◌≡◌, ℕ, ◌&&◌, nat_le};
-ghost use Rattle.std.specs.Bool.{OnTrue};
-ghost use Rattle.std.specs.List.{list_all};
-ghost use Rattle.set_sound.specs.Condition.{IsIndexed};
+ghost use Rattle.set_sound.specs.Condition.{IsWellFormed};
 
-use set_read::read_set;
-use set_sound::{GraphFault, Place, first_fault};
-use set_tree::{Property, Set};
+use outside::Text;
+use set_read::{SetFault, read_set};
+use set_sound::{GraphFault, Place, structure};
+use set_tree::Set;
 use std::alloc::{AllocError, Global};
 use std::fmt::Write;
-
-fn are_positions(last: usize, next: &[u32]) -> bool
-    ensures { result ≡ list_all (λ q. nat_le q last) next.now }
-{
-    for successor in next {
-        if *successor as usize > last {
-            return false;
-        }
-    }
-    true
-}
-
-fn have_positions(last: usize, properties: &[Property]) -> bool
-    ensures { result ≡ list_all (λ p. list_all (λ q. nat_le q last) p.next) properties.now }
-{
-    for property in properties {
-        if !are_positions(last, property.next.as_slice()) {
-            return false;
-        }
-    }
-    true
-}
-
-// Whether the positions of a set fit 32 bits, and its successors are positions of properties.
-#[tactic(auto, using(crate::proofs::Positions::indexed))]
-fn is_indexed(set: &Set) -> bool
-    ensures { OnTrue result (IsIndexed set.now) }
-{
-    let last = set.operations.len();
-    set.names.len() < 1 << 31
-        && set.invariants.len() < 1 << 31
-        && last < 1 << 31
-        && are_positions(last, set.first.next.as_slice())
-        && have_positions(last, set.operations.as_slice())
-}
 
 fn show_place(out: &mut String, place: Place) -> Result<(), AllocError> {
     match place {
@@ -68,24 +31,55 @@ fn show_fault(out: &mut String, fault: GraphFault) -> Result<(), AllocError> {
     }
 }
 
-fn show_set(out: &mut String, set: &Set) -> Result<(), AllocError> {
-    if !is_indexed(set) {
-        return out.push_str("astray");
-    }
-    match first_fault(set) {
-        Some(fault) => show_fault(out, fault),
-        None => out.push_str("sound"),
+fn fault_line(alloc: Global, fault: GraphFault) -> Result<Text, AllocError> {
+    let mut out = String::new(alloc);
+    show_fault(&mut out, fault)?;
+    Text::copy(alloc, out.as_bytes())
+}
+
+fn structure_line(alloc: Global, set: Set) -> Result<Text, AllocError>
+    requires { IsWellFormed set }
+{
+    match structure(set) {
+        Ok(_) => Text::copy(alloc, b"sound"),
+        Err(unsound) => fault_line(alloc, unsound.fault),
     }
 }
 
-/// The first fault of a text's set, or `sound`.
-pub fn shown(alloc: Global, text: &[u8]) -> Result<String, AllocError> {
+// A fault's name and the place of a byte.
+fn at_byte(alloc: Global, fault: &str, at: usize) -> Result<Text, AllocError> {
     let mut out = String::new(alloc);
-    match read_set(alloc, text) {
-        Ok(set) => show_set(&mut out, &set)?,
-        Err(_) => out.push_str("unread")?,
-    }
+    write!(out, "{fault} {at}")?;
+    Text::copy(alloc, out.as_bytes())
+}
+
+// A fault's name and what it is about.
+fn about(alloc: Global, fault: &[u8], word: &[u8]) -> Result<Text, AllocError> {
+    let mut out = Text::copy(alloc, fault)?;
+    out.append(b" ")?;
+    out.append(word)?;
     Ok(out)
+}
+
+fn refusal_line(alloc: Global, fault: &SetFault) -> Result<Text, AllocError> {
+    match fault {
+        SetFault::Bytes(at) => at_byte(alloc, "Bytes", *at),
+        SetFault::Number(at) => at_byte(alloc, "Number", *at),
+        SetFault::Syntax(at) => at_byte(alloc, "Syntax", *at),
+        SetFault::Unknown(name) => about(alloc, b"Unknown", name.bytes()),
+        SetFault::Twice(name) => about(alloc, b"Twice", name.bytes()),
+        SetFault::Limit(quantity) => about(alloc, b"Limit", quantity.word()),
+        SetFault::Deep => Text::copy(alloc, b"Deep"),
+        SetFault::Memory => Text::copy(alloc, b"Memory"),
+    }
+}
+
+/// Why a text is refused, the first fault of its set's structure, or `sound`.
+pub fn shown(alloc: Global, text: &[u8]) -> Result<Text, AllocError> {
+    match read_set(alloc, text) {
+        Ok(set) => structure_line(alloc, set),
+        Err(fault) => refusal_line(alloc, &fault),
+    }
 }
 
 #[cfg(test)]

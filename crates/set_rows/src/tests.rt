@@ -4,11 +4,48 @@ use std::test::Fail;
 
 fn row(rt: &(impl Abort + AllocGlobal), text: &[u8], want: &str) -> Result<(), Fail> {
     let line = shown(rt.alloc(), text)?;
-    assert_eq!(rt; line.as_str(), want, "at {text:?}");
+    assert_eq!(rt; line.bytes(), want.as_bytes(), "at {text:?}");
     Ok(())
 }
 
-const COUNTER: &[u8] = b"block counter; clock clk; reset rst high 1;
+// A set with these declarations and rules, this in its reset property and this operation.
+fn set_of(alloc: Global, names: &str, first: &str, operation: &str) -> Result<Text, AllocError> {
+    let mut text = Text::copy(alloc, b"block b; clock c; reset r high 1; ")?;
+    text.append(names.as_bytes())?;
+    text.append(b" property reset { length 0; ")?;
+    text.append(first.as_bytes())?;
+    text.append(b" } operation go { ")?;
+    text.append(operation.as_bytes())?;
+    text.append(b" }")?;
+    Ok(text)
+}
+
+// Each row has the three parts of a set and its line.
+fn sets(rt: &(impl Abort + AllocGlobal), rows: &[(&str, &str, &str, &str)]) -> Result<(), Fail> {
+    for (names, first, operation, want) in rows {
+        let text = set_of(rt.alloc(), names, first, operation)?;
+        row(rt, text.bytes(), want)?;
+    }
+    Ok(())
+}
+
+// Each row has a text up to a piece, the piece, how often it stands there, the rest, and the set's line.
+fn repeated(
+    rt: &(impl Abort + AllocGlobal),
+    rows: &[(&str, &str, usize, &str, &str)],
+) -> Result<(), Fail> {
+    for (head, piece, times, tail, want) in rows {
+        let mut text = Text::copy(rt.alloc(), head.as_bytes())?;
+        for _turn in 0..*times {
+            text.append(piece.as_bytes())?;
+        }
+        text.append(tail.as_bytes())?;
+        row(rt, text.bytes(), want)?;
+    }
+    Ok(())
+}
+
+const COUNTER: &str = "block counter; clock clk; reset rst high 1;
 input en; output [1:0] q;
 property reset { length 0; commit q@0 == 2'd0; cover q from 0 to 1; next step, hold; }
 operation step { length 1; assume en@0; commit q@1 == q@0 + 2'd1; hand q@0;
@@ -17,7 +54,7 @@ operation hold { length 1; assume !en@0; commit q@1 == q@0; hand q@0;
   cover q from 1 to 2; next step, hold; }
 ";
 
-const FLIP: &[u8] = b"block flip; clock clk; reset rst high 1;
+const FLIP: &str = "block flip; clock clk; reset rst high 1;
 output q; state m;
 property reset { length 0; commit q@0 == 1'b0; cover q from 0 to 1; next on, off; }
 operation on { length 1; assume m@0; commit q@1 == !q@0; hand q@0;
@@ -26,47 +63,47 @@ operation off { length 1; assume !m@0; commit q@1 == q@0; hand q@0;
   cover q from 1 to 2; next on, off; }
 ";
 
-const PIPE1: &[u8] = b"block pipe1; clock clk; reset rst high 1;
+const PIPE1: &str = "block pipe1; clock clk; reset rst high 1;
 input iv; input [7:0] d; output v; output [7:0] o when v;
 property reset { length 0; commit !v@0; cover v from 0 to 1; cover o from 0 to 1; next move; }
 operation move { length 1; commit v@1 == iv@0; commit !iv@0 || o@1 == d@0;
   cover v from 1 to 2; cover o from 1 to 2; next move; }
 ";
 
-const MOD3: &[u8] = b"block mod3; clock clk; reset rst high 1;
+const MOD3: &str = "block mod3; clock clk; reset rst high 1;
 output [1:0] q;
 property reset { length 0; commit q@0 == 2'd0; cover q from 0 to 1; next tick; }
 operation tick { length 1; commit q@1 == (q@0 == 2'd2 ? 2'd0 : q@0 + 2'd1); hand q@0;
   cover q from 1 to 2; next tick; }
 ";
 
-const HOP: &[u8] = b"block hop; clock clk; reset rst high 1;
+const HOP: &str = "block hop; clock clk; reset rst high 1;
 output [2:0] q;
 property reset { length 0; commit q@0 == 3'd0; cover q from 0 to 1; next tick; }
 operation tick { length 1; commit q@1 == (q@0 == 3'd2 ? 3'd0 : q@0 + 3'd1); hand q@0;
   cover q from 1 to 2; next tick; }
 ";
 
-const PIPE3: &[u8] = b"block pipe3; clock clk; reset rst high 1;
+const PIPE3: &str = "block pipe3; clock clk; reset rst high 1;
 input [3:0] d; output [3:0] o;
 property reset { length 0; window 2; commit o@0 == 0 && o@1 == 0 && o@2 == 0;
   cover o from 0 to 3; next shift; }
 operation shift { length 1; window 3; commit o@3 == d@0; cover o from 3 to 4; next shift; }
 ";
 
-const MUL: &[u8] = b"block mul; clock clk; reset rst high 1;
+const MUL: &str = "block mul; clock clk; reset rst high 1;
 input [63:0] a; input [63:0] b; state [63:0] p; state [63:0] r;
 property reset { length 0; next mul; }
 operation mul { length 1; commit p@0 == r@0; next mul; }
 ";
 
-const LATCH: &[u8] = b"block l; clock clk; reset rst high 1;
+const LATCH: &str = "block l; clock clk; reset rst high 1;
 input a; output q;
 property reset { length 0; cover q from 0 to 1; next go; }
 operation go { length 1; cover q from 1 to 2; next go; }
 ";
 
-const CTL: &[u8] = b"block ctl; clock clk; reset rst_n low 1;
+const CTL: &str = "block ctl; clock clk; reset rst_n low 1;
 input req; output ack; state busy;
 property reset { length 0; commit !ack@0; commit !busy@0; cover ack from 0 to 1;
   next idle, serve; }
@@ -77,7 +114,7 @@ operation serve { length 4; assume !busy@0 && req@0;
   cover ack from 1 to 5; next idle, serve; }
 ";
 
-const WAITER: &[u8] = b"block waiter; clock clk; reset rst high 1;
+const WAITER: &str = "block waiter; clock clk; reset rst high 1;
 input go; input ok; output busy;
 constraint soon : ok@0 || ok@1 || ok@2;
 property reset { length 0; commit !busy@0; cover busy from 0 to 1; next idle, serve; }
@@ -91,127 +128,252 @@ operation serve { length 2 to 4 until !busy; assume !busy@0 && go@0;
 ";
 
 #[test]
-fn sets_are_sound(rt: HostRuntime) -> Result<(), Fail> {
-    row(&rt, COUNTER, "sound")?;
-    row(&rt, FLIP, "sound")?;
-    row(&rt, PIPE1, "sound")?;
-    row(&rt, MOD3, "sound")?;
-    row(&rt, HOP, "sound")?;
-    row(&rt, PIPE3, "sound")?;
-    row(&rt, MUL, "sound")?;
-    row(&rt, LATCH, "sound")?;
-    row(&rt, CTL, "sound")?;
-    row(&rt, WAITER, "sound")
+fn the_sets_of_the_examples_are_sound(rt: HostRuntime) -> Result<(), Fail> {
+    for text in [
+        COUNTER, FLIP, PIPE1, MOD3, HOP, PIPE3, MUL, LATCH, CTL, WAITER,
+    ] {
+        row(&rt, text.as_bytes(), "sound")?;
+    }
+    Ok(())
 }
 
 #[test]
-fn offsets_are_refused(rt: HostRuntime) -> Result<(), Fail> {
-    // an invariant that reads the next row, with an operation that does so too far
-    row(
-        &rt,
-        b"block b; clock c; reset r high 1; output o; invariant i : o; invariant j : o@1;
-property reset { length 0; cover o from 0 to 1; next go; }
-operation go { length 1; commit o@2; cover o from 1 to 2; next go; }",
+fn texts_that_spell_no_set_are_refused(rt: HostRuntime) -> Result<(), Fail> {
+    for (text, want) in [
+        ("", "Syntax 0"),
+        ("block m; clock", "Syntax 14"),
+        ("block m; clock `c;", "Syntax 15"),
+        (
+            "block m; clock c; reset r high 1; output q when q / q;",
+            "Syntax 50",
+        ),
+        ("block m \x01", "Bytes 8"),
+        ("block 4'b2;", "Number 6"),
+    ] {
+        row(&rt, text.as_bytes(), want)?;
+    }
+    Ok(())
+}
+
+const GO: &str = "length 1; cover o from 1 to 2; next go;";
+
+const TO_GO: &str = "cover o from 0 to 1; next go;";
+
+const REFUSED: &[(&str, &str, &str, &str)] = &[
+    ("output o when p;", TO_GO, GO, "Unknown p"),
+    (
+        "output o; state s;",
+        "cover s from 0 to 1; next go;",
+        GO,
+        "Unknown s",
+    ),
+    ("output o;", "next stop;", GO, "Unknown stop"),
+    ("output o; state o;", TO_GO, GO, "Twice o"),
+    ("output o; constraint reset : o;", TO_GO, GO, "Twice reset"),
+    ("output o; invariant go : o;", TO_GO, GO, "Twice go"),
+    ("output o;", "next go, go;", GO, "Twice go"),
+    (
+        "output o;",
+        TO_GO,
+        "length 1; window 64; cover o from 1 to 2; next go;",
+        "sound",
+    ),
+    (
+        "output o;",
+        TO_GO,
+        "length 1; window 65; next go;",
+        "Limit window",
+    ),
+    ("output o;", TO_GO, "length 0; next go;", "Limit length"),
+    (
+        "output o;",
+        TO_GO,
+        "length 3 to 2 until o; next go;",
+        "Limit length",
+    ),
+    ("output [64:0] o;", TO_GO, GO, "Limit width"),
+    ("output [0:1] o;", TO_GO, GO, "Limit width"),
+    ("output o; constraint c : o@64;", TO_GO, GO, "sound"),
+    ("output o; constraint c : o@65;", TO_GO, GO, "Limit window"),
+    ("", TO_GO, GO, "Limit names"),
+];
+
+#[test]
+fn names_and_quantities_are_refused(rt: HostRuntime) -> Result<(), Fail> {
+    sets(&rt, REFUSED)
+}
+
+// Bounds, widths and counts name nothing and lengths are from 1 to 64, in whichever row the names are read.
+const FORMULAS: &[(&str, &str, &str, &str)] = &[
+    (
+        "output o; state [7:4] s; constraint c : s@9[6:5] == {2{o@9}};",
+        TO_GO,
+        GO,
+        "sound",
+    ),
+    ("output o when {0{o}};", TO_GO, GO, "Limit width"),
+    ("output o; invariant i : {o{o}};", TO_GO, GO, "Limit width"),
+    (
+        "output o; state [7:4] s; constraint c : s[o:4];",
+        TO_GO,
+        GO,
+        "Limit width",
+    ),
+    (
+        "output o; state [7:4] s; invariant i : s[3:2];",
+        TO_GO,
+        GO,
+        "Limit width",
+    ),
+    (
+        "output o; state [7:4] s;",
+        TO_GO,
+        "length 1; assume s@1[4+:o]; next go;",
+        "Limit width",
+    ),
+    (
+        "output o;",
+        TO_GO,
+        "length 1; commit {65{o@1}}; next go;",
+        "Limit width",
+    ),
+    (
+        "output o;",
+        TO_GO,
+        "length 1; hand {33{o, o}}; next go;",
+        "Limit width",
+    ),
+    (
+        "output o;",
+        TO_GO,
+        "length 1 to 2 until {64{o, o}}; next go;",
+        "Limit width",
+    ),
+];
+
+#[test]
+fn formulas_are_well_formed(rt: HostRuntime) -> Result<(), Fail> {
+    sets(&rt, FORMULAS)
+}
+
+const HEAD: &str = "block b; clock c; reset r high 1; output o; ";
+
+const TAIL: &str = "property reset { length 0; cover o from 0 to 1; next go; }
+operation go { length 1; cover o from 1 to 2; next go; }";
+
+const FIRST: &str =
+    "block b; clock c; reset r high 1; output o; property reset { length 0; next go; } ";
+
+const NEXT: &str = "operation go { length 1; next go; } ";
+
+const HAND: &str = "block b; clock c; reset r high 1; output o;
+property reset { length 0; cover o from 0 to 1; next go; } operation go { length 1; hand o";
+
+const HANDED: &str = "; cover o from 1 to 2; next go; }";
+
+const WHEN: &str = "block b; clock c; reset r high 1; output o when ";
+
+const WHOLE: &str = "o; property reset { length 0; cover o from 0 to 1; next go; }
+operation go { length 1; cover o from 1 to 2; next go; }";
+
+const COUNTED: &[(&str, &str, usize, &str, &str)] = &[
+    (FIRST, NEXT, 64, "", "Twice go"),
+    (FIRST, NEXT, 65, "", "Limit operations"),
+    (HEAD, "invariant i : o; ", 64, TAIL, "Twice i"),
+    (HEAD, "invariant i : o; ", 65, TAIL, "Limit invariants"),
+    (HEAD, "constraint k : o; ", 65, TAIL, "Limit constraints"),
+    (HEAD, "state s; ", 255, TAIL, "Twice s"),
+    (HEAD, "state s; ", 256, TAIL, "Limit names"),
+    (HAND, ", o", 63, HANDED, "sound"),
+    (HAND, ", o", 64, HANDED, "Limit hands"),
+    (WHEN, "!", 497, WHOLE, "sound"),
+    (WHEN, "!", 498, WHOLE, "Deep"),
+    (
+        "block b; clock c; reset r low 1",
+        "7",
+        1,
+        "; output o; property reset { length 0; next go; } operation go { length 1; next go; }",
+        "Limit cycles",
+    ),
+];
+
+#[test]
+fn counts_and_heights_keep_their_bounds(rt: HostRuntime) -> Result<(), Fail> {
+    repeated(&rt, COUNTED)
+}
+
+const FAULTS: &[(&str, &str, &str, &str)] = &[
+    (
+        "output o; invariant i : o; invariant j : o@1;",
+        TO_GO,
+        "length 1; commit o@2; cover o from 1 to 2; next go;",
         "Offset invariant 1",
-    )?;
-    // a domain
-    row(
-        &rt,
-        b"block b; clock c; reset r high 1; input i; output o when i@1;
-property reset { length 0; cover o from 0 to 1; next go; }
-operation go { length 1; cover o from 1 to 2; next go; }",
-        "Offset output 1",
-    )?;
-    // a commitment one row past the window
-    row(
-        &rt,
-        b"block b; clock c; reset r high 1; output o;
-property reset { length 0; cover o from 0 to 1; next go; }
-operation go { length 1; commit o@1; commit {o, o@2} == 0; cover o from 1 to 2; next go; }",
+    ),
+    ("input i; output o when i@1;", TO_GO, GO, "Offset output 1"),
+    (
+        "output o;",
+        TO_GO,
+        "length 1; commit o@1; commit {o, o@2} == 0; cover o from 1 to 2; next go;",
         "Offset property 1",
-    )?;
-    // the condition of a length
-    row(
-        &rt,
-        b"block b; clock c; reset r high 1; output o;
-property reset { length 0; cover o from 0 to 1; next go; }
-operation go { length 1 to 2 until o@1; cover o from 1 to end + 1; next go; }",
+    ),
+    (
+        "output o;",
+        TO_GO,
+        "length 1 to 2 until o@1; cover o from 1 to end + 1; next go;",
         "Offset property 1",
-    )
-}
-
-#[test]
-fn covers_are_refused(rt: HostRuntime) -> Result<(), Fail> {
-    // a cover that ends by a number where the length has a condition
-    row(
-        &rt,
-        b"block b; clock c; reset r high 1; output o;
-property reset { length 0; cover o from 0 to 1; next go; }
-operation go { length 2 to 4 until o; cover o from 1 to 5; next go; }",
+    ),
+    (
+        "output o;",
+        TO_GO,
+        "length 2 to 4 until o; cover o from 1 to 5; next go;",
         "Cover 1 0",
-    )?;
-    // none, and two
-    row(
-        &rt,
-        b"block b; clock c; reset r high 1; input i; output o; output p;
-property reset { length 0; cover o from 0 to 1; next go; }
-operation go { length 1; cover o from 1 to 2; cover o from 1 to 2; next go; }",
-        "Cover 0 2",
-    )?;
-    row(
-        &rt,
-        b"block b; clock c; reset r high 1; output o;
-property reset { length 0; cover o from 0 to 1; next go; }
-operation go { length 1; cover o from 1 to 2; cover o from 1 to 2; next go; }",
+    ),
+    ("output o; output p;", TO_GO, GO, "Cover 0 1"),
+    (
+        "output o;",
+        TO_GO,
+        "length 1; cover o from 1 to 2; cover o from 1 to 2; next go;",
         "Cover 1 0",
-    )?;
-    // one that begins late in reset, and one past the window
-    row(
-        &rt,
-        b"block b; clock c; reset r high 1; output o;
-property reset { length 0; cover o from 1 to 1; next go; }
-operation go { length 1; cover o from 1 to 2; next go; }",
+    ),
+    (
+        "output o;",
+        "cover o from 1 to 1; next go;",
+        GO,
         "Cover 0 0",
-    )?;
-    row(
-        &rt,
-        b"block b; clock c; reset r high 1; output o;
-property reset { length 0; cover o from 0 to 1; next go; }
-operation go { length 1; cover o from 1 to 3; next go; }",
+    ),
+    (
+        "output o;",
+        TO_GO,
+        "length 1; cover o from 1 to 3; next go;",
         "Cover 1 0",
-    )
-}
+    ),
+    (
+        "output o;",
+        "hand o; cover o from 0 to 1; next reset;",
+        GO,
+        "HandAtReset",
+    ),
+    (
+        "output o;",
+        TO_GO,
+        "length 1; commit o@9; cover o from 1 to 2; next go, reset;",
+        "IntoReset 1",
+    ),
+    (
+        "input i; output o;",
+        TO_GO,
+        "length 1; cover o from 0 to 1; next go;",
+        "Tile 0 1 1",
+    ),
+    (
+        "output o;",
+        "cover o from 0 to 0; next go;",
+        "length 2; cover o from 0 to 1; next go;",
+        "Tile 1 1 0",
+    ),
+];
 
 #[test]
-fn edges_are_refused(rt: HostRuntime) -> Result<(), Fail> {
-    row(
-        &rt,
-        b"block b; clock c; reset r high 1; output o;
-property reset { length 0; hand o; cover o from 0 to 1; next reset; }
-operation go { length 1; cover o from 1 to 2; next go; }",
-        "HandAtReset",
-    )?;
-    row(
-        &rt,
-        b"block b; clock c; reset r high 1; output o;
-property reset { length 0; cover o from 0 to 1; next go; }
-operation go { length 1; commit o@9; cover o from 1 to 2; next go, reset; }",
-        "IntoReset 1",
-    )?;
-    // the cover of reset ends at 1, and that of the operation begins at 0
-    row(
-        &rt,
-        b"block b; clock c; reset r high 1; input i; output o;
-property reset { length 0; cover o from 0 to 1; next go; }
-operation go { length 1; cover o from 0 to 1; next go; }",
-        "Tile 0 1 1",
-    )?;
-    // a cover that ends before its operation does
-    row(
-        &rt,
-        b"block b; clock c; reset r high 1; output o;
-property reset { length 0; cover o from 0 to 0; next go; }
-operation go { length 2; cover o from 0 to 1; next go; }",
-        "Tile 1 1 0",
-    )
+fn faults_of_the_structure_are_told(rt: HostRuntime) -> Result<(), Fail> {
+    sets(&rt, FAULTS)
 }

@@ -3,6 +3,7 @@ use Rattle.vlog_lex.specs.Tokens.{Lexes}
 use Rattle.set_read.specs.Read.{Refuses}
 use Rattle.set_read.proofs.PlainNumbers.{small_at}
 use Rattle.set_read.proofs.Answers.{lex_refuses, tokens_err}
+use Rattle.set_read.proofs.Formed.{result_formed}
 use Rattle.set_read.proofs.read.read_set.Goals as goal
 
 pub of_list-requires : goal.of_list-requires
@@ -15,3 +16,6 @@ returns-in-Err-clause-err c =
 pub returns-in-Ok-clause-err : goal.returns-in-Ok-clause-err
 returns-in-Ok-clause-err c =
     tokens_err c.args.bytes.now c.deref.result.now (subst (Lexes true c.args.bytes.now) (sym c.deref.ensures.value) c.in-Ok.ensures.ok) c.of_list.result c.of_list.ensures.err
+
+pub returns-in-Ok-clause-formed : goal.returns-in-Ok-clause-formed
+returns-in-Ok-clause-formed c = result_formed c.deref.result.now c.of_list.result c.of_list.ensures.ok
