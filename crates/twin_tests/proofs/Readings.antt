@@ -11,10 +11,9 @@ use Rattle.set_tree.specs.declared.set.Name.{Name}
 use Rattle.set_tree.specs.declared.set.Property.{Property}
 use Rattle.set_tree.specs.declared.set.Rule.{Rule}
 use Rattle.set_tree.specs.declared.set.Set.{Set}
-use Rattle.set_tree.specs.Formulas.{largest_offset, meaning_of}
+use Rattle.set_tree.specs.Formulas.{largest_offset}
 use Rattle.set_tree.specs.Parts.{property_at, IsPosition, window_of}
-use Rattle.set_tree.specs.Structure.{IsSound, KeepsOffsets}
-use Rattle.set_sound.specs.Condition.{IsFormula, IsWellFormed, property_formulas}
+use Rattle.set_sound.specs.Condition.{IsFormula, property_formulas}
 use Rattle.twin_tests.specs.Building.{IsReadable}
 use Rattle.set_tree.specs.Lines.{last_row}
 use Rattle.line_laws.specs.Lines.{edge_end, split_end}
