@@ -101,7 +101,7 @@ same_at [] i d x lt = absurd (omega arith)
 same_at (y ∷ ys) zero d x lt = refl
 same_at (y ∷ ys) (suc i) d x lt = same_at ys i d x (omega arith)
 
-property_later : (set : Set) (at : ℕ) (x : Property) → 0 < at → at ≤ length set.operations → x ≡ get_or set.operations (at - 1) x → property_at set at ≡ x
+pub property_later : (set : Set) (at : ℕ) (x : Property) → 0 < at → at ≤ length set.operations → x ≡ get_or set.operations (at - 1) x → property_at set at ≡ x
 property_later set zero x lt le is = absurd (omega arith)
 property_later set (suc i) x lt le is =
     let before : suc i - 1 ≡ i = omega arith in
@@ -154,3 +154,14 @@ edge_next set p q n rows later is fits = let long = length-drop n rows in rw is 
 
 pub end_fits : (set : Set) (p n k : ℕ) → HasStructure set → IsPosition set p → n ≤ (property_at set p).length.high → window_of set p < k → n < k
 end_fits set p n k s position most fits = let span = s.sound.lengths p position in omega (arith, span.fits, most, fits)
+
+-- the formulas of a property whose window fits into the rows
+pub assumptions_read : (set : Set) (p k : ℕ) (x : Property) (es : List Expr) → HasStructure set → FollowsWithin set k p → es ≡ x.assume → x ≡ property_at set p → All (IsReadable set k) es
+assumptions_read set p k x es s follows is at =
+    let same : es ≡ (property_at set p).assume = is ∙ ap (λ (y : Property). y.assume) at in
+    subst (All (IsReadable set k)) (sym same) (more_readable set (window_of set p + 1) k (property_at set p).assume (omega (arith, follows.1)) (reads_window set p s follows.0).assumptions)
+
+pub commitments_read : (set : Set) (p k : ℕ) (x : Property) (es : List Expr) → HasStructure set → FollowsWithin set k p → es ≡ x.commit → x ≡ property_at set p → All (IsReadable set k) es
+commitments_read set p k x es s follows is at =
+    let same : es ≡ (property_at set p).commit = is ∙ ap (λ (y : Property). y.commit) at in
+    subst (All (IsReadable set k)) (sym same) (more_readable set (window_of set p + 1) k (property_at set p).commit (omega (arith, follows.1)) (reads_window set p s follows.0).commitments)

@@ -3,6 +3,7 @@
 
 mod formula;
 mod obligation;
+mod property;
 mod window;
 mod words;
 
