@@ -137,8 +137,8 @@ pub fn all_node(
     Ok(all)
 }
 
-// The rows from this one on.
-fn rows_after(rows: &[NodeRow], t: usize) -> &[NodeRow]
+/// The rows from this one on.
+pub fn rows_after(rows: &[NodeRow], t: usize) -> &[NodeRow]
     requires { t ≤ length rows.now }
     ensures { result.now ≡ drop t rows.now }
 {

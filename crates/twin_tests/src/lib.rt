@@ -1,6 +1,7 @@
 //! The obligations of a set's own lines.
 #![tactic(auto)]
 
+mod ending;
 mod formula;
 mod obligation;
 mod property;

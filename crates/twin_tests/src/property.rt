@@ -16,8 +16,8 @@ use set_tree::{Property, Set};
 use std::alloc::{AllocError, Global};
 use word_dag::Dag;
 
-// The property at a position: 0 is that of reset.
-fn property_of(set: &Set, at: usize) -> &Property
+/// The property at a position: 0 is that of reset.
+pub fn property_of(set: &Set, at: usize) -> &Property
     requires { IsPosition set.now at }
     ensures { result.now ≡ property_at set.now at }
 {

@@ -1,4 +1,4 @@
-use Rattle.std.proofs.Common.{◌≡◌, ◌+◌, ◌<◌, List, drop, refl, sym, subst, arith}
+use Rattle.std.proofs.Common.{◌≡◌, ◌+◌, ◌<◌, drop, refl, sym, subst, arith}
 use Rattle.line_laws.specs.Tests.{all_below}
 use Rattle.set_tree.specs.Formulas.{largest_offset, meaning_of}
 use Rattle.set_tree.specs.Meaning.{holds}
