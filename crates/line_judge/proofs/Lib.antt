@@ -1,4 +1,3 @@
 mod Tracing
-mod Undivided
 mod Properties
 mod Exact

@@ -3,3 +3,5 @@ pub mod Frees
 pub mod Loops
 pub mod Readings
 pub mod Ends
+pub mod Undivided
+pub mod Naming

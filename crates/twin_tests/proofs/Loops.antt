@@ -1,5 +1,5 @@
 -- Tests that a loop joins one after another.
-use Rattle.std.proofs.Common.{◌≡◌, ℕ, ◌+◌, ◌-◌, ◌<◌, ◌≤◌, Bool, true, false, suc, drop, List, length, take, get_or, refl, sym, ap, ◌∙◌, subst, arith}
+use Rattle.std.proofs.Common.{◌≡◌, ℕ, ◌+◌, ◌-◌, ◌<◌, ◌≤◌, Bool, suc, drop, List, length, take, get_or, refl, sym, ap, ◌∙◌, subst, arith}
 use Rattle.std.specs.Prelude.{◌&&◌, ◌||◌}
 use Rattle.std.specs.List.{All, list_all, list_any}
 use Rattle.std.proofs.lemmas.List.{length-drop, take_all}
@@ -13,7 +13,7 @@ use Rattle.word_core.specs.Words.{flag}
 use Rattle.word_dag.specs.declared.node.Node.{Node}
 use Rattle.word_dag.specs.Nodes.{Naming}
 use Rattle.word_dag.specs.Adding.{Keeps}
-use Rattle.line_laws.specs.Tests.{all_below, any_from}
+use Rattle.line_laws.specs.Tests.{all_below}
 use Rattle.twin_tests.specs.Building.{HasWidth, IsReadable, Shows, Tests}
 use Rattle.twin_tests.proofs.Standing.{keeps_both, tests_later, shown_length}
 

@@ -11,10 +11,9 @@ use Rattle.set_tree.specs.declared.set.Name.{Name}
 use Rattle.set_tree.specs.declared.set.Property.{Property}
 use Rattle.set_tree.specs.declared.set.Rule.{Rule}
 use Rattle.set_tree.specs.declared.set.Set.{Set}
-use Rattle.set_tree.specs.Formulas.{largest_offset, meaning_of}
+use Rattle.set_tree.specs.Formulas.{largest_offset}
 use Rattle.set_tree.specs.Parts.{property_at, IsPosition, window_of}
-use Rattle.set_tree.specs.Structure.{IsSound, KeepsOffsets}
-use Rattle.set_sound.specs.Condition.{IsFormula, IsWellFormed, property_formulas}
+use Rattle.set_sound.specs.Condition.{IsFormula, property_formulas}
 use Rattle.twin_tests.specs.Building.{IsReadable}
 use Rattle.set_tree.specs.Lines.{last_row}
 use Rattle.line_laws.specs.Lines.{edge_end, split_end}
@@ -155,3 +154,14 @@ edge_next set p q n rows later is fits = let long = length-drop n rows in rw is 
 
 pub end_fits : (set : Set) (p n k : ℕ) → HasStructure set → IsPosition set p → n ≤ (property_at set p).length.high → window_of set p < k → n < k
 end_fits set p n k s position most fits = let span = s.sound.lengths p position in omega (arith, span.fits, most, fits)
+
+-- the formulas of a property whose window fits into the rows
+pub assumptions_read : (set : Set) (p k : ℕ) (x : Property) (es : List Expr) → HasStructure set → FollowsWithin set k p → es ≡ x.assume → x ≡ property_at set p → All (IsReadable set k) es
+assumptions_read set p k x es s follows is at =
+    let same : es ≡ (property_at set p).assume = is ∙ ap (λ (y : Property). y.assume) at in
+    subst (All (IsReadable set k)) (sym same) (more_readable set (window_of set p + 1) k (property_at set p).assume (omega (arith, follows.1)) (reads_window set p s follows.0).assumptions)
+
+pub commitments_read : (set : Set) (p k : ℕ) (x : Property) (es : List Expr) → HasStructure set → FollowsWithin set k p → es ≡ x.commit → x ≡ property_at set p → All (IsReadable set k) es
+commitments_read set p k x es s follows is at =
+    let same : es ≡ (property_at set p).commit = is ∙ ap (λ (y : Property). y.commit) at in
+    subst (All (IsReadable set k)) (sym same) (more_readable set (window_of set p + 1) k (property_at set p).commit (omega (arith, follows.1)) (reads_window set p s follows.0).commitments)

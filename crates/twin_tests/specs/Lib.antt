@@ -1,2 +1,3 @@
 pub mod Building
+pub mod Leaves
 pub mod Reading

@@ -1,0 +1,194 @@
+// The formulas of a set as nodes.
+ghost use Rattle.std.specs.Prelude.{◌≡◌, ◌+◌, ◌-◌, ◌<◌, ◌≤◌, ◌^◌, ◌++◌, List, drop, length, IfOk, OnOk};
+ghost use Rattle.std.specs.List.{All};
+ghost use Rattle.vlog_tree.specs.Valuation.{IsLength};
+ghost use Rattle.word_dag.specs.Nodes.{Naming};
+ghost use Rattle.word_dag.specs.Adding.{Keeps};
+ghost use Rattle.line_laws.specs.Tests.{all_below, meets_constraints};
+ghost use Rattle.set_tree.specs.Formulas.{largest_offset, meaning_of};
+ghost use Rattle.set_tree.specs.Meaning.{Row, holds, all_hold};
+ghost use Rattle.twin_tests.specs.Building.{AreLeaves, HasWidth, IsWide, Shows, Counts, Tests, IsReadable};
+ghost use Rattle.twin_tests.specs.Reading.{HasStructure};
+ghost use Rattle.twin_tests.specs.Leaves.{leaf_of, row_leaves, leaves_from};
+
+use crate::window::{NodeRow, rows_before};
+use crate::words::{both, constant, nonzero};
+use elab_node::{Leaf, Leaves, value_node};
+use outside::Text;
+use set_sound::largest;
+use set_tree::{Name, Set};
+use std::alloc::{AllocError, Global};
+use vlog_tree::Expr;
+use word_dag::Dag;
+
+// What a name stands for at an offset.
+fn leaf_of(alloc: Global, name: &Name, offset: u32, node: u64) -> Result<Leaf, AllocError>
+    ensures { IfOk result (λ l. l ≡ leaf_of name.now offset node) }
+{
+    Ok(Leaf {
+        name: Text::copy(alloc, name.name.bytes())?,
+        offset,
+        width: name.width,
+        low: u64::from(name.low),
+        signed: name.signed,
+        node,
+    })
+}
+
+// The names in the row of an offset.
+fn push_row(
+    alloc: Global,
+    leaves: &mut Leaves,
+    names: &[Name],
+    offset: u32,
+    row: &NodeRow,
+) -> Result<(), AllocError>
+    requires widths { All (λ n. IsLength n.width) names.now }
+    requires long { length row.now ≡ length names.now }
+    ensures { OnOk result (leaves.new ≡ leaves.old ++ row_leaves names.now offset row.now) }
+{
+    let nodes = row.nodes();
+    for i in 0..names.len() {
+        let leaf = leaf_of(alloc, &names[i], offset, nodes[i])?;
+        leaves.push(alloc, leaf)?;
+    }
+    Ok(())
+}
+
+// The names in these rows.
+fn leaves_of(alloc: Global, names: &[Name], rows: &[NodeRow]) -> Result<Leaves, AllocError>
+    requires widths { All (λ n. IsLength n.width) names.now }
+    requires long { All (λ row. length row ≡ length names.now) rows.now }
+    requires count { length rows.now ≤ 2 ^ 32 }
+    ensures { IfOk result (λ ls. ls ≡ leaves_from names.now 0 rows.now) }
+{
+    let mut leaves = Leaves::new(alloc);
+    for t in 0..rows.len() {
+        push_row(alloc, &mut leaves, names, t as u32, &rows[t])?;
+    }
+    Ok(leaves)
+}
+
+/// The node of a formula of a set, whose names are read in rows of nodes. Its number is the formula's value, whatever the free words are. It
+/// is refused for want of memory alone, and then the nodes that were there stay as they were.
+pub fn formula_node(
+    alloc: Global,
+    dag: &mut Dag,
+    set: &Set,
+    rows: &[NodeRow],
+    formula: &Expr,
+) -> Result<u64, AllocError>
+    requires widths { All (λ n. IsLength n.width) set.now.names }
+    requires readable { IsReadable set.now (length rows.now) formula.now }
+    requires leaves { AreLeaves set.now.names dag.old rows.now }
+    ensures keeps { Keeps dag.old dag.new }
+    ensures wide { IfOk result (λ i. IsWide dag.new i) }
+    ensures node { IfOk result (λ i. (f : Naming → List Row) → Shows set.now.names dag.old rows.now f → Counts dag.new i (λ e. (meaning_of set.now).value formula.now (f e))) }
+{
+    let count = largest(formula) as usize + 1;
+    let leaves = leaves_of(alloc, set.names.as_slice(), rows_before(rows, count))?;
+    // the nodes of a dag fit
+    let _fit = dag.nodes();
+    let node = value_node(dag, formula, &leaves)?;
+    Ok(node)
+}
+
+/// Whether a formula of a set holds in the first row.
+#[tactic(auto, using(crate::proofs::Standing::keeps_both))]
+pub fn test_node(
+    alloc: Global,
+    dag: &mut Dag,
+    set: &Set,
+    rows: &[NodeRow],
+    formula: &Expr,
+) -> Result<u64, AllocError>
+    requires widths { All (λ n. IsLength n.width) set.now.names }
+    requires readable { IsReadable set.now (length rows.now) formula.now }
+    requires leaves { AreLeaves set.now.names dag.old rows.now }
+    ensures keeps { IfOk result (λ _. Keeps dag.old dag.new) }
+    ensures width { IfOk result (λ i. HasWidth dag.new i 1) }
+    ensures node { IfOk result (λ i. (f : Naming → List Row) → Shows set.now.names dag.old rows.now f → Tests dag.new i (λ e. holds (meaning_of set.now) formula.now (f e))) }
+{
+    let value = formula_node(alloc, dag, set, rows, formula)?;
+    let node = nonzero(dag, value)?;
+    Ok(node)
+}
+
+/// Whether each of these formulas of a set holds in the first row.
+pub fn all_node(
+    alloc: Global,
+    dag: &mut Dag,
+    set: &Set,
+    rows: &[NodeRow],
+    formulas: &[Expr],
+) -> Result<u64, AllocError>
+    requires widths { All (λ n. IsLength n.width) set.now.names }
+    requires readable { All (IsReadable set.now (length rows.now)) formulas.now }
+    requires leaves { AreLeaves set.now.names dag.old rows.now }
+    ensures keeps { IfOk result (λ _. Keeps dag.old dag.new) }
+    ensures width { IfOk result (λ i. HasWidth dag.new i 1) }
+    ensures node { IfOk result (λ i. (f : Naming → List Row) → Shows set.now.names dag.old rows.now f → Tests dag.new i (λ e. all_hold (meaning_of set.now) formulas.now (f e))) }
+{
+    let mut all = constant(dag, true)?;
+    for formula in formulas {
+        let one = test_node(alloc, dag, set, rows, formula)?;
+        all = both(dag, all, one)?;
+    }
+    Ok(all)
+}
+
+/// The rows from this one on.
+pub fn rows_after(rows: &[NodeRow], t: usize) -> &[NodeRow]
+    requires { t ≤ length rows.now }
+    ensures { result.now ≡ drop t rows.now }
+{
+    &rows[t..]
+}
+
+/// Whether a formula of a set holds in each of the first rows.
+pub fn throughout_node(
+    alloc: Global,
+    dag: &mut Dag,
+    set: &Set,
+    rows: &[NodeRow],
+    formula: &Expr,
+    count: usize,
+) -> Result<u64, AllocError>
+    requires widths { All (λ n. IsLength n.width) set.now.names }
+    requires readable { IsReadable set.now (largest_offset formula.now + 1) formula.now }
+    requires within { count ≤ length rows.now - largest_offset formula.now }
+    requires leaves { AreLeaves set.now.names dag.old rows.now }
+    ensures keeps { IfOk result (λ _. Keeps dag.old dag.new) }
+    ensures width { IfOk result (λ i. HasWidth dag.new i 1) }
+    ensures node { IfOk result (λ i. (f : Naming → List Row) → Shows set.now.names dag.old rows.now f → Tests dag.new i (λ e. all_below count (λ t. holds (meaning_of set.now) formula.now (drop t (f e))))) }
+{
+    let mut all = constant(dag, true)?;
+    for t in 0..count {
+        let later = rows_after(rows, t);
+        let one = test_node(alloc, dag, set, later, formula)?;
+        all = both(dag, all, one)?;
+    }
+    Ok(all)
+}
+
+/// Whether each constraint of a set holds wherever its largest offset fits into the rows.
+pub fn constraints_node(
+    alloc: Global,
+    dag: &mut Dag,
+    set: &Set,
+    rows: &[NodeRow],
+) -> Result<u64, AllocError>
+    requires structure { HasStructure set.now }
+    requires leaves { AreLeaves set.now.names dag.old rows.now }
+    ensures keeps { IfOk result (λ _. Keeps dag.old dag.new) }
+    ensures width { IfOk result (λ i. HasWidth dag.new i 1) }
+    ensures node { IfOk result (λ i. (f : Naming → List Row) → Shows set.now.names dag.old rows.now f → Tests dag.new i (λ e. meets_constraints (meaning_of set.now) set.now (f e))) }
+{
+    let mut all = constant(dag, true)?;
+    for rule in set.constraints.as_slice() {
+        let count = rows.len().saturating_sub(largest(&rule.formula) as usize);
+        let one = throughout_node(alloc, dag, set, rows, &rule.formula, count)?;
+        all = both(dag, all, one)?;
+    }
+    Ok(all)
+}
