@@ -6,3 +6,4 @@ mod Giving
 mod Sides
 mod Storing
 mod Matching
+mod Labelling

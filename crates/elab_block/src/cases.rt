@@ -113,9 +113,9 @@ fn either(dag: &mut Dag, a: u64, b: u64) -> Result<u64, AllocError>
     Ok(number)
 }
 
-// Whether one of some labels matches.
+/// Whether one of some labels matches.
 #[tactic(auto, using(elab_node::proofs::Kept::keeps_then, elab_node::proofs::Kept::keeps_same, elab_node::proofs::Kept::made_node, elab_node::proofs::Kept::node_kept, elab_node::proofs::Kept::ready_kept))]
-fn any_node(
+pub fn any_node(
     dag: &mut Dag,
     kind: CaseKind,
     labels: &[Expr],

@@ -39,8 +39,8 @@ fn leaf_number(name: &Text, leaves: &Leaves) -> usize
     unreachable!()
 }
 
-// The length and the sign that an expression has by itself.
-fn shape(expr: &Expr, leaves: &Leaves) -> (u8, bool)
+/// The length and the sign that an expression has by itself.
+pub fn shape(expr: &Expr, leaves: &Leaves) -> (u8, bool)
     requires { IsFormed (declared leaves.now) expr.now }
     ensures { HasShape (declared leaves.now) expr.now result.0 result.1 }
 {

@@ -6,6 +6,7 @@ mod branches;
 mod cases;
 mod codes;
 mod indexed;
+mod items;
 mod left;
 mod nodes;
 mod stores;
