@@ -25,7 +25,8 @@ const STEPS: &str = "block counter; clock clk; reset rst high 1; input en; outpu
 property reset { length 0; commit q@0 == 2'd0; cover q from 0 to 1; next step; }
 operation step { length 1; ";
 
-const STEPPED: &str = "commit en@0 == 1'b0 || q@1 == q@0 + 2'd1; hand q@0; cover q from 1 to 2; next step; }";
+const STEPPED: &str =
+    "commit en@0 == 1'b0 || q@1 == q@0 + 2'd1; hand q@0; cover q from 1 to 2; next step; }";
 
 const FLIP: &str = "block flip; clock clk; reset rst high 1; output q; ";
 
@@ -34,7 +35,8 @@ property reset { length 0; commit q@0 == 1'b0; cover q from 0 to 1; next on, off
 operation on { length 1; assume m@0; commit q@1 == !q@0; hand q@0; cover q from 1 to 2; next on, off; }
 operation off { length 1; assume !m@0; commit q@1 == q@0; hand q@0; cover q from 1 to 2; next on, off; }";
 
-const PIPE: &str = "block pipe1; clock clk; reset rst high 1; input iv; input [7:0] d; output v; output [7:0] o when ";
+const PIPE: &str =
+    "block pipe1; clock clk; reset rst high 1; input iv; input [7:0] d; output v; output [7:0] o when ";
 
 const PIPED: &str = ";
 property reset { length 0; commit !v@0; cover v from 0 to 1; cover o from 0 to 1; next move; }
@@ -42,30 +44,130 @@ operation move { length 1; commit v@1 == iv@0; commit !iv@0 || o@1 == d@0; cover
 
 const WAITER: &str = "block waiter; clock clk; reset rst high 1; input go; input ok; output busy; ";
 
-const WAITED: &str = "property reset { length 0; commit !busy@0; cover busy from 0 to 1; next idle, serve; }
+const WAITED: &str =
+    "property reset { length 0; commit !busy@0; cover busy from 0 to 1; next idle, serve; }
 operation idle { length 1; assume !busy@0 && !go@0; commit !busy@1; cover busy from 1 to 2; next idle, serve; }
 operation serve { length 2 to 4 until !busy; assume !busy@0 && go@0; commit busy@1; commit busy@2 == !ok@1;
 commit !busy@2 || busy@3 == !ok@2; commit !busy@2 || !busy@3 || busy@4 == !ok@3; cover busy from 1 to end + 1; next idle, serve; }";
 
 const FLAWS: &[Flaw] = &[
-    Flaw { head: STEPS, flaw: "assume en@0; ", sound: "", tail: STEPPED, want: "kept",
-        windows: Windows { line: Line::Split(0), end: 0, one: &[&[0, 0], &[0, 0]], other: &[] } },
-    Flaw { head: STEPS, flaw: "assume en@0; ", sound: "", tail: STEPPED, want: "kept",
-        windows: Windows { line: Line::Split(1), end: 1, one: &[&[1, 3], &[0, 0], &[0, 0]], other: &[] } },
-    Flaw { head: COUNTER, flaw: "", sound: "hand q@0; ", tail: COUNTED, want: "kept",
-        windows: Windows { line: Line::Hand(2, 1), end: 1, one: &[&[0, 0], &[1, 0], &[0, 1]], other: &[&[0, 1], &[1, 1], &[0, 2]] } },
-    Flaw { head: COUNTER, flaw: "", sound: "hand q@0; ", tail: COUNTED, want: "kept",
-        windows: Windows { line: Line::Determine(2), end: 1, one: &[&[0, 0], &[0, 0]], other: &[&[0, 1], &[0, 1]] } },
-    Flaw { head: FLIP, flaw: "state", sound: "input", tail: FLIPPED, want: "kept",
-        windows: Windows { line: Line::Choose(0, 1), end: 0, one: &[&[0, 1], &[0, 1]], other: &[&[0, 0], &[0, 0]] } },
-    Flaw { head: FLIP, flaw: "state", sound: "input", tail: FLIPPED, want: "kept",
-        windows: Windows { line: Line::Choose(1, 2), end: 1, one: &[&[0, 1], &[1, 0], &[1, 0]], other: &[&[0, 1], &[1, 1], &[0, 1]] } },
-    Flaw { head: PIPE, flaw: "o == 8'd7", sound: "v", tail: PIPED, want: "kept",
-        windows: Windows { line: Line::Determine(0), end: 0, one: &[&[0, 0, 0, 7]], other: &[&[0, 0, 0, 6]] } },
-    Flaw { head: PIPE, flaw: "o == 8'd7", sound: "v", tail: PIPED, want: "kept",
-        windows: Windows { line: Line::Determine(1), end: 1, one: &[&[0, 0, 0, 0], &[0, 0, 0, 7]], other: &[&[0, 0, 0, 0], &[0, 0, 0, 6]] } },
-    Flaw { head: WAITER, flaw: "", sound: "constraint soon : ok@0 || ok@1 || ok@2; ", tail: WAITED, want: "unconstrained",
-        windows: Windows { line: Line::End(2), end: 0, one: &[&[1, 0, 0], &[0, 0, 1], &[0, 0, 1], &[0, 0, 1], &[0, 0, 1]], other: &[] } },
+    Flaw {
+        head: STEPS,
+        flaw: "assume en@0; ",
+        sound: "",
+        tail: STEPPED,
+        want: "kept",
+        windows: Windows {
+            line: Line::Split(0),
+            end: 0,
+            one: &[&[0, 0], &[0, 0]],
+            other: &[],
+        },
+    },
+    Flaw {
+        head: STEPS,
+        flaw: "assume en@0; ",
+        sound: "",
+        tail: STEPPED,
+        want: "kept",
+        windows: Windows {
+            line: Line::Split(1),
+            end: 1,
+            one: &[&[1, 3], &[0, 0], &[0, 0]],
+            other: &[],
+        },
+    },
+    Flaw {
+        head: COUNTER,
+        flaw: "",
+        sound: "hand q@0; ",
+        tail: COUNTED,
+        want: "kept",
+        windows: Windows {
+            line: Line::Hand(2, 1),
+            end: 1,
+            one: &[&[0, 0], &[1, 0], &[0, 1]],
+            other: &[&[0, 1], &[1, 1], &[0, 2]],
+        },
+    },
+    Flaw {
+        head: COUNTER,
+        flaw: "",
+        sound: "hand q@0; ",
+        tail: COUNTED,
+        want: "kept",
+        windows: Windows {
+            line: Line::Determine(2),
+            end: 1,
+            one: &[&[0, 0], &[0, 0]],
+            other: &[&[0, 1], &[0, 1]],
+        },
+    },
+    Flaw {
+        head: FLIP,
+        flaw: "state",
+        sound: "input",
+        tail: FLIPPED,
+        want: "kept",
+        windows: Windows {
+            line: Line::Choose(0, 1),
+            end: 0,
+            one: &[&[0, 1], &[0, 1]],
+            other: &[&[0, 0], &[0, 0]],
+        },
+    },
+    Flaw {
+        head: FLIP,
+        flaw: "state",
+        sound: "input",
+        tail: FLIPPED,
+        want: "kept",
+        windows: Windows {
+            line: Line::Choose(1, 2),
+            end: 1,
+            one: &[&[0, 1], &[1, 0], &[1, 0]],
+            other: &[&[0, 1], &[1, 1], &[0, 1]],
+        },
+    },
+    Flaw {
+        head: PIPE,
+        flaw: "o == 8'd7",
+        sound: "v",
+        tail: PIPED,
+        want: "kept",
+        windows: Windows {
+            line: Line::Determine(0),
+            end: 0,
+            one: &[&[0, 0, 0, 7]],
+            other: &[&[0, 0, 0, 6]],
+        },
+    },
+    Flaw {
+        head: PIPE,
+        flaw: "o == 8'd7",
+        sound: "v",
+        tail: PIPED,
+        want: "kept",
+        windows: Windows {
+            line: Line::Determine(1),
+            end: 1,
+            one: &[&[0, 0, 0, 0], &[0, 0, 0, 7]],
+            other: &[&[0, 0, 0, 0], &[0, 0, 0, 6]],
+        },
+    },
+    Flaw {
+        head: WAITER,
+        flaw: "",
+        sound: "constraint soon : ok@0 || ok@1 || ok@2; ",
+        tail: WAITED,
+        want: "unconstrained",
+        windows: Windows {
+            line: Line::End(2),
+            end: 0,
+            one: &[&[1, 0, 0], &[0, 0, 1], &[0, 0, 1], &[0, 0, 1], &[0, 0, 1]],
+            other: &[],
+        },
+    },
 ];
 
 fn text_of(alloc: Global, head: &str, piece: &str, tail: &str) -> Result<Text, AllocError> {
@@ -75,12 +177,7 @@ fn text_of(alloc: Global, head: &str, piece: &str, tail: &str) -> Result<Text, A
     Ok(text)
 }
 
-fn line(
-    rt: &(impl Abort + AllocGlobal),
-    flaw: &Flaw,
-    piece: &str,
-    want: &str,
-) -> Result<(), Fail> {
+fn line(rt: &(impl Abort + AllocGlobal), flaw: &Flaw, piece: &str, want: &str) -> Result<(), Fail> {
     let text = text_of(rt.alloc(), flaw.head, piece, flaw.tail)?;
     let word = shown(rt.alloc(), text.bytes(), &flaw.windows)?;
     assert_eq!(rt; word, want, "at {piece:?}");
