@@ -32,11 +32,11 @@ and_true : (a : Bool) → (a && true) ≡ a
 and_true true = refl
 and_true false = refl
 
-widest_append : (v : List Entry) (xs ys : List Expr) → widest v (xs ++ ys) ≡ max (widest v xs) (widest v ys)
+pub widest_append : (v : List Entry) (xs ys : List Expr) → widest v (xs ++ ys) ≡ max (widest v xs) (widest v ys)
 widest_append v [] ys = omega arith
 widest_append v (x ∷ xs) ys = ap (λ k. max (width_of v x) k) (widest_append v xs ys) ∙ sym (max_max (width_of v x) (widest v xs) (widest v ys))
 
-signed_append : (v : List Entry) (xs ys : List Expr) → all_signed v (xs ++ ys) ≡ (all_signed v xs && all_signed v ys)
+pub signed_append : (v : List Entry) (xs ys : List Expr) → all_signed v (xs ++ ys) ≡ (all_signed v xs && all_signed v ys)
 signed_append v [] ys = refl
 signed_append v (x ∷ xs) ys = ap (λ k. sign_of v x && k) (signed_append v xs ys) ∙ sym (and_and (sign_of v x) (all_signed v xs) (all_signed v ys))
 

@@ -7,3 +7,5 @@ mod Sides
 mod Storing
 mod Matching
 mod Labelling
+mod Choosing
+mod Picking

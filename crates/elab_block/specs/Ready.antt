@@ -1,6 +1,7 @@
 -- What is asked of a block that becomes nodes.
 use Rattle.std.specs.Prelude.{ℕ, ◌+◌, max, Bool, IsTrue, List, [], ◌∷◌}
 use Rattle.vlog_tree.specs.declared.expr.Expr.{Expr}
+use Rattle.vlog_tree.specs.declared.stmt.CaseItem.{CaseItem}
 use Rattle.vlog_tree.specs.declared.stmt.Lval.{Lval, Row_of-Lval, end_of-Lval, more_of-Lval}
 use Rattle.vlog_tree.specs.declared.stmt.Lval.TheVariants as l
 use Rattle.vlog_tree.specs.declared.stmt.Stmt.{Stmt, Row_of-Stmt, end_of-Stmt, more_of-Stmt, Row_of-CaseItem, end_of-CaseItem, more_of-CaseItem}
@@ -91,3 +92,8 @@ abbrev mutual
 abbrev pub EachReadyStmt : List Entry → List Stmt → Type 0
 EachReadyStmt v [] = Unit {0}
 EachReadyStmt v (a ∷ rest) = IsReadyStmt v a × EachReadyStmt v rest
+
+-- the bodies of items
+abbrev pub EachReadyItem : List Entry → List CaseItem → Type 0
+EachReadyItem v [] = Unit {0}
+EachReadyItem v (i ∷ rest) = IsReadyStmt v i.body × EachReadyItem v rest

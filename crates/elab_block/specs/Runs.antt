@@ -1,15 +1,18 @@
 -- Blocks that are run on nodes.
-use Rattle.std.specs.Prelude.{ℕ, ◌≡◌, Bool, true, false, List, [], ◌∷◌, Option, Some, None}
+use Rattle.std.specs.Prelude.{ℕ, ◌≡◌, Bool, true, false, List, [], ◌∷◌, Option, Some, None, map, drop, length, get_or, ◌<◌}
 use Rattle.word_dag.specs.declared.node.Node.{Node}
 use Rattle.word_dag.specs.Nodes.{Naming}
 use Rattle.vlog_runs.specs.declared.flat.Signal.{Signal}
+use Rattle.vlog_tree.specs.declared.stmt.CaseItem.{CaseItem}
+use Rattle.vlog_tree.specs.declared.stmt.Labels.{Labels}
 use Rattle.vlog_tree.specs.declared.stmt.Stmt.{Stmt}
 use Rattle.vlog_tree.specs.Value.{bit}
-use Rattle.vlog_runs.specs.Places.{Cycle, Place}
-use Rattle.vlog_runs.specs.Blocks.{run}
+use Rattle.vlog_runs.specs.Places.{Name, Cycle, Place}
+use Rattle.vlog_runs.specs.Blocks.{is_default, run}
 use Rattle.elab_node.specs.declared.leaves.Leaf.{Leaf}
 use Rattle.elab_node.specs.Leaves.{declared, AreReady}
-use Rattle.elab_node.specs.Nodes.{number_at}
+use Rattle.elab_node.specs.Nodes.{IsNode, number_at}
+use Rattle.elab_block.specs.Cases.{picked, each_default}
 use Rattle.elab_block.specs.Standing.{flat, AreLeavesOf, AreApart, AreShown, with_nodes, chosen}
 
 -- the leaves that expressions are read from: those of the cycle before the edge, and where there are none, those that stand now
@@ -58,3 +61,27 @@ abbrev pub Branches : Option (List Leaf) → Stmt → ℕ → List ℕ → List 
 Branches reads body test before ms old ks new =
     (gs : List Signal) (e : Naming) (p q d : Cycle) → AreLeavesOf gs ms → AreBefore e old reads p → AreShown e old (with_nodes ms before) q → AreShown e old ms d
     → AreShown e new ks (chosen (number_at e old test) (run (is_at_once reads) (flat gs) body p q) d)
+
+-- each node is of one bit, one for each item
+abbrev pub AreBits : List CaseItem → List ℕ → List Node → Type 0
+AreBits [] [] ns = Unit {0}
+AreBits [] (z ∷ zs) ns = ⊥
+AreBits (i ∷ rest) [] ns = ⊥
+AreBits (i ∷ rest) (z ∷ zs) ns = IsNode ns z 1 × AreBits rest zs ns
+
+-- each is 1 where a test passes its item's labels
+abbrev pub AreTests : Option (List Leaf) → (List Signal → Cycle → Cycle → Labels → Bool) → List Leaf → List Node → List Node → List CaseItem → List ℕ → Type 0
+AreTests reads t ms old new [] zs = Unit {0}
+AreTests reads t ms old new (i ∷ rest) [] = Unit {0}
+AreTests reads t ms old new (i ∷ rest) (z ∷ zs) = Tests reads (λ gs p q. t gs p q i.labels) ms old new z × AreTests reads t ms old new rest zs
+
+-- the later leaves show what the first item whose node is 1 makes of what these nodes show, and where there is none what was shown
+abbrev pub Picks : Option (List Leaf) → List CaseItem → List ℕ → List ℕ → List Leaf → List Node → List Leaf → List Node → Type 0
+Picks reads items tests before ms old ks new =
+    (gs : List Signal) (e : Naming) (p q d : Cycle) → AreLeavesOf gs ms → AreBefore e old reads p → AreShown e old (with_nodes ms before) q → AreShown e old ms d
+    → AreShown e new ks (picked (is_at_once reads) (flat gs) items (map (number_at e old) tests) p q d)
+
+-- the place of the first item that is the default, or the number of items
+pub record IsDefaultAt (items : List CaseItem) (k : ℕ) : Type 0 where
+  pub skipped : (at_once : Bool) (p : Place) (c d : Cycle) (x : Name) → each_default at_once p items c d x ≡ each_default at_once p (drop k items) c d x
+  pub default : (i : CaseItem) → k < length items → is_default (get_or items k i).labels ≡ true

@@ -1,21 +1,21 @@
 // The items of a case statement.
-ghost use Rattle.std.specs.Prelude.{◌≡◌, max, ◌&&◌, IfOk};
+ghost use Rattle.std.specs.Prelude.{◌≡◌, ◌∷◌, max, ◌&&◌, IfOk};
 ghost use Rattle.word_dag.specs.Adding.{Keeps};
-ghost use Rattle.vlog_tree.specs.Value.{bit};
-ghost use Rattle.vlog_value.specs.Shapes.{each_formed};
-ghost use Rattle.vlog_runs.specs.Blocks.{widest, all_signed, exprs_in};
+ghost use Rattle.vlog_tree.specs.Value.{IsFormed, bit};
+ghost use Rattle.vlog_value.specs.Shapes.{HasShape, each_formed};
+ghost use Rattle.vlog_runs.specs.Blocks.{widest, all_signed, case_width, case_sign, exprs_in};
 ghost use Rattle.elab_node.specs.Leaves.{AreReady, declared, valued};
 ghost use Rattle.elab_node.specs.Nodes.{Makes, number_at, words};
 ghost use Rattle.elab_block.specs.Wires.{IsWire};
 ghost use Rattle.elab_block.specs.Ready.{ArePlaced};
-ghost use Rattle.elab_block.specs.Cases.{is_chosen};
+ghost use Rattle.elab_block.specs.Cases.{is_chosen, each_labels, AreMatches};
 
 use crate::cases::any_node;
 use crate::left::shape;
 use crate::nodes::{Wire, constant};
-use elab_node::Leaves;
-use std::alloc::AllocError;
-use vlog_tree::{CaseKind, Expr, Labels};
+use elab_node::{Leaves, node_of};
+use std::alloc::{AllocError, Global};
+use vlog_tree::{CaseItem, CaseKind, Expr, Labels};
 use word_dag::Dag;
 
 // The longest length so far and that of some labels, and whether all are signed.
@@ -30,6 +30,30 @@ fn with_labels(here: (u8, bool), labels: &[Expr], leaves: &Leaves) -> (u8, bool)
         longest = (longest.0.max(own.0), longest.1 && own.1);
     }
     longest
+}
+
+// The length and the sign at which a case expression and the labels are compared.
+fn compared_at(subject: &Expr, items: &[CaseItem], leaves: &Leaves) -> (u8, bool)
+    requires subject { IsFormed (declared leaves.now) subject.now }
+    requires labels { each_formed (declared leaves.now) (each_labels items.now) }
+    ensures width { result.0 ≡ case_width (declared leaves.now) subject.now (each_labels items.now) }
+    ensures sign { result.1 ≡ case_sign (declared leaves.now) subject.now (each_labels items.now) }
+{
+    let mut longest = shape(subject, leaves);
+    for item in items {
+        longest = with_labels(longest, exprs_in(&item.labels), leaves);
+    }
+    longest
+}
+
+// The expressions of an item, none where it is the default.
+fn exprs_in(labels: &Labels) -> &[Expr]
+    ensures { result.now ≡ exprs_in labels.now }
+{
+    match labels {
+        Labels::Exprs(exprs) => exprs.as_slice(),
+        Labels::Default => &[],
+    }
 }
 
 // Whether a label of an item matches. No label of `default` does.
@@ -57,4 +81,35 @@ fn item_node(
             Ok(number)
         }
     }
+}
+
+/// For each item a bit that is 1 where one of its labels matches the case expression, all of them read from these leaves.
+pub fn item_tests(
+    alloc: Global,
+    dag: &mut Dag,
+    kind: CaseKind,
+    subject: &Expr,
+    items: &[CaseItem],
+    leaves: &Leaves,
+) -> Result<Vec<u64>, AllocError>
+    requires ready { AreReady leaves.now dag.old }
+    requires placed { ArePlaced (declared leaves.now) (subject.now ∷ each_labels items.now) (case_width (declared leaves.now) subject.now (each_labels items.now)) (case_sign (declared leaves.now) subject.now (each_labels items.now)) }
+    ensures keeps { Keeps dag.old dag.new }
+    ensures matches { IfOk result (λ r. AreMatches kind leaves.now subject.now (case_width (declared leaves.now) subject.now (each_labels items.now)) (case_sign (declared leaves.now) subject.now (each_labels items.now)) dag.old items.now r.items dag.new) }
+{
+    let (width, signed) = compared_at(subject, items, leaves);
+    let node = node_of(dag, subject, width, signed, leaves)?;
+    let mut tests = Vec::new(alloc);
+    for item in items {
+        let test = item_node(
+            dag,
+            kind,
+            &item.labels,
+            Wire { node, width },
+            signed,
+            leaves,
+        )?;
+        tests.push(test)?;
+    }
+    Ok(tests)
 }

@@ -2,6 +2,7 @@
 #![tactic(auto)]
 
 mod bits;
+mod blocks;
 mod branches;
 mod cases;
 mod codes;
@@ -12,4 +13,5 @@ mod nodes;
 mod stores;
 mod targets;
 
+pub use blocks::run;
 pub use stores::assign;

@@ -1,22 +1,24 @@
 // Assignments and conditions.
-ghost use Rattle.std.specs.Prelude.{◌≡◌, ◌≤◌, Option, IfOk, not};
+ghost use Rattle.std.specs.Prelude.{◌≡◌, ◌∷◌, ◌≤◌, Option, IfOk, not};
 ghost use Rattle.std.specs.Option.{option_copied};
 ghost use Rattle.word_dag.specs.Adding.{Keeps};
 ghost use Rattle.vlog_runs.specs.Places.{store};
-ghost use Rattle.vlog_runs.specs.Blocks.{seen, is_false};
+ghost use Rattle.vlog_runs.specs.Blocks.{seen, is_false, case_width, case_sign};
 ghost use Rattle.elab_node.specs.Leaves.{AreReady, declared};
 ghost use Rattle.elab_block.specs.Standing.{flat};
 ghost use Rattle.elab_block.specs.Targets.{bits_in};
 ghost use Rattle.elab_node.specs.Nodes.{IsNode};
-ghost use Rattle.elab_block.specs.Ready.{IsSingle, IsReadyStore};
-ghost use Rattle.elab_block.specs.Runs.{seen_by, is_at_once, AreSet, Runs, Tests};
+ghost use Rattle.elab_block.specs.Ready.{IsSingle, IsReadyStore, ArePlaced};
+ghost use Rattle.elab_block.specs.Runs.{seen_by, is_at_once, AreSet, Runs, Tests, AreBits, AreTests};
+ghost use Rattle.elab_block.specs.Cases.{each_labels, case_test};
 
+use crate::items::item_tests;
 use crate::left::targets_of;
 use crate::nodes::Wire;
 use crate::targets::{Target, give};
 use elab_node::{Leaves, assigned_node, holds_node};
 use std::alloc::{AllocError, Global};
-use vlog_tree::{Expr, Lval};
+use vlog_tree::{CaseItem, CaseKind, Expr, Lval};
 use word_dag::Dag;
 
 // The leaves that expressions are read from.
@@ -88,4 +90,27 @@ pub fn condition_node(
     let leaves = seen(dag, reads, state);
     let number = holds_node(dag, condition, leaves)?;
     Ok(number)
+}
+
+/// For each item of a case statement a bit that is 1 where one of its labels matches.
+#[tactic(auto, using(crate::proofs::Storing::set_kept))]
+pub fn case_tests(
+    alloc: Global,
+    dag: &mut Dag,
+    kind: CaseKind,
+    subject: &Expr,
+    items: &[CaseItem],
+    reads: Option<&Leaves>,
+    state: &Leaves,
+) -> Result<Vec<u64>, AllocError>
+    requires set { AreSet (option_copied reads) state.now dag.old }
+    requires placed { ArePlaced (declared state.now) (subject.now ∷ each_labels items.now) (case_width (declared state.now) subject.now (each_labels items.now)) (case_sign (declared state.now) subject.now (each_labels items.now)) }
+    ensures keeps { Keeps dag.old dag.new }
+    ensures set { AreSet (option_copied reads.entry) state.now dag.new }
+    ensures bits { IfOk result (λ r. AreBits items.now r.items dag.new) }
+    ensures tests { IfOk result (λ r. AreTests (option_copied reads.entry) (λ gs. case_test (is_at_once (option_copied reads.entry)) (flat gs) kind subject.now items.now) state.now dag.old dag.new items.now r.items) }
+{
+    let leaves = seen(dag, reads, state);
+    let tests = item_tests(alloc, dag, kind, subject, items, leaves)?;
+    Ok(tests)
 }

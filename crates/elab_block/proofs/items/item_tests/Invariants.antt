@@ -1,0 +1,6 @@
+use Rattle.std.proofs.Common.{take}
+use Rattle.elab_block.proofs.Choosing.{Matching}
+use Rattle.elab_block.proofs.items.item_tests.Given as goal
+
+abbrev pub invariant-loop-item : goal.invariant-loop-item
+invariant-loop-item l = Matching l.kind l.leaves l.subject l.width l.signed l.fn.dag l.node (take l.item-index l.items) l.tests.items l.dag

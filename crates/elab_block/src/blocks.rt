@@ -1,0 +1,334 @@
+// Blocks, run on nodes in the place of numbers.
+ghost use Rattle.std.specs.Prelude.{◌≡◌, Option, IfOk};
+ghost use Rattle.std.specs.Option.{option_copied};
+ghost use Rattle.word_dag.specs.Adding.{Keeps};
+ghost use Rattle.vlog_runs.specs.Blocks.{is_default, run};
+ghost use Rattle.elab_node.specs.Leaves.{declared};
+ghost use Rattle.elab_node.specs.Nodes.{IsNode};
+ghost use Rattle.elab_block.specs.Standing.{flat, AreNodes, nodes_of, with_nodes};
+ghost use Rattle.elab_block.specs.Ready.{IsReadyStmt, EachReadyStmt, EachReadyItem};
+ghost use Rattle.elab_block.specs.Cases.{each_default};
+ghost use Rattle.elab_block.specs.Runs.{is_at_once, AreSet, Runs, Branches, each_runs, AreBits, Picks, IsDefaultAt};
+
+use crate::branches::{nodes_of, rejoin, replaced};
+use crate::stores::{assign, case_tests, condition_node};
+use elab_node::Leaves;
+use sqlite_items::{Boxed, Items};
+use std::alloc::{AllocError, Global};
+use vlog_tree::{CaseItem, Labels, Stmt};
+use word_dag::Dag;
+
+// A part of a statement.
+fn part<'a>(boxed: &'a Boxed<Stmt>, state: &Leaves) -> &'a Stmt
+    requires { IsReadyStmt (declared state.now) boxed.now }
+    ensures same { result.now ≡ boxed.now }
+    ensures ready { IsReadyStmt (declared state.now) result.now }
+{
+    let _state = state;
+    boxed.get()
+}
+
+// A statement of a block.
+fn one<'a>(stmt: &'a Stmt, state: &Leaves) -> &'a Stmt
+    requires { IsReadyStmt (declared state.now) stmt.now }
+    ensures same { result.now ≡ stmt.now }
+    ensures ready { IsReadyStmt (declared state.now) result.now }
+{
+    let _state = state;
+    stmt
+}
+
+// The statements of a block.
+fn statements<'a>(stmts: &'a Items<Stmt>, state: &Leaves) -> &'a [Stmt]
+    requires { EachReadyStmt (declared state.now) stmts.now }
+    ensures same { result.now ≡ stmts.now }
+    ensures ready { EachReadyStmt (declared state.now) result.now }
+{
+    let _state = state;
+    stmts.as_slice()
+}
+
+// The items of a case statement.
+fn listed<'a>(items: &'a Items<CaseItem>, state: &Leaves) -> &'a [CaseItem]
+    requires { EachReadyItem (declared state.now) items.now }
+    ensures same { result.now ≡ items.now }
+    ensures ready { EachReadyItem (declared state.now) result.now }
+{
+    let _state = state;
+    items.as_slice()
+}
+
+// A bit for each item.
+fn tested<'a>(dag: &Dag, items: &Items<CaseItem>, tests: &'a Vec<u64>) -> &'a [u64]
+    requires { AreBits items.now tests.now.items dag.now }
+    ensures same { result.now ≡ tests.now.items }
+    ensures bits { AreBits items.now result.now dag.now }
+{
+    let _dag = dag;
+    let _items = items;
+    tests.as_slice()
+}
+
+// The body of an item.
+fn body<'a>(item: &'a CaseItem, state: &Leaves) -> &'a Stmt
+    requires { IsReadyStmt (declared state.now) item.now.body }
+    ensures same { result.now ≡ item.now.body }
+    ensures ready { IsReadyStmt (declared state.now) result.now }
+{
+    let _state = state;
+    &item.body
+}
+
+fn is_default(labels: &Labels) -> bool
+    ensures { result ≡ is_default labels.now }
+{
+    match labels {
+        Labels::Exprs(_) => false,
+        Labels::Default => true,
+    }
+}
+
+// The place of the first item that is the default, or the number of items.
+fn default_at(items: &[CaseItem]) -> usize
+    ensures { IsDefaultAt items.now result }
+{
+    let mut at = 0;
+    for item in items {
+        if is_default(&item.labels) {
+            return at;
+        }
+        at += 1;
+    }
+    at
+}
+
+// Gives the leaves these nodes, and takes theirs.
+fn swapped(
+    alloc: Global,
+    dag: &Dag,
+    before: &[u64],
+    body: &Stmt,
+    reads: Option<&Leaves>,
+    state: &mut Leaves,
+) -> Result<Vec<u64>, AllocError>
+    requires set { AreSet (option_copied reads) state.old dag.now }
+    requires before { AreNodes state.old before.now dag.now }
+    requires stmt { IsReadyStmt (declared state.old) body.now }
+    ensures stmt { IfOk result (λ r. IsReadyStmt (declared state.new) body.now) }
+    ensures taken { IfOk result (λ r. r.items ≡ nodes_of state.old) }
+    ensures given { IfOk result (λ r. state.new ≡ with_nodes state.old before.now) }
+    ensures same { declared state.new ≡ declared state.old }
+    ensures set { IfOk result (λ r. AreSet (option_copied reads.entry) state.new dag.now) }
+{
+    let _dag = dag;
+    let _reads = reads;
+    let _body = body;
+    let taken = replaced(alloc, state, before)?;
+    Ok(taken)
+}
+
+// A node of one bit.
+fn bit(dag: &Dag, test: u64) -> u64
+    requires { IsNode dag.now test 1 }
+    ensures same { result ≡ test }
+    ensures node { IsNode dag.now result 1 }
+{
+    let _dag = dag;
+    test
+}
+
+// A node for each leaf.
+fn held<'a>(dag: &Dag, nodes: &'a Vec<u64>, state: &Leaves) -> &'a [u64]
+    requires { AreNodes state.now nodes.now.items dag.now }
+    ensures same { result.now ≡ nodes.now.items }
+    ensures nodes { AreNodes state.now result.now dag.now }
+{
+    let _dag = dag;
+    let _state = state;
+    nodes.as_slice()
+}
+
+/// Runs a statement: the leaves then have the nodes of what their names hold after it, whatever the free words are. Expressions are read
+/// from the leaves of the cycle before the edge, and where there are none, assignments take effect at once. It is refused for want of memory
+/// alone, and then the leaves are half changed.
+#[cycle(run)]
+#[tactic(auto, using(crate::proofs::Storing::block_ready, elab_node::proofs::Kept::keeps_then, elab_node::proofs::Kept::keeps_same))]
+pub fn run(
+    alloc: Global,
+    dag: &mut Dag,
+    stmt: &Stmt,
+    reads: Option<&Leaves>,
+    state: &mut Leaves,
+) -> Result<(), AllocError>
+    requires set { AreSet (option_copied reads) state.old dag.old }
+    requires stmt { IsReadyStmt (declared state.old) stmt.now }
+    ensures keeps { Keeps dag.old dag.new }
+    ensures same { declared state.new ≡ declared state.old }
+    ensures set { IfOk result (λ u. AreSet (option_copied reads.entry) state.new dag.new) }
+    ensures runs { IfOk result (λ u. Runs (option_copied reads.entry) (λ gs. run (is_at_once (option_copied reads.entry)) (flat gs) stmt.now) state.old dag.old state.new dag.new) }
+{
+    match stmt {
+        Stmt::Empty => Ok(()),
+        Stmt::Block(_, stmts) => {
+            run_row(alloc, dag, statements(stmts, state), reads, state)?;
+            Ok(())
+        }
+        Stmt::If(condition, body) => {
+            let body = part(body, state);
+            let test = condition_node(dag, condition, reads, state)?;
+            let before = nodes_of(alloc, state)?;
+            branch(
+                alloc,
+                dag,
+                body,
+                bit(dag, test),
+                held(dag, &before, state),
+                reads,
+                state,
+            )?;
+            Ok(())
+        }
+        Stmt::IfElse(condition, body, other) => {
+            let body = part(body, state);
+            let other = part(other, state);
+            let test = condition_node(dag, condition, reads, state)?;
+            let before = nodes_of(alloc, state)?;
+            run(alloc, dag, other, reads, state)?;
+            branch(
+                alloc,
+                dag,
+                body,
+                bit(dag, test),
+                held(dag, &before, state),
+                reads,
+                state,
+            )?;
+            Ok(())
+        }
+        Stmt::Case(kind, subject, items) => {
+            let tests = case_tests(alloc, dag, *kind, subject, items.as_slice(), reads, state)?;
+            let before = nodes_of(alloc, state)?;
+            run_default(alloc, dag, listed(items, state), reads, state)?;
+            let bits = tested(dag, items, &tests);
+            let before = held(dag, &before, state);
+            run_items(alloc, dag, listed(items, state), bits, before, reads, state)?;
+            Ok(())
+        }
+        Stmt::Blocking(left, right) | Stmt::Nonblocking(left, right) => {
+            assign(alloc, dag, left, right, reads, state)?;
+            Ok(())
+        }
+    }
+}
+
+// A branch: the statement is run on the nodes that stood before, and where a bit is 0, the leaves keep their nodes.
+#[cycle(run)]
+#[tactic(auto, using(elab_node::proofs::Kept::keeps_then, elab_node::proofs::Kept::keeps_same, elab_node::proofs::Kept::node_kept))]
+fn branch(
+    alloc: Global,
+    dag: &mut Dag,
+    body: &Stmt,
+    test: u64,
+    before: &[u64],
+    reads: Option<&Leaves>,
+    state: &mut Leaves,
+) -> Result<(), AllocError>
+    requires set { AreSet (option_copied reads) state.old dag.old }
+    requires before { AreNodes state.old before.now dag.old }
+    requires test { IsNode dag.old test 1 }
+    requires stmt { IsReadyStmt (declared state.old) body.now }
+    ensures keeps { Keeps dag.old dag.new }
+    ensures same { declared state.new ≡ declared state.old }
+    ensures set { IfOk result (λ u. AreSet (option_copied reads.entry) state.new dag.new) }
+    ensures branches { IfOk result (λ u. Branches (option_copied reads.entry) body.now test before.now state.old dag.old state.new dag.new) }
+{
+    let others = swapped(alloc, dag, before, body, reads, state)?;
+    run(alloc, dag, body, reads, state)?;
+    rejoin(alloc, dag, test, &others, state)?;
+    Ok(())
+}
+
+// Statements, one after another.
+#[cycle(run)]
+#[tactic(auto, using(elab_node::proofs::Kept::keeps_then, elab_node::proofs::Kept::keeps_same))]
+fn run_row(
+    alloc: Global,
+    dag: &mut Dag,
+    stmts: &[Stmt],
+    reads: Option<&Leaves>,
+    state: &mut Leaves,
+) -> Result<(), AllocError>
+    requires set { AreSet (option_copied reads) state.old dag.old }
+    requires stmts { EachReadyStmt (declared state.old) stmts.now }
+    ensures keeps { Keeps dag.old dag.new }
+    ensures same { declared state.new ≡ declared state.old }
+    ensures set { IfOk result (λ u. AreSet (option_copied reads.entry) state.new dag.new) }
+    ensures runs { IfOk result (λ u. Runs (option_copied reads.entry) (λ gs. each_runs (is_at_once (option_copied reads.entry)) (flat gs) stmts.now) state.old dag.old state.new dag.new) }
+{
+    for stmt in stmts {
+        run(alloc, dag, one(stmt, state), reads, state)?;
+    }
+    Ok(())
+}
+
+// What stands for the default of a case statement.
+#[cycle(run)]
+#[tactic(auto, using(elab_node::proofs::Kept::keeps_then, elab_node::proofs::Kept::keeps_same))]
+fn run_default(
+    alloc: Global,
+    dag: &mut Dag,
+    items: &[CaseItem],
+    reads: Option<&Leaves>,
+    state: &mut Leaves,
+) -> Result<(), AllocError>
+    requires set { AreSet (option_copied reads) state.old dag.old }
+    requires items { EachReadyItem (declared state.old) items.now }
+    ensures keeps { Keeps dag.old dag.new }
+    ensures same { declared state.new ≡ declared state.old }
+    ensures set { IfOk result (λ u. AreSet (option_copied reads.entry) state.new dag.new) }
+    ensures runs { IfOk result (λ u. Runs (option_copied reads.entry) (λ gs. each_default (is_at_once (option_copied reads.entry)) (flat gs) items.now) state.old dag.old state.new dag.new) }
+{
+    let at = default_at(items);
+    if at < items.len() {
+        run(alloc, dag, body(&items[at], state), reads, state)?;
+    }
+    Ok(())
+}
+
+// The items of a case statement, from the last to the first: the bodies are run on the nodes that stood before.
+#[cycle(run)]
+#[tactic(auto, using(elab_node::proofs::Kept::keeps_then, elab_node::proofs::Kept::keeps_same))]
+fn run_items(
+    alloc: Global,
+    dag: &mut Dag,
+    items: &[CaseItem],
+    tests: &[u64],
+    before: &[u64],
+    reads: Option<&Leaves>,
+    state: &mut Leaves,
+) -> Result<(), AllocError>
+    requires set { AreSet (option_copied reads) state.old dag.old }
+    requires items { EachReadyItem (declared state.old) items.now }
+    requires tests { AreBits items.now tests.now dag.old }
+    requires before { AreNodes state.old before.now dag.old }
+    ensures keeps { Keeps dag.old dag.new }
+    ensures same { declared state.new ≡ declared state.old }
+    ensures set { IfOk result (λ u. AreSet (option_copied reads.entry) state.new dag.new) }
+    ensures picks { IfOk result (λ u. Picks (option_copied reads.entry) items.now tests.now before.now state.old dag.old state.new dag.new) }
+{
+    let mut left = items.len();
+    while left > 0 {
+        left -= 1;
+        let body = body(&items[left], state);
+        branch(
+            alloc,
+            dag,
+            body,
+            bit(dag, tests[left]),
+            before,
+            reads,
+            state,
+        )?;
+    }
+    Ok(())
+}
