@@ -1,9 +1,11 @@
-//! What an instance gives to a module without instances: its continuous assignments, and the connections of its instances.
+//! What an instance gives to a module without instances: its continuous assignments and blocks, and the connections of its instances.
 #![tactic(auto)]
 
+mod block;
 mod left;
 mod link;
 mod scope;
 
+pub use block::add_blocks;
 pub use link::{add_connections, add_own};
 pub use scope::Scope;
