@@ -1,2 +1,3 @@
 pub mod Lefts
 pub mod Making
+pub mod Declaring

@@ -4,3 +4,4 @@ pub mod Known
 pub mod Spans
 pub mod Values
 pub mod Parameters
+pub mod Signals

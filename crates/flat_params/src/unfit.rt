@@ -33,3 +33,25 @@ pub enum BadParam {
     /// The value that overrides it.
     Given(Unfit),
 }
+
+/// Why a range isn't `[0:n]` with a constant n >= 0 and from 1 to 64 words.
+#[derive(Clone, Copy, PartialEq, Eq)]
+pub enum BadWords {
+    /// The first number has no constant value.
+    First(Unfit),
+    /// The last one has none.
+    Last(Unfit),
+    /// The first isn't 0, or the last is below 0.
+    Order,
+    /// There are more than 64.
+    Many,
+}
+
+/// Why a declaration declares no signal.
+#[derive(Clone, Copy, PartialEq, Eq)]
+pub enum BadSignal {
+    Bits(BadRange),
+    Words(BadWords),
+    /// Memory is wanting.
+    Memory,
+}

@@ -16,7 +16,7 @@ use flat_scopes::Param;
 use vlog_tree::{Constant, Expr, Range, Shape, Valuation};
 use word_core::Word;
 
-fn range_of<'a>(shape: Option<&'a Shape>) -> Option<&'a Range>
+pub fn range_of<'a>(shape: Option<&'a Shape>) -> Option<&'a Range>
     ensures { option_copied result ≡ (shape_meant shape.entry).range }
 {
     match shape {
@@ -29,7 +29,7 @@ fn range_of<'a>(shape: Option<&'a Shape>) -> Option<&'a Range>
 }
 
 /// The bits that a range declares, where there is one.
-fn bits_of(range: Option<&Range>, done: &Valuation) -> Result<Option<Vector>, BadRange>
+pub fn bits_of(range: Option<&Range>, done: &Valuation) -> Result<Option<Vector>, BadRange>
     ensures ok { IfOk result (HasBits done.now (option_copied range.entry)) }
     ensures err { IfErr result (λ cause. (x : Bits) × (option_copied range.entry ≡ Some x) × IsBadRange done.now x cause) }
 {
@@ -91,7 +91,7 @@ fn converted(
     }
 }
 
-fn is_signed(shape: Option<&Shape>) -> bool
+pub fn is_signed(shape: Option<&Shape>) -> bool
     ensures { result ≡ (shape_meant shape.entry).signed }
 {
     match shape {
