@@ -11,8 +11,6 @@ mod restarts;
 mod resumes;
 mod search;
 mod solver;
-#[cfg(test)]
-mod tests;
 mod trail;
 mod watches;
 

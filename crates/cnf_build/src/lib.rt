@@ -7,8 +7,6 @@ mod clauses;
 mod laws;
 mod lowering;
 mod operations;
-#[cfg(test)]
-mod tests;
 
 pub use bits::Vars;
 pub use building::{Built, build};

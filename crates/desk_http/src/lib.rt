@@ -5,8 +5,6 @@ mod body;
 mod laws;
 mod request;
 mod serve;
-#[cfg(test)]
-mod tests;
 
 pub use laws::one_request;
 pub use request::{Request, Take, read_request};

@@ -13,8 +13,6 @@ mod operators;
 mod pieces;
 mod places;
 mod reductions;
-#[cfg(test)]
-mod tests;
 
 pub use leaves::{Leaf, Leaves};
 pub use node::{assigned_node, holds_node, node_of, value_node};

@@ -7,8 +7,6 @@ mod param;
 mod range;
 mod signal;
 mod stranger;
-#[cfg(test)]
-mod tests;
 mod unfit;
 mod value;
 mod words;

@@ -11,8 +11,6 @@ mod names;
 mod param;
 mod port;
 mod signal;
-#[cfg(test)]
-mod tests;
 
 pub use assign::{Assigned, Target, assigns_in};
 pub use block::{Block, blocks_in};

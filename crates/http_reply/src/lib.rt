@@ -3,7 +3,5 @@
 
 mod body;
 mod replies;
-#[cfg(test)]
-mod tests;
 
 pub use replies::{Reply, STARVED, keeper_reply, refusal_reply, reply_of};

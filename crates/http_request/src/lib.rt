@@ -9,8 +9,6 @@ mod order;
 mod places;
 mod read;
 mod refusal;
-#[cfg(test)]
-mod tests;
 
 pub use bounds::front_len;
 pub use order::{Order, asked, command_of};

@@ -4,8 +4,6 @@
 mod order;
 mod rule;
 mod run;
-#[cfg(test)]
-mod tests;
 mod tickets;
 mod work;
 

@@ -5,8 +5,6 @@ mod fault;
 mod parts;
 mod property;
 mod read;
-#[cfg(test)]
-mod tests;
 mod tokens;
 
 pub use fault::SetFault;

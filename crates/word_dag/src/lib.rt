@@ -8,8 +8,6 @@ mod index;
 mod node;
 mod ob;
 mod same;
-#[cfg(test)]
-mod tests;
 mod values;
 mod writing;
 

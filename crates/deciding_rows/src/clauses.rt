@@ -3,8 +3,8 @@ ghost use Rattle.std.specs.Prelude.{◌≡◌, ◌≤◌, [], ◌∷◌, pos, If
 ghost use Rattle.word_dag.specs.declared.node.Node.TheVariants.{Free};
 ghost use Rattle.word_dag.specs.Nodes.{FitsOp, FitsNode, IsSmall, width_of};
 
-use crate::building::{Built, build};
 use clause_check::{Lit, holds};
+use cnf_build::{Built, build};
 use outside::Text;
 use std::alloc::{AllocError, Global};
 use std::test::Fail;

@@ -1,5 +1,5 @@
-use crate::{Tickets, run_jobs};
 use cdcl::End;
+use job_pool::{Tickets, run_jobs};
 use outside::{Gate, QuietGate};
 use std::alloc::{AllocError, Global};
 use std::sync::atomic::Ordering::SeqCst;

@@ -1,5 +1,5 @@
 use Rattle.std.proofs.Common.{◌≤◌, length}
-use Rattle.cnf_build.proofs.tests.count_held.Given as goal
+use Rattle.deciding_rows.proofs.clauses.count_held.Given as goal
 
 abbrev pub invariant-loop-number : goal.invariant-loop-number
 invariant-loop-number l = (l.held ≤ l.number) × (l.ones ≤ l.number) × (length l.ob.nodes ≤ l.table)

@@ -1,4 +1,4 @@
-use crate::{End, solve};
+use cdcl::{End, solve};
 use clause_check::{Clause, Cnf, Lit, Marks, accept, holds};
 use std::alloc::{AllocError, Global};
 use std::test::Fail;

@@ -1,7 +1,7 @@
 // Leaves by name and offset.
 ghost use Rattle.std.specs.Prelude.{◌≡◌, IfOk};
 
-use crate::leaves::{Leaf, Leaves};
+use elab_node::{Leaf, Leaves};
 use outside::Text;
 use std::alloc::{AllocError, Global};
 use std::test::Fail;

@@ -3,16 +3,11 @@ ghost use Rattle.std.specs.Prelude.{◌≡◌, [], ◌∷◌, pos, IfOk};
 ghost use Rattle.word_dag.specs.declared.node.Op.TheVariants.{Eq};
 ghost use Rattle.word_dag.specs.declared.node.Node.TheVariants.{Free, Const, Two};
 
-use crate::dag::Dag;
-use crate::extraction::extract;
-use crate::node::{Node, Op};
-use crate::ob::{Ob, copy_ob};
-use crate::values::{Table, value_at};
-use crate::writing::text;
 use outside::Text;
 use std::alloc::{AllocError, Global};
 use std::test::Fail;
 use word_core::Word;
+use word_dag::{Dag, Node, Ob, Op, Table, copy_ob, extract, text, value_at};
 
 // A free word of 2 bits.
 fn free(alloc: Global, name: &[u8]) -> Result<Node, AllocError>

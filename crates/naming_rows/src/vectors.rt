@@ -1,6 +1,6 @@
 // Ranges of bits.
 
-use crate::vector_of;
+use flat_params::vector_of;
 use std::test::Fail;
 use vlog_tree::{Expr, Number, Range, Valuation};
 

@@ -1,6 +1,6 @@
 // Names in lists.
 
-use crate::Names;
+use flat_scopes::Names;
 use outside::Text;
 use std::test::Fail;
 

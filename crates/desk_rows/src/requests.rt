@@ -1,5 +1,7 @@
-use crate::{More, Place, Reading, Refusal, asked, command_of, front_len, read_head, read_some};
 use desk_commands::Command;
+use http_request::{
+    More, Place, Reading, Refusal, asked, command_of, front_len, read_head, read_some,
+};
 use httparse::spans::EMPTY_HEADER_SPAN;
 use outside::{MemPort, Port, Text};
 use std::alloc::{AllocError, Global};

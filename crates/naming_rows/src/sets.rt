@@ -1,4 +1,4 @@
-use super::*;
+use set_read::read_set;
 use set_tree::Role;
 use std::process::Abort;
 use std::test::Fail;

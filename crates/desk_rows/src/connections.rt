@@ -1,8 +1,8 @@
 // Connections in memory, and a desk that answers by a block's name.
 ghost use Rattle.std.specs.Prelude.{⊤};
 
-use crate::{Request, ServeFault, Served, Take, one_request, read_request, serve_one};
 use desk_commands::{Answer, Command, Desk, DeskFault, Names, Signs};
+use desk_http::{Request, ServeFault, Served, Take, one_request, read_request, serve_one};
 use outside::{MemPort, Port, Text};
 use std::alloc::{AllocError, Global};
 use std::test::Fail;

@@ -1,5 +1,5 @@
-use crate::{Reply, STARVED, keeper_reply, refusal_reply, reply_of};
 use desk_commands::{Answer, Names, Signs};
+use http_reply::{Reply, STARVED, keeper_reply, refusal_reply, reply_of};
 use http_request::Refusal;
 use outside::{Sign, Text};
 use std::alloc::{AllocError, Global};

@@ -1,4 +1,4 @@
-use crate::{Clause, Cnf, Lit, Marks, Step, accept, holds};
+use clause_check::{Clause, Cnf, Lit, Marks, Step, accept, holds};
 use std::alloc::{AllocError, Global};
 use std::test::Fail;
 
