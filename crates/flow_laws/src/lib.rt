@@ -1,0 +1,2 @@
+//! Laws of blocks: what their bits depend on.
+#![tactic(auto)]
