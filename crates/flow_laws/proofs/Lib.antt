@@ -1,3 +1,4 @@
 pub mod Giving
 pub mod Reading
 pub mod Covering
+pub mod Staying
