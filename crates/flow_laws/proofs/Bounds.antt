@@ -116,7 +116,7 @@ copies_bounded : (k : ℕ) (a : Operand) → Bounded a → Bounded (copies k a)
 copies_bounded zero a h n s l = pow_pos n
 copies_bounded (suc k) a h n s l = joined_bounded a (copies k a) h (copies_bounded k a h) n s l
 
-bits_bounded : (k : Constant) (i : ℤ) (m n : ℕ) → m ≤ n → bits_of k i m < 2 ^ n
+pub bits_bounded : (k : Constant) (i : ℤ) (m n : ℕ) → m ≤ n → bits_of k i m < 2 ^ n
 bits_bounded k i m n l = raised _ m n (mod-lt _ (pow_pos m)) l
 
 -- names have values of their lengths, and none is a memory's
@@ -146,6 +146,6 @@ module _ (v : List Entry) (m : AllFit v) where
         (right_fits (operand_of v a) (operand_of v c) (bounded a) (bounded c) n s l)
         (left_fits (operand_of v a) (operand_of v c) (bounded a) (bounded c) n s l)
 
-    row_bounded : {k : _} (row : Row_of-Expr k) → Bounded (row_of v row)
+    pub row_bounded : {k : _} (row : Row_of-Expr k) → Bounded (row_of v row)
     row_bounded end_of-Expr = λ n s l. pow_pos n
     row_bounded (more_of-Expr a rest) = joined_bounded (operand_of v a) (row_of v rest) (bounded a) (row_bounded rest)

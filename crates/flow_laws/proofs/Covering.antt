@@ -40,13 +40,13 @@ module _ (gs : List Signal) (vectors : AreVectors gs) where
   mutual
     pub same_pieces : (c d : Cycle) (left : Lval) → ReadAlike (values gs c) (values gs d) (flat_map names_in (numbers_in left)) →
         pieces (place_over gs) c left ≡ pieces (place_over gs) d left
-    same_pieces c d (l.Name x) m = ap (λ n. record { name = x; size = n; from = pos 0; count = n } ∷ []) (read_shape gs c d x vectors).width
+    same_pieces c d (l.Name x) m = ap (λ n. record { name = x; size = n; from = pos 0; count = n } ∷ []) (read_shape gs c d x 0 vectors).width
     same_pieces c d (l.Select x a) m =
-        let s = read_shape gs c d x vectors in
+        let s = read_shape gs c d x 0 vectors in
         let o = same_operand (values gs c) (values gs d) a (first_of_two (values gs c) (values gs d) (names_in a) [] m) in
         select_is c x a ∙ ((λ r. record { name = x; size = s.width r; from = own_integer (o r) -ℤ pos (s.low r); count = 1 } ∷ []) ∙ sym (select_is d x a))
     same_pieces c d (l.Part x span a b) m =
-        let s = read_shape gs c d x vectors in
+        let s = read_shape gs c d x 0 vectors in
         let o = same_operand (values gs c) (values gs d) a (first_of_two (values gs c) (values gs d) (names_in a) (names_in b ++ []) m) in
         let q = same_operand (values gs c) (values gs d) b
             (first_of_two (values gs c) (values gs d) (names_in b) [] (second_of_two (values gs c) (values gs d) (names_in a) (names_in b ++ []) m)) in

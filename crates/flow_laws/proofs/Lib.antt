@@ -5,3 +5,5 @@ pub mod Staying
 pub mod Growing
 pub mod Shapes
 pub mod Bounds
+pub mod Cases
+pub mod Following

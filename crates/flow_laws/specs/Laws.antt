@@ -1,15 +1,17 @@
 -- The laws.
-use Rattle.std.specs.Prelude.{ℕ, ◌≡◌, ◌<◌, Bool, true, false, List, [], ◌∷◌}
+use Rattle.std.specs.Prelude.{ℕ, ◌≡◌, ◌<◌, ◌^◌, Bool, true, false, List, [], ◌∷◌}
 use Rattle.std.specs.Int.{bit_at}
 use Rattle.std.specs.List.{flat_map}
 use Rattle.vlog_tree.specs.declared.expr.Expr.{Expr}
 use Rattle.vlog_tree.specs.declared.stmt.Lval.{Lval}
 use Rattle.vlog_tree.specs.declared.stmt.Stmt.{Stmt}
+use Rattle.vlog_tree.specs.Value.{HasConstantParts}
 use Rattle.vlog_runs.specs.declared.flat.Signal.{Signal}
 use Rattle.vlog_runs.specs.Places.{Name, Cycle, Among, Place, store}
-use Rattle.vlog_runs.specs.Blocks.{run, lefts, Drives}
-use Rattle.flat_faults.specs.Texts.{names_in, numbers_in}
+use Rattle.vlog_runs.specs.Blocks.{is_parameter, run, lefts, Drives}
+use Rattle.flat_faults.specs.Texts.{names_in, numbers_in, Compared, compared_in}
 use Rattle.elab_faults.specs.Paths.{Sets, width_in}
+use Rattle.flow_laws.specs.Flows.{block_flow}
 
 -- where the text of a module without instances stands
 abbrev pub place_over : List Signal → Place
@@ -54,3 +56,18 @@ StoreFollows =
     (gs : List Signal) (left : Lval) (right : Expr) (c d u v : Cycle) (x : Name) (b : ℕ) → AreVectors gs → b < width_in (place_over gs) x →
     Sets (place_over gs) left x b → ((z : Name) → Among (flat_map names_in (right ∷ numbers_in left)) z → c z ≡ d z) →
     bit_at (store (place_over gs) c left right u x) b ≡ bit_at (store (place_over gs) d left right v x) b
+
+-- values are below 2 to the lengths of their signals
+abbrev pub AreFit : List Signal → Cycle → Type 0
+AreFit gs c = (g : Signal) → Among gs g → c g.name < 2 ^ g.width
+
+-- the parts of case expressions that must be constant are so, as in every text that may be elaborated
+abbrev pub HaveConstantParts : Place → Stmt → Type 0
+HaveConstantParts p body = (k : Compared) → Among (compared_in body) k → HasConstantParts (is_parameter p) k.value
+
+-- a block gives bit b of x from two cycles the same, where they agree on the names that it depends on, and on x itself if a path leaves the bit unset
+abbrev pub FlowFollows : Type 0
+FlowFollows =
+    (gs : List Signal) (body : Stmt) (c d : Cycle) (x : Name) (b : ℕ) → AreVectors gs → HaveConstantParts (place_over gs) body → AreFit gs c → AreFit gs d →
+    b < width_in (place_over gs) x → ((z : Name) → (block_flow (place_over gs) body).through x z → c z ≡ d z) →
+    ((block_flow (place_over gs) body).unset x b → c x ≡ d x) → bit_at (run true (place_over gs) body c c x) b ≡ bit_at (run true (place_over gs) body d d x) b

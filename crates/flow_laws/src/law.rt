@@ -1,6 +1,6 @@
 // The laws.
 
-ghost use Rattle.flow_laws.specs.Laws.{StoreStays, BitsStay, StoreApart, BitsApart, StoreFollows};
+ghost use Rattle.flow_laws.specs.Laws.{StoreStays, BitsStay, StoreApart, BitsApart, StoreFollows, FlowFollows};
 
 use write_laws::bits_are_written;
 
@@ -20,9 +20,10 @@ pub fn bits_are_apart()
     bits_are_written();
 }
 
-/// A bit that an assignment surely sets depends on the names that it reads alone.
+/// A bit that an assignment surely sets depends on the names that it reads alone, and a bit that a block sets on what it depends on by the pass.
 pub fn bits_follow()
     ensures assignment { StoreFollows }
+    ensures flow { FlowFollows }
 {
     bits_are_written();
 }
