@@ -7,3 +7,5 @@ pub mod Shapes
 pub mod Bounds
 pub mod Cases
 pub mod Following
+pub mod Deciding
+pub mod Passing
