@@ -9,3 +9,4 @@ pub mod Cases
 pub mod Following
 pub mod Deciding
 pub mod Passing
+pub mod Walking

@@ -21,7 +21,7 @@ abbrev pub onto : List Step → List Step → List Step
 onto [] e = e
 onto (k ∷ ks) e = onto ks (k ∷ e)
 
-onto_append : (xs ys e : List Step) → onto (xs ++ ys) e ≡ onto ys (onto xs e)
+pub onto_append : (xs ys e : List Step) → onto (xs ++ ys) e ≡ onto ys (onto xs e)
 onto_append [] ys e = refl
 onto_append (x ∷ xs) ys e = onto_append xs ys (x ∷ e)
 
@@ -83,7 +83,7 @@ module _ (p : Place) where
         (λ t. (r.2.0, r.2.1, inr ((h.through r.2.0 z).1 (r.0, r.1, t))))
         r.2.2)
 
-  shows_same : (B B' : Histories) (w : Flow) → ((e : List Step) → B e → B' e) → ((e : List Step) → B' e → B e) → Shows B w → Shows B' w
+  pub shows_same : (B B' : Histories) (w : Flow) → ((e : List Step) → B e → B' e) → ((e : List Step) → B' e → B e) → Shows B w → Shows B' w
   shows_same B B' w f g h = record {
     unset = λ x b. (λ u. let r = (h.unset x b).0 u in (r.0, f r.0 r.1, r.2), λ r. (h.unset x b).1 (r.0, g r.0 r.1, r.2));
     through = λ y z. (λ u. let r = (h.through y z).0 u in (r.0, f r.0 r.1, r.2), λ r. (h.through y z).1 (r.0, g r.0 r.1, r.2));
@@ -99,7 +99,7 @@ module _ (p : Place) where
     λ o. ⊎_elim (λ a. let r = (open_is B w h x).0 a.1 in (r.0, r.1, inl (a.0, r.2))) (λ a. let r = (h.outside x).0 a in (r.0, r.1, inr r.2)) o,
     λ r. ⊎_elim (λ a. inl (a.0, (open_is B w h x).1 (r.0, r.1, a.1))) (λ a. inr ((h.outside x).1 (r.0, r.1, a))) r.2)
 
-  shows_reads : (B : Histories) (w : Flow) (as' : List Expr) → Shows B w → Shows (Then (Reads as') B) (after_reads p as' w)
+  pub shows_reads : (B : Histories) (w : Flow) (as' : List Expr) → Shows B w → Shows (Then (Reads as') B) (after_reads p as' w)
   shows_reads B w as' h = record {
     unset = λ x b. (λ u. then_from (Reads as') B (λ e. IsSetBy p e x b → ⊥) ((h.unset x b).0 u), λ r. (h.unset x b).1 (then_to (Reads as') B (λ e. IsSetBy p e x b → ⊥) r));
     through = λ y z. (λ u. then_from (Reads as') B (λ e. Through p e y z) ((h.through y z).0 u), λ r. (h.through y z).1 (then_to (Reads as') B (λ e. Through p e y z) r));
@@ -107,7 +107,7 @@ module _ (p : Place) where
         (λ u. then_from (Reads as') B (λ e. ReadsOpen e x) (k.0 u), λ r. k.1 (then_to (Reads as') B (λ e. ReadsOpen e x) r));
   }
 
-  shows_enters : (B : Histories) (w : Flow) (as' : List Expr) → Shows B w → Shows (Then (Enters as') B) (after_reads p as' w)
+  pub shows_enters : (B : Histories) (w : Flow) (as' : List Expr) → Shows B w → Shows (Then (Enters as') B) (after_reads p as' w)
   shows_enters B w as' h = record {
     unset = λ x b. (λ u. then_from (Enters as') B (λ e. IsSetBy p e x b → ⊥) ((h.unset x b).0 u), λ r. (h.unset x b).1 (then_to (Enters as') B (λ e. IsSetBy p e x b → ⊥) r));
     through = λ y z. (λ u. then_from (Enters as') B (λ e. Through p e y z) ((h.through y z).0 u), λ r. (h.through y z).1 (then_to (Enters as') B (λ e. Through p e y z) r));
@@ -121,7 +121,7 @@ module _ (p : Place) where
     λ o. let r = (h.outside x).0 o in (r.0, r.1, inr r.2),
     λ r. ⊎_elim (λ a. absurd a.0) (λ a. (h.outside x).1 (r.0, r.1, a)) r.2)
 
-  shows_leaves : (B : Histories) (w : Flow) → Shows B w → Shows (Then Leaves B) w
+  pub shows_leaves : (B : Histories) (w : Flow) → Shows B w → Shows (Then Leaves B) w
   shows_leaves B w h = record {
     unset = λ x b. (λ u. then_from Leaves B (λ e. IsSetBy p e x b → ⊥) ((h.unset x b).0 u), λ r. (h.unset x b).1 (then_to Leaves B (λ e. IsSetBy p e x b → ⊥) r));
     through = λ y z. (λ u. then_from Leaves B (λ e. Through p e y z) ((h.through y z).0 u), λ r. (h.through y z).1 (then_to Leaves B (λ e. Through p e y z) r));
@@ -130,10 +130,10 @@ module _ (p : Place) where
   }
 
   -- an assignment, whose expressions are read
-  conditions_read : (B : Histories) (around : Name → Type 0) (as' : List Expr) → Conditions B around → Conditions (Then (Reads as') B) around
+  pub conditions_read : (B : Histories) (around : Name → Type 0) (as' : List Expr) → Conditions B around → Conditions (Then (Reads as') B) around
   conditions_read B around as' h z = (λ u. then_from (Reads as') B (λ e. Around p 0 e z) ((h z).0 u), λ r. (h z).1 (then_to (Reads as') B (λ e. Around p 0 e z) r))
 
-  conditions_enter : (B : Histories) (around : Name → Type 0) (w : Flow) (as' : List Expr) → Conditions B around → Shows B w → Conditions (Then (Enters as') B) (within p around w as')
+  pub conditions_enter : (B : Histories) (around : Name → Type 0) (w : Flow) (as' : List Expr) → Conditions B around → Shows B w → Conditions (Then (Enters as') B) (within p around w as')
   conditions_enter B around w as' h k z = (
     λ u. then_from (Enters as') B (λ e. Around p 0 e z)
         (⊎_elim (λ a. let r = (uses_are B w k as' z).0 a in (r.0, r.1, inl r.2)) (λ a. let r = (h z).0 a in (r.0, r.1, inr r.2)) u),
@@ -168,7 +168,7 @@ module _ (p : Place) where
           (λ u. then_from (Assigns left as') B (λ e. ReadsOpen e x) (t.0 u), λ r. t.1 (then_to (Assigns left as') B (λ e. ReadsOpen e x) r));
     }
 
-  shows_assignment : (B : Histories) (around : Name → Type 0) (w : Flow) (left : Lval) (right : Expr) → Conditions B around → Shows B w →
+  pub shows_assignment : (B : Histories) (around : Name → Type 0) (w : Flow) (left : Lval) (right : Expr) → Conditions B around → Shows B w →
       Shows (Behind (λ steps. steps ≡ assignment left right) B) (after_assignment p around left right w)
   shows_assignment B around w left right h k =
       let as' : List Expr = right ∷ numbers_in left in
@@ -179,11 +179,11 @@ module _ (p : Place) where
 
   -- ---- several ways on
 
-  shows_none : (B : Histories) (w : Flow) → Shows B w → Shows (Behind (λ steps. steps ≡ []) B) w
+  pub shows_none : (B : Histories) (w : Flow) → Shows B w → Shows (Behind (λ steps. steps ≡ []) B) w
   shows_none B w h = shows_same B (Behind (λ steps. steps ≡ []) B) w (λ e m. (e, [], m, refl, refl)) (λ e m. subst B (ap (λ t. onto t m.0) (sym m.3) ∙ m.4) m.2) h
 
   -- not at all, where a condition holds
-  shows_past : (B : Histories) (w : Flow) (D F : Type 0) → Shows B w → Shows (Behind (λ steps. (steps ≡ []) × D × F) B) (only_if (D × F) w)
+  pub shows_past : (B : Histories) (w : Flow) (D F : Type 0) → Shows B w → Shows (Behind (λ steps. (steps ≡ []) × D × F) B) (only_if (D × F) w)
   shows_past B w D F h = record {
     unset = λ x b. (λ u. let r = (h.unset x b).0 u.1 in (r.0, (r.0, [], r.1, (refl, u.0.0, u.0.1), refl), r.2), λ r. ((r.1.3.1, r.1.3.2), (h.unset x b).1 (r.0, before r.0 r.1, r.2)));
     through = λ y z. (λ u. let r = (h.through y z).0 u.1 in (r.0, (r.0, [], r.1, (refl, u.0.0, u.0.1), refl), r.2), λ r. ((r.1.3.1, r.1.3.2), (h.through y z).1 (r.0, before r.0 r.1, r.2)));
@@ -193,14 +193,14 @@ module _ (p : Place) where
       before : (e : List Step) → Behind (λ steps. (steps ≡ []) × D × F) B e → B e
       before e m = subst B (ap (λ t. onto t m.0) (sym m.3.0) ∙ m.4) m.2
 
-  shows_nowhere : (B : Histories) → Shows (Behind (λ steps. ⊥) B) nowhere
+  pub shows_nowhere : (B : Histories) → Shows (Behind (λ steps. ⊥) B) nowhere
   shows_nowhere B = record {
     unset = λ x b. (λ u. absurd u, λ r. r.1.3);
     through = λ y z. (λ u. absurd u, λ r. r.1.3);
     outside = λ x. (λ u. absurd u, λ r. r.1.3);
   }
 
-  shows_either : (B I J : Histories) (v w : Flow) → Shows (Behind I B) v → Shows (Behind J B) w → Shows (Behind (λ steps. I steps ⊎ J steps) B) (either v w)
+  pub shows_either : (B I J : Histories) (v w : Flow) → Shows (Behind I B) v → Shows (Behind J B) w → Shows (Behind (λ steps. I steps ⊎ J steps) B) (either v w)
   shows_either B I J v w h k = record {
     unset = λ x b. both (h.unset x b) (k.unset x b);
     through = λ y z. both (h.through y z) (k.through y z);
@@ -213,7 +213,7 @@ module _ (p : Place) where
         λ r. ⊎_elim (λ i. inl (f.1 (r.0, (r.1.0, r.1.1, r.1.2, i, r.1.4), r.2))) (λ j. inr (g.1 (r.0, (r.1.0, r.1.1, r.1.2, j, r.1.4), r.2))) r.1.3)
 
   -- one after the other
-  shows_sequence : (B I J : Histories) (w : Flow) → Shows (Behind J (Behind I B)) w → Shows (Behind (λ steps. (first second : List Step) × (steps ≡ first ++ second) × I first × J second) B) w
+  pub shows_sequence : (B I J : Histories) (w : Flow) → Shows (Behind J (Behind I B)) w → Shows (Behind (λ steps. (first second : List Step) × (steps ≡ first ++ second) × I first × J second) B) w
   shows_sequence B I J w h =
       shows_same (Behind J (Behind I B)) (Behind (λ steps. (first second : List Step) × (steps ≡ first ++ second) × I first × J second) B) w
       (λ e m. (m.2.0, m.2.1 ++ m.1, m.2.2, (m.2.1, m.1, refl, m.2.3, m.3), onto_append m.2.1 m.1 m.2.0 ∙ (ap (λ t. onto m.1 t) m.2.4 ∙ m.4)))
@@ -221,13 +221,13 @@ module _ (p : Place) where
       h
 
   -- in a branch
-  abbrev InBranch : List Expr → Histories → Histories
+  abbrev pub InBranch : List Expr → Histories → Histories
   InBranch as' I steps = (inner : List Step) × (steps ≡ branch as' inner) × I inner
 
-  branch_onto : (as' : List Expr) (inner e : List Step) → onto (branch as' inner) e ≡ Leaves ∷ onto inner (Enters as' ∷ e)
+  pub branch_onto : (as' : List Expr) (inner e : List Step) → onto (branch as' inner) e ≡ Leaves ∷ onto inner (Enters as' ∷ e)
   branch_onto as' inner e = onto_append inner (Leaves ∷ []) (Enters as' ∷ e)
 
-  shows_branch : (B I : Histories) (as' : List Expr) (w : Flow) → Shows (Behind I (Then (Enters as') B)) w → Shows (Behind (InBranch as' I) B) w
+  pub shows_branch : (B I : Histories) (as' : List Expr) (w : Flow) → Shows (Behind I (Then (Enters as') B)) w → Shows (Behind (InBranch as' I) B) w
   shows_branch B I as' w h =
       shows_same (Then Leaves (Behind I (Then (Enters as') B))) (Behind (InBranch as' I) B) w
       (λ e m. (m.1.2.0, branch as' m.1.1, m.1.2.1, (m.1.1, refl, m.1.3), branch_onto as' m.1.1 m.1.2.0 ∙ (ap (λ t. Leaves ∷ onto m.1.1 t) m.1.2.2 ∙ (ap (λ t. Leaves ∷ t) m.1.4 ∙ m.2))))
