@@ -13,7 +13,9 @@ use Rattle.flat_faults.specs.Texts.{names_in, numbers_in}
 use Rattle.elab_faults.specs.Paths.{Step, Reads, Enters, Leaves, Assigns, reads_in, branch, assignment, IsFull, HasDefault, IsPath, IsRowPath, IsItemPath, IsSetBy, IsAllSet, width_in, Through, Around, DependsAt}
 use Rattle.elab_faults.specs.Drivers.{BlockDepends}
 use Rattle.flow_laws.specs.Flows.{Flow, at_start, either, only_if, after_reads, within, flow, row_flow, items_flow, block_flow}
-use Rattle.flow_laws.specs.Laws.{ReadsOutside, AreOfPaths, PassesArePaths}
+use Rattle.flow_laws.specs.Laws.{place_over, ReadsOutside, AreOfPaths, PassesArePaths, BitsFollow}
+use Rattle.flow_laws.proofs.Giving.{Writes}
+use Rattle.flow_laws.proofs.Following.{flow_follows}
 use Rattle.flow_laws.proofs.Growing.{IsBare, bare_leads}
 use Rattle.flow_laws.proofs.Passing.{onto, onto_append, Histories, OnSome, Then, Behind, InBranch, branch_onto, ReadsOpen, Shows, Conditions, shows_same, shows_enters, conditions_enter, shows_assignment, shows_none, shows_past, shows_nowhere, shows_either, shows_sequence, shows_branch}
 
@@ -249,3 +251,8 @@ module _ (p : Place) where
 
 pub passes_are_paths : PassesArePaths
 passes_are_paths p body = of_paths p body
+
+pub bits_follow : Writes → BitsFollow
+bits_follow w gs body c d x b vectors fixed fc fd l set agree =
+    let r = of_paths (place_over gs) body in
+    flow_follows w gs body c d x b vectors fixed fc fd l (λ z t. agree z ((r.through x z).0 t)) (λ u. let k = (r.unset x b).0 u in absurd (set k.0 k.1 k.2))

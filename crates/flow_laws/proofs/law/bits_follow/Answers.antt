@@ -1,6 +1,7 @@
 use Rattle.flow_laws.proofs.Giving.{Writes}
 use Rattle.flow_laws.proofs.Staying.{store_follows}
 use Rattle.flow_laws.proofs.Following.{flow_follows}
+use Rattle.flow_laws.proofs.Walking.{bits_follow}
 use Rattle.flow_laws.proofs.law.bits_follow.Goals as goal
 
 pub returns-clause-assignment : goal.returns-clause-assignment
@@ -10,3 +11,7 @@ returns-clause-assignment c =
 pub returns-clause-flow : goal.returns-clause-flow
 returns-clause-flow c =
     let k = c.bits_are_written.ensures in flow_follows (record { inside = k.inside; others = k.others; below = k.below })
+
+pub returns-clause-paths : goal.returns-clause-paths
+returns-clause-paths c =
+    let k = c.bits_are_written.ensures in bits_follow (record { inside = k.inside; others = k.others; below = k.below })
