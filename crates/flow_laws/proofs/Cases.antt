@@ -1,20 +1,17 @@
 -- Case statements: labels that read the same, and full ones.
-use Rattle.std.proofs.Common.{arith, ◌≡◌, ℕ, zero, suc, ◌+◌, ◌<◌, ◌≤◌, ◌^◌, max, Bool, true, false, List, [], ◌∷◌, ◌++◌, Option, Some, None, sym, ap, ◌∙◌, refl, ◌⊎◌, inl, inr, ⊎_elim, subst, ◌&&◌, ◌||◌, IsTrue}
-use Rattle.std.specs.Prelude.{nat_eq, if◌then◌else◌, bit_or, unwrap_or}
-use Rattle.std.specs.Option.{option_map}
+use Rattle.std.proofs.Common.{arith, ◌≡◌, ℕ, ◌<◌, ◌≤◌, ◌^◌, max, Bool, true, false, List, [], ◌∷◌, Some, sym, ap, ◌∙◌, refl, ⊎_elim, subst, ◌&&◌, ◌||◌}
+use Rattle.std.specs.Prelude.{nat_eq, if◌then◌else◌, bit_or}
 use Rattle.std.specs.List.{flat_map, list_any}
 use Rattle.std.proofs.lemmas.Nat.{pow_pos}
 use Rattle.std.proofs.lemmas.Bool.Decides.{Decides-eqb}
-use Rattle.vlog_tree.specs.declared.expr.Constant.{Constant}
 use Rattle.vlog_tree.specs.declared.expr.Expr.{Expr, Row_of-Expr, end_of-Expr, more_of-Expr}
 use Rattle.vlog_tree.specs.declared.expr.Expr.TheVariants as e
-use Rattle.vlog_tree.specs.declared.expr.Name.{Name as Read}
 use Rattle.vlog_tree.specs.declared.stmt.CaseKind.{CaseKind}
 use Rattle.vlog_tree.specs.declared.stmt.CaseKind.TheVariants as k
 use Rattle.vlog_tree.specs.declared.stmt.Labels.{Labels}
 use Rattle.vlog_tree.specs.declared.stmt.Stmt.{Row_of-CaseItem, end_of-CaseItem, more_of-CaseItem}
 use Rattle.vlog_tree.specs.declared.valuation.Entry.{Entry}
-use Rattle.vlog_tree.specs.Valuation.{meant, named}
+use Rattle.vlog_tree.specs.Valuation.{named}
 use Rattle.vlog_tree.specs.Value.{Operand, operand_of, row_of, plain, bit_of, word_of, extend, width_of, sign_of, value_of, HasConstantParts}
 use Rattle.vlog_runs.specs.declared.flat.Signal.{Signal}
 use Rattle.vlog_runs.specs.Places.{Name, Cycle, Among}
@@ -67,9 +64,10 @@ pub agree_at : {k : _} (v w : List Entry) (kind : CaseKind) (a : Expr) (n n' : �
     ReadAlike v w (flat_map names_in (labels_in row)) → Agree (any_matches kind v n s a) (any_matches kind w n' s' a) row
 agree_at v w kind a n n' s s' end_of-CaseItem p i j m = tt
 agree_at v w kind a n n' s s' (more_of-CaseItem labels body rest) p i j m =
-    let l = subst (λ xs. ReadAlike v w xs) (flat_append names_in (exprs_in labels) (labels_in rest)) m in
-    (same_any v w kind a n n' s s' (exprs_in labels) p i j (first_of_two v w (flat_map names_in (exprs_in labels)) (flat_map names_in (labels_in rest)) l),
-    agree_at v w kind a n n' s s' rest p i j (second_of_two v w (flat_map names_in (exprs_in labels)) (flat_map names_in (labels_in rest)) l))
+    let l = subst (λ xs. ReadAlike v w xs) (flat_append names_in (exprs_in labels) (labels_in rest)) m in (
+      same_any v w kind a n n' s s' (exprs_in labels) p i j (first_of_two v w (flat_map names_in (exprs_in labels)) (flat_map names_in (labels_in rest)) l),
+      agree_at v w kind a n n' s s' rest p i j (second_of_two v w (flat_map names_in (exprs_in labels)) (flat_map names_in (labels_in rest)) l),
+    )
 
 or_false : (a b : Bool) → a || b ≡ false → (a ≡ false) × (b ≡ false)
 or_false true b h = cc
@@ -175,9 +173,9 @@ module _ (gs : List Signal) (vectors : AreVectors gs) where
       let s : case_sign v a labels ≡ case_sign v' a labels = λ r. shape.signed r && same_signs v v' labels alike r in
       let at : value_of v a (case_width v a labels) (case_sign v a labels) ≡ value_of v a (case_width v' a labels) (case_sign v' a labels) = λ r. value_of v a (n r) (s r) in
       let found : (x : Expr) → Among labels x → value_of v' x (case_width v' a labels) (case_sign v' a labels) ≡ value_of v a (case_width v' a labels) (case_sign v' a labels) →
-          matches k.Case v (case_width v a labels) (case_sign v a labels) a x ≡ true =
-          λ x m t. same_match (value_of v a (case_width v a labels) (case_sign v a labels)) (value_of v x (case_width v a labels) (case_sign v a labels))
-              (at ∙ (sym t ∙ sym (λ r. (constant_label c z labels x full.0 m r).value (n r) (s r)))) in
+      matches k.Case v (case_width v a labels) (case_sign v a labels) a x ≡ true =
+      λ x m t. same_match (value_of v a (case_width v a labels) (case_sign v a labels)) (value_of v x (case_width v a labels) (case_sign v a labels))
+      (at ∙ (sym t ∙ sym (λ r. (constant_label c z labels x full.0 m r).value (n r) (s r)))) in
       ⊎_elim
       (λ g.
       let l : (operand_of v a).width ≤ case_width v' a labels = omega (arith, shape.width) in

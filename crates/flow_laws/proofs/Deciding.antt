@@ -1,5 +1,5 @@
 -- What a path sets can be told.
-use Rattle.std.proofs.Common.{arith, ◌≡◌, ℕ, zero, suc, ◌+◌, ◌<◌, Bool, true, false, List, [], ◌∷◌, sym, ap, ◌∙◌, refl, ◌⊎◌, inl, inr, ⊎_elim, subst, ℤ, pos, ◌-ℤ◌, IsTrue}
+use Rattle.std.proofs.Common.{arith, ◌≡◌, ℕ, zero, suc, ◌<◌, Bool, true, false, List, [], ◌∷◌, sym, refl, ◌⊎◌, inl, inr, ⊎_elim, subst, ℤ, pos, ◌-ℤ◌}
 use Rattle.std.specs.Ordering.{int_eq}
 use Rattle.std.specs.Str.{bytes_eq}
 use Rattle.std.proofs.lemmas.Bool.Decides.{Decides-int_eq}
@@ -12,7 +12,6 @@ use Rattle.vlog_tree.specs.Value.{NamesOnly, AllNamesOnly, part_low, part_width}
 use Rattle.vlog_runs.specs.Places.{Name, Place}
 use Rattle.vlog_runs.specs.Blocks.{is_parameter, low_in}
 use Rattle.elab_faults.specs.Paths.{constant, Sets, AnySets, Step, Reads, Enters, Leaves, Assigns, IsSetBy, IsAllSet, width_in}
-use Rattle.flat_laws.proofs.Lists.{bool_cases}
 use Rattle.flow_laws.proofs.Giving.{within_or}
 
 abbrev pub Either : Type 0 → Type 0

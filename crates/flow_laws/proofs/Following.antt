@@ -1,5 +1,5 @@
 -- Two runs of a block side by side.
-use Rattle.std.proofs.Common.{arith, ◌≡◌, ℕ, zero, suc, ◌+◌, ◌-◌, ◌*◌, ◌/◌, ◌%◌, ◌<◌, ◌≤◌, ◌^◌, max, Bool, true, false, List, [], ◌∷◌, ◌++◌, Option, Some, None, sym, ap, ◌∙◌, refl, ◌⊎◌, inl, inr, ⊎_elim, subst, ◌&&◌, IsTrue}
+use Rattle.std.proofs.Common.{arith, ◌≡◌, ℕ, ◌+◌, ◌*◌, ◌/◌, ◌%◌, ◌<◌, ◌≤◌, ◌^◌, max, Bool, true, false, List, [], ◌∷◌, ◌++◌, Option, Some, None, sym, ap, ◌∙◌, refl, ◌⊎◌, inl, inr, ⊎_elim, subst, ◌&&◌}
 use Rattle.std.specs.Prelude.{nat_eq, if◌then◌else◌, unwrap_or}
 use Rattle.std.specs.Int.{bit_at}
 use Rattle.std.specs.Option.{option_map}
@@ -15,10 +15,10 @@ use Rattle.vlog_tree.specs.declared.stmt.Labels.{Labels}
 use Rattle.vlog_tree.specs.declared.stmt.Lval.{Lval}
 use Rattle.vlog_tree.specs.declared.stmt.Stmt.{Stmt, Row_of-Stmt, end_of-Stmt, more_of-Stmt, Row_of-CaseItem, end_of-CaseItem, more_of-CaseItem}
 use Rattle.vlog_tree.specs.declared.stmt.Stmt.TheVariants as s
-use Rattle.vlog_tree.specs.Value.{operand_of, own, assigned, HasConstantParts}
+use Rattle.vlog_tree.specs.Value.{own, assigned, HasConstantParts}
 use Rattle.vlog_runs.specs.declared.flat.Signal.{Signal}
-use Rattle.vlog_runs.specs.Places.{Name, Cycle, Among, pieces, total, give, store}
-use Rattle.vlog_runs.specs.Blocks.{signal_at, labels_in, case_width, case_sign, any_matches, is_default, is_false, run, run_row, run_items, run_default, lefts, left_names, row_lefts, case_lefts}
+use Rattle.vlog_runs.specs.Places.{Name, Cycle, Among, pieces, total, store}
+use Rattle.vlog_runs.specs.Blocks.{signal_at, labels_in, case_width, case_sign, any_matches, is_default, is_false, run, run_row, run_items, run_default, lefts, left_names, case_lefts}
 use Rattle.flat_faults.specs.Texts.{names_in, numbers_in, Compared, compared_in, row_compared_in, case_compared_in}
 use Rattle.elab_faults.specs.Paths.{HasDefault, IsFull, width_in}
 use Rattle.flat_laws.proofs.Lists.{bool_cases, append_left, append_right}
@@ -98,7 +98,7 @@ module _ (w : Writes) (gs : List Signal) (vectors : AreVectors gs) where
         let wide : width_in (place_over gs) x ≡ g.width = ap (λ o. unwrap_or (option_map (λ (g : Signal). g.width) o) 0) i in
         inl (same_from_bits_below g.width (u x) (v x) (fu x g i) (fv x g i)
         (λ b l. let h : b < width_in (place_over gs) x = omega (arith, l, wide) in
-            alike x b h (λ z t. agree z (x, m, inr t)) (λ n. agree x (x, m, inl (refl, (b, h, n))))))
+        alike x b h (λ z t. agree z (x, m, inr t)) (λ n. agree x (x, m, inl (refl, (b, h, n))))))
 
     reads_alike : (f : Flow) (u v : Cycle) → Fits gs u → Fits gs v → Alike f u v → (as' : List Expr) → ((z : Name) → Uses (place_over gs) f as' z → c z ≡ d z) →
         ReadAlike (values gs u) (values gs v) (flat_map names_in as')
@@ -216,8 +216,8 @@ module _ (w : Writes) (gs : List Signal) (vectors : AreVectors gs) where
           (λ none. default_follow row inner read u' v' u v rest fu fv alike x b l (λ z h. through z (inl h)) (λ q. unset (inl q))
           (λ (past : HasDefault row → ⊥).
           let open' : IsFull (place_over gs) kind a (labels_in row) → ⊥ = λ full.
-              let k = full_matches gs vectors kind a (labels_in row) u fu (fixed _ (inl refl)) full in
-              unmatched_label kind (values gs u) (case_width (values gs u) a (labels_in row)) (case_sign (values gs u) a (labels_in row)) a row k.0 none k.1 k.2 in
+          let k = full_matches gs vectors kind a (labels_in row) u fu (fixed _ (inl refl)) full in
+          unmatched_label kind (values gs u) (case_width (values gs u) a (labels_in row)) (case_sign (values gs u) a (labels_in row)) a row k.0 none k.1 k.2 in
           alike x b l (λ z h. through z (inr ((past, open'), h))) (λ q. unset (inr ((past, open'), q))))))
           (λ n. untouched (s.Case' kind a g row) around f u' v' u v alike x b l through unset n)
           (among_or (flat_map left_names (case_lefts row)) x)

@@ -1,18 +1,14 @@
 -- One pass for all paths: a flow says what some of many histories does, a history being the steps so far, the last one first.
-use Rattle.std.proofs.Common.{◌≡◌, ℕ, zero, suc, ◌<◌, List, [], ◌∷◌, ◌++◌, sym, ap, ◌∙◌, refl, ◌⊎◌, ◌↔◌, inl, inr, ⊎_elim, subst}
+use Rattle.std.proofs.Common.{◌≡◌, ℕ, List, [], ◌∷◌, ◌++◌, sym, ap, ◌∙◌, refl, ◌⊎◌, ◌↔◌, inl, inr, ⊎_elim, subst}
 use Rattle.std.specs.List.{flat_map}
 use Rattle.vlog_tree.specs.declared.expr.Expr.{Expr}
-use Rattle.vlog_tree.specs.declared.stmt.CaseKind.{CaseKind}
 use Rattle.vlog_tree.specs.declared.stmt.Lval.{Lval}
-use Rattle.vlog_tree.specs.declared.stmt.Stmt.{Stmt, Row_of-Stmt, end_of-Stmt, more_of-Stmt, Row_of-CaseItem, end_of-CaseItem, more_of-CaseItem}
-use Rattle.vlog_tree.specs.declared.stmt.Stmt.TheVariants as s
 use Rattle.vlog_runs.specs.Places.{Name, Among, Place}
-use Rattle.vlog_runs.specs.Blocks.{labels_in, left_names}
+use Rattle.vlog_runs.specs.Blocks.{left_names}
 use Rattle.flat_faults.specs.Texts.{names_in, numbers_in}
-use Rattle.elab_faults.specs.Paths.{Sets, IsFull, HasDefault, Step, Reads, Enters, Leaves, Assigns, reads_in, branch, assignment, IsPath, IsRowPath, IsItemPath, IsSetBy, IsAllSet, width_in, Counts, Through, Around}
-use Rattle.flow_laws.specs.Flows.{Flow, nowhere, either, only_if, IsUnset, Uses, after_reads, after_assignment, within, flow, row_flow, items_flow}
+use Rattle.elab_faults.specs.Paths.{Sets, Step, Reads, Enters, Leaves, Assigns, reads_in, branch, assignment, IsSetBy, IsAllSet, Counts, Through, Around}
+use Rattle.flow_laws.specs.Flows.{Flow, nowhere, either, only_if, IsUnset, Uses, after_reads, after_assignment, within}
 use Rattle.flow_laws.proofs.Deciding.{one_unset}
-use Rattle.flow_laws.proofs.Growing.{IsBare, LeadsPast, bare_leads}
 
 -- ---- histories
 
@@ -70,7 +66,8 @@ module _ (p : Place) where
   open_is : (B : Histories) (w : Flow) → Shows B w → (x : Name) → IsUnset p w x ↔ OnSome B (λ e. IsAllSet p e x → ⊥)
   open_is B w h x = (
     λ o. let r = (h.unset x o.0).0 o.2 in (r.0, r.1, λ all. r.2 (all o.0 o.1)),
-    λ r. let o = one_unset p r.0 x r.2 in (o.0, o.1, (h.unset x o.0).1 (r.0, r.1, o.2)))
+    λ r. let o = one_unset p r.0 x r.2 in (o.0, o.1, (h.unset x o.0).1 (r.0, r.1, o.2)),
+  )
 
   uses_are : (B : Histories) (w : Flow) → Shows B w → (as' : List Expr) (z : Name) → Uses p w as' z ↔ OnSome B (λ e. CountsAs e as' z)
   uses_are B w h as' z = (
@@ -81,7 +78,8 @@ module _ (p : Place) where
     λ r. ⊎_elim
         (λ o. (r.2.0, r.2.1, inl (o.0, (open_is B w h r.2.0).1 (r.0, r.1, o.1))))
         (λ t. (r.2.0, r.2.1, inr ((h.through r.2.0 z).1 (r.0, r.1, t))))
-        r.2.2)
+        r.2.2,
+  )
 
   pub shows_same : (B B' : Histories) (w : Flow) → ((e : List Step) → B e → B' e) → ((e : List Step) → B' e → B e) → Shows B w → Shows B' w
   shows_same B B' w f g h = record {
@@ -97,7 +95,8 @@ module _ (p : Place) where
       (after_reads p as' w).outside x ↔ OnSome B (λ e. (Among (flat_map names_in as') x × (IsAllSet p e x → ⊥)) ⊎ ReadsOpen e x)
   read_outside B w as' h x = (
     λ o. ⊎_elim (λ a. let r = (open_is B w h x).0 a.1 in (r.0, r.1, inl (a.0, r.2))) (λ a. let r = (h.outside x).0 a in (r.0, r.1, inr r.2)) o,
-    λ r. ⊎_elim (λ a. inl (a.0, (open_is B w h x).1 (r.0, r.1, a.1))) (λ a. inr ((h.outside x).1 (r.0, r.1, a))) r.2)
+    λ r. ⊎_elim (λ a. inl (a.0, (open_is B w h x).1 (r.0, r.1, a.1))) (λ a. inr ((h.outside x).1 (r.0, r.1, a))) r.2,
+  )
 
   pub shows_reads : (B : Histories) (w : Flow) (as' : List Expr) → Shows B w → Shows (Then (Reads as') B) (after_reads p as' w)
   shows_reads B w as' h = record {
@@ -119,7 +118,8 @@ module _ (p : Place) where
   quiet_outside : (B : Histories) (w : Flow) → Shows B w → (x : Name) → w.outside x ↔ OnSome B (λ e. (⊥ × (IsAllSet p e x → ⊥)) ⊎ ReadsOpen e x)
   quiet_outside B w h x = (
     λ o. let r = (h.outside x).0 o in (r.0, r.1, inr r.2),
-    λ r. ⊎_elim (λ a. absurd a.0) (λ a. (h.outside x).1 (r.0, r.1, a)) r.2)
+    λ r. ⊎_elim (λ a. absurd a.0) (λ a. (h.outside x).1 (r.0, r.1, a)) r.2,
+  )
 
   pub shows_leaves : (B : Histories) (w : Flow) → Shows B w → Shows (Then Leaves B) w
   shows_leaves B w h = record {
@@ -138,13 +138,15 @@ module _ (p : Place) where
     λ u. then_from (Enters as') B (λ e. Around p 0 e z)
         (⊎_elim (λ a. let r = (uses_are B w k as' z).0 a in (r.0, r.1, inl r.2)) (λ a. let r = (h z).0 a in (r.0, r.1, inr r.2)) u),
     λ r. let t = then_to (Enters as') B (λ e. Around p 0 e z) r in
-        ⊎_elim (λ a. inl ((uses_are B w k as' z).1 (t.0, t.1, a))) (λ a. inr ((h z).1 (t.0, t.1, a))) t.2)
+        ⊎_elim (λ a. inl ((uses_are B w k as' z).1 (t.0, t.1, a))) (λ a. inr ((h z).1 (t.0, t.1, a))) t.2,
+  )
 
   module _ (B : Histories) (around : Name → Type 0) (w : Flow) (left : Lval) (as' : List Expr) (h : Conditions B around) (k : Shows B w) where
     assigned_unset : (x : Name) (b : ℕ) → (w.unset x b × (Sets p left x b → ⊥)) ↔ OnSome B (λ e. Sets p left x b ⊎ IsSetBy p e x b → ⊥)
     assigned_unset x b = (
       λ u. let r = (k.unset x b).0 u.0 in (r.0, r.1, λ t. ⊎_elim u.1 r.2 t),
-      λ r. ((k.unset x b).1 (r.0, r.1, λ t. r.2 (inr t)), λ t. r.2 (inl t)))
+      λ r. ((k.unset x b).1 (r.0, r.1, λ t. r.2 (inr t)), λ t. r.2 (inl t)),
+    )
 
     assigned_through : (y z : Name) → ((Among (left_names left) y × (Uses p w as' z ⊎ around z)) ⊎ w.through y z) ↔ OnSome B (λ e. (Among (left_names left) y × (CountsAs e as' z ⊎ Around p 0 e z)) ⊎ Through p e y z)
     assigned_through y z = (
@@ -155,7 +157,8 @@ module _ (p : Place) where
       λ r. ⊎_elim
           (λ a. inl (a.0, ⊎_elim (λ t. inl ((uses_are B w k as' z).1 (r.0, r.1, t))) (λ t. inr ((h z).1 (r.0, r.1, t))) a.1))
           (λ t. inr ((k.through y z).1 (r.0, r.1, t)))
-          r.2)
+          r.2,
+    )
 
     shows_assigns : Shows (Then (Assigns left as') B)
         (record { unset = λ x b. w.unset x b × (Sets p left x b → ⊥); through = λ y z. (Among (left_names left) y × (Uses p w as' z ⊎ around z)) ⊎ w.through y z; outside = w.outside })
@@ -210,7 +213,8 @@ module _ (p : Place) where
       both : {C D : Type 0} {Q : Histories} → C ↔ OnSome (Behind I B) Q → D ↔ OnSome (Behind J B) Q → (C ⊎ D) ↔ OnSome (Behind (λ steps. I steps ⊎ J steps) B) Q
       both f g = (
         λ u. ⊎_elim (λ a. let r = f.0 a in (r.0, (r.1.0, r.1.1, r.1.2, inl r.1.3, r.1.4), r.2)) (λ a. let r = g.0 a in (r.0, (r.1.0, r.1.1, r.1.2, inr r.1.3, r.1.4), r.2)) u,
-        λ r. ⊎_elim (λ i. inl (f.1 (r.0, (r.1.0, r.1.1, r.1.2, i, r.1.4), r.2))) (λ j. inr (g.1 (r.0, (r.1.0, r.1.1, r.1.2, j, r.1.4), r.2))) r.1.3)
+        λ r. ⊎_elim (λ i. inl (f.1 (r.0, (r.1.0, r.1.1, r.1.2, i, r.1.4), r.2))) (λ j. inr (g.1 (r.0, (r.1.0, r.1.1, r.1.2, j, r.1.4), r.2))) r.1.3,
+      )
 
   -- one after the other
   pub shows_sequence : (B I J : Histories) (w : Flow) → Shows (Behind J (Behind I B)) w → Shows (Behind (λ steps. (first second : List Step) × (steps ≡ first ++ second) × I first × J second) B) w

@@ -1,6 +1,6 @@
 -- What names stand for in two cycles, and expressions that read the same.
-use Rattle.std.proofs.Common.{arith, ◌≡◌, ℕ, zero, suc, ◌+◌, ◌<◌, ◌^◌, Bool, true, false, List, [], ◌∷◌, ◌++◌, Option, Some, None, sym, ap, ◌∙◌, refl, inl, inr, ⊎_elim, subst}
-use Rattle.std.specs.Prelude.{nat_eq, ◌&&◌, if◌then◌else◌, unwrap_or, IsTrue, pos, ◌-ℤ◌}
+use Rattle.std.proofs.Common.{arith, ◌≡◌, ℕ, zero, suc, ◌<◌, ◌^◌, Bool, true, false, List, [], ◌∷◌, ◌++◌, Option, Some, None, sym, ap, ◌∙◌, refl, inl, inr, ⊎_elim, subst}
+use Rattle.std.specs.Prelude.{nat_eq, ◌&&◌, if◌then◌else◌, unwrap_or, IsTrue}
 use Rattle.std.specs.Option.{option_map}
 use Rattle.std.specs.List.{flat_map}
 use Rattle.std.specs.Str.{bytes_eq}
@@ -15,8 +15,8 @@ use Rattle.vlog_tree.specs.declared.valuation.Entry.{Entry}
 use Rattle.vlog_tree.specs.Valuation.{entry_at, meant, named, depth_of}
 use Rattle.vlog_tree.specs.Value.{operand_of, row_of, vector, bit_of, word_of, part_of, cast_of, unary_of, binary_of, choice_of, joined, repeated, NamesOnly, AllNamesOnly}
 use Rattle.vlog_runs.specs.declared.flat.Signal.{Signal}
-use Rattle.vlog_runs.specs.Places.{Name, Cycle, Among, entries_of, held_entry, valuation}
-use Rattle.vlog_runs.specs.Blocks.{signal_at, is_parameter, low_in}
+use Rattle.vlog_runs.specs.Places.{Name, Cycle, Among, entries_of, held_entry}
+use Rattle.vlog_runs.specs.Blocks.{signal_at, low_in}
 use Rattle.flat_faults.specs.Texts.{names_in, row_names_in}
 use Rattle.elab_faults.specs.Paths.{width_in}
 use Rattle.flat_laws.proofs.Lists.{bool_cases, append_left, append_right, among_append}

@@ -1,19 +1,17 @@
 -- The pass through a statement says what the paths through it do.
-use Rattle.std.proofs.Common.{◌≡◌, ℕ, zero, suc, ◌<◌, List, [], ◌∷◌, ◌++◌, reverse, sym, ap, ◌∙◌, refl, ◌⊎◌, ◌↔◌, inl, inr, ⊎_elim, subst}
+use Rattle.std.proofs.Common.{◌≡◌, ℕ, suc, List, [], ◌∷◌, ◌++◌, reverse, sym, ap, ◌∙◌, refl, ◌⊎◌, ◌↔◌, inl, inr, ⊎_elim, subst}
 use Rattle.std.specs.List.{flat_map}
 use Rattle.std.proofs.lemmas.List.{append_assoc, append-nil, reverse-append}
 use Rattle.vlog_tree.specs.declared.expr.Expr.{Expr}
-use Rattle.vlog_tree.specs.declared.stmt.CaseKind.{CaseKind}
 use Rattle.vlog_tree.specs.declared.stmt.Lval.{Lval}
 use Rattle.vlog_tree.specs.declared.stmt.Stmt.{Stmt, Row_of-Stmt, end_of-Stmt, more_of-Stmt, Row_of-CaseItem, end_of-CaseItem, more_of-CaseItem}
 use Rattle.vlog_tree.specs.declared.stmt.Stmt.TheVariants as s
 use Rattle.vlog_runs.specs.Places.{Name, Among, Place}
 use Rattle.vlog_runs.specs.Blocks.{labels_in, left_names}
-use Rattle.flat_faults.specs.Texts.{names_in, numbers_in}
-use Rattle.elab_faults.specs.Paths.{Step, Reads, Enters, Leaves, Assigns, reads_in, branch, assignment, IsFull, HasDefault, IsPath, IsRowPath, IsItemPath, IsSetBy, IsAllSet, width_in, Through, Around, DependsAt}
-use Rattle.elab_faults.specs.Drivers.{BlockDepends}
-use Rattle.flow_laws.specs.Flows.{Flow, at_start, either, only_if, after_reads, within, flow, row_flow, items_flow, block_flow}
-use Rattle.flow_laws.specs.Laws.{place_over, ReadsOutside, AreOfPaths, PassesArePaths, BitsFollow}
+use Rattle.flat_faults.specs.Texts.{names_in}
+use Rattle.elab_faults.specs.Paths.{Step, Reads, Enters, Leaves, Assigns, reads_in, branch, assignment, IsFull, HasDefault, IsPath, IsRowPath, IsItemPath, IsSetBy, IsAllSet, Through, Around, DependsAt}
+use Rattle.flow_laws.specs.Flows.{Flow, at_start, either, after_reads, within, flow, row_flow, items_flow, block_flow}
+use Rattle.flow_laws.specs.Laws.{place_over, AreOfPaths, PassesArePaths, BitsFollow}
 use Rattle.flow_laws.proofs.Giving.{Writes}
 use Rattle.flow_laws.proofs.Following.{flow_follows}
 use Rattle.flow_laws.proofs.Growing.{IsBare, bare_leads}
@@ -89,7 +87,8 @@ module _ (p : Place) where
   conditions_after B around body h z = (
     λ u. let r = (h z).0 u in let t = has_path p body in
         (onto t.0 r.0, (r.0, t.0, r.1, t.1, refl), (keeps body t.0 t.1 0 r.0 z).1 r.2),
-    λ r. (h z).1 (r.1.0, r.1.2, (keeps body r.1.1 r.1.3 0 r.1.0 z).0 (subst (λ t. Around p 0 t z) (sym r.1.4) r.2)))
+    λ r. (h z).1 (r.1.0, r.1.2, (keeps body r.1.1 r.1.3 0 r.1.0 z).0 (subst (λ t. Around p 0 t z) (sym r.1.4) r.2)),
+  )
 
   -- ---- the pass
 
@@ -160,7 +159,8 @@ module _ (p : Place) where
   on_paths : (body : Stmt) (Q : Histories) → OnSome (Behind (IsPath p body) Only) Q ↔ ((steps : List Step) × IsPath p body steps × Q (onto steps []))
   on_paths body Q = (
     λ r. (r.1.1, r.1.3, subst Q (sym (ap (λ e. onto r.1.1 e) (sym r.1.2) ∙ r.1.4)) r.2),
-    λ r. (onto r.0 [], ([], r.0, refl, r.1, refl), r.2))
+    λ r. (onto r.0 [], ([], r.0, refl, r.1, refl), r.2),
+  )
 
   set_onto : (steps e : List Step) (x : Name) (b : ℕ) → IsSetBy p (onto steps e) x b ↔ (IsSetBy p steps x b ⊎ IsSetBy p e x b)
   set_onto [] e x b = (λ h. inr h, λ h. ⊎_elim (λ n. absurd n) (λ k. k) h)
@@ -168,9 +168,10 @@ module _ (p : Place) where
   set_onto (Enters as' ∷ steps) e x b = set_onto steps (Enters as' ∷ e) x b
   set_onto (Leaves ∷ steps) e x b = set_onto steps (Leaves ∷ e) x b
   set_onto (Assigns left as' ∷ steps) e x b =
-      let r = set_onto steps (Assigns left as' ∷ e) x b in
-      (λ h. ⊎_elim (λ k. inl (inr k)) (λ k. ⊎_elim (λ t. inl (inl t)) (λ t. inr t) k) (r.0 h),
-      λ h. r.1 (⊎_elim (λ k. ⊎_elim (λ t. inr (inl t)) (λ t. inl t) k) (λ t. inr (inr t)) h))
+      let r = set_onto steps (Assigns left as' ∷ e) x b in (
+        λ h. ⊎_elim (λ k. inl (inr k)) (λ k. ⊎_elim (λ t. inl (inl t)) (λ t. inr t) k) (r.0 h),
+        λ h. r.1 (⊎_elim (λ k. ⊎_elim (λ t. inr (inl t)) (λ t. inl t) k) (λ t. inr (inr t)) h),
+      )
 
   -- an assignment to y in steps behind a history depends on z
   abbrev Assigned : List Step → List Step → Name → Name → Type 0
@@ -235,18 +236,21 @@ module _ (p : Place) where
       let h = passes body Only (λ z. ⊥) at_start alone starts in
       record {
         unset = λ x b. (
-            λ u. let r = (on_paths body (λ e. IsSetBy p e x b → ⊥)).0 ((h.unset x b).0 u) in (r.0, r.1, λ t. r.2 ((same_set r.0 x b).1 t)),
-            λ r. (h.unset x b).1 ((on_paths body (λ e. IsSetBy p e x b → ⊥)).1 (r.0, r.1, λ t. r.2 ((same_set r.0 x b).0 t))));
+          λ u. let r = (on_paths body (λ e. IsSetBy p e x b → ⊥)).0 ((h.unset x b).0 u) in (r.0, r.1, λ t. r.2 ((same_set r.0 x b).1 t)),
+          λ r. (h.unset x b).1 ((on_paths body (λ e. IsSetBy p e x b → ⊥)).1 (r.0, r.1, λ t. r.2 ((same_set r.0 x b).0 t))),
+        );
         through = λ y z. (
-            λ u. let r = (on_paths body (λ e. Through p e y z)).0 ((h.through y z).0 u) in
-                ⊎_elim (λ t. (t.0, t.1, t.2, t.3, subst (λ ks. IsPath p body ks) t.4 r.1, t.5, subst (λ e. DependsAt p e t.3 z) (onto_nothing t.0) t.6)) (λ n. absurd n) (through_to r.0 [] y z r.2),
-            λ t. (h.through y z).1 ((on_paths body (λ e. Through p e y z)).1
-                (t.0 ++ Assigns t.2 t.3 ∷ t.1, t.4, through_from (t.0 ++ Assigns t.2 t.3 ∷ t.1) [] y z (t.0, t.1, t.2, t.3, refl, t.5, subst (λ e. DependsAt p e t.3 z) (sym (onto_nothing t.0)) t.6))));
+          λ u. let r = (on_paths body (λ e. Through p e y z)).0 ((h.through y z).0 u) in
+              ⊎_elim (λ t. (t.0, t.1, t.2, t.3, subst (λ ks. IsPath p body ks) t.4 r.1, t.5, subst (λ e. DependsAt p e t.3 z) (onto_nothing t.0) t.6)) (λ n. absurd n) (through_to r.0 [] y z r.2),
+          λ t. (h.through y z).1 ((on_paths body (λ e. Through p e y z)).1
+              (t.0 ++ Assigns t.2 t.3 ∷ t.1, t.4, through_from (t.0 ++ Assigns t.2 t.3 ∷ t.1) [] y z (t.0, t.1, t.2, t.3, refl, t.5, subst (λ e. DependsAt p e t.3 z) (sym (onto_nothing t.0)) t.6))),
+        );
         outside = λ x. (
-            λ u. let r = (on_paths body (λ e. ReadsOpen p e x)).0 ((h.outside x).0 u) in
-                ⊎_elim (λ t. (t.0, t.1, t.2, subst (λ ks. IsPath p body ks) t.3 r.1, t.4, λ all. t.5 (λ b l. (same_set t.0 x b).1 (all b l)))) (λ n. absurd n) (read_to r.0 [] x r.2),
-            λ t. (h.outside x).1 ((on_paths body (λ e. ReadsOpen p e x)).1
-                (t.0 ++ t.2 ∷ t.1, t.3, read_from (t.0 ++ t.2 ∷ t.1) [] x (t.0, t.1, t.2, refl, t.4, λ all. t.5 (λ b l. (same_set t.0 x b).0 (all b l))))));
+          λ u. let r = (on_paths body (λ e. ReadsOpen p e x)).0 ((h.outside x).0 u) in
+              ⊎_elim (λ t. (t.0, t.1, t.2, subst (λ ks. IsPath p body ks) t.3 r.1, t.4, λ all. t.5 (λ b l. (same_set t.0 x b).1 (all b l)))) (λ n. absurd n) (read_to r.0 [] x r.2),
+          λ t. (h.outside x).1 ((on_paths body (λ e. ReadsOpen p e x)).1
+              (t.0 ++ t.2 ∷ t.1, t.3, read_from (t.0 ++ t.2 ∷ t.1) [] x (t.0, t.1, t.2, refl, t.4, λ all. t.5 (λ b l. (same_set t.0 x b).0 (all b l))))),
+        );
       }
 
 pub passes_are_paths : PassesArePaths

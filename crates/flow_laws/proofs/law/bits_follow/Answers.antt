@@ -1,4 +1,3 @@
-use Rattle.flow_laws.proofs.Giving.{Writes}
 use Rattle.flow_laws.proofs.Staying.{store_follows}
 use Rattle.flow_laws.proofs.Following.{flow_follows}
 use Rattle.flow_laws.proofs.Walking.{bits_follow}
