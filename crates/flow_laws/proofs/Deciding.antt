@@ -38,7 +38,7 @@ true_or : (t : Bool) → Either (t ≡ true)
 true_or true = inl refl
 true_or false = inr (λ e. cc)
 
-name_or : (x y : Name) → Either (x ≡ y)
+pub name_or : (x y : Name) → Either (x ≡ y)
 name_or x y = ⊎_elim (λ t. inl ((bytes_eq-Decides x y).0 t)) (λ n. inr (λ e. n ((bytes_eq-Decides x y).1 e))) (true_or (bytes_eq x y))
 
 integer_or : (x y : ℤ) → Either (x ≡ y)

@@ -4,10 +4,8 @@ use Rattle.std.specs.Prelude.{nat_eq, if◌then◌else◌, unwrap_or}
 use Rattle.std.specs.Int.{bit_at}
 use Rattle.std.specs.Option.{option_map}
 use Rattle.std.specs.List.{flat_map}
-use Rattle.std.specs.Str.{bytes_eq}
 use Rattle.std.proofs.lemmas.Nat.{pow_pos, shr-shr}
 use Rattle.std.proofs.lemmas.Nat.Bits.{bit_at_above, bit_at-zero, same_from_bits, same_from_bits_below}
-use Rattle.std.proofs.lemmas.Slice.Eq.{bytes_eq-Decides}
 use Rattle.std.proofs.Math.Nat.{div-add-mod, mod-lt}
 use Rattle.vlog_tree.specs.declared.expr.Expr.{Expr}
 use Rattle.vlog_tree.specs.declared.stmt.CaseKind.{CaseKind}
@@ -21,29 +19,24 @@ use Rattle.vlog_runs.specs.Places.{Name, Cycle, Among, pieces, total, store}
 use Rattle.vlog_runs.specs.Blocks.{signal_at, labels_in, case_width, case_sign, any_matches, is_default, is_false, run, run_row, run_items, run_default, lefts, left_names, case_lefts}
 use Rattle.flat_faults.specs.Texts.{names_in, numbers_in, Compared, compared_in, row_compared_in, case_compared_in}
 use Rattle.elab_faults.specs.Paths.{HasDefault, IsFull, width_in}
-use Rattle.flat_laws.proofs.Lists.{bool_cases, append_left, append_right}
+use Rattle.flat_laws.proofs.Lists.{append_left, append_right}
 use Rattle.flat_laws.proofs.Lows.{at_among}
 use Rattle.flow_laws.specs.Flows.{Flow, at_start, Uses, after_reads, after_assignment, within, flow, row_flow, items_flow}
 use Rattle.flow_laws.specs.Laws.{place_over, AreVectors, AreFit, FlowFollows}
 use Rattle.flow_laws.proofs.Giving.{Writes, any_covers_or, give_apart, give_given}
 use Rattle.flow_laws.proofs.Reading.{nothing, values, ReadAlike, first_of_two, second_of_two, same_entry, no_entry, no_depth, same_operand, width_is}
 use Rattle.flow_laws.proofs.Covering.{covered, sets_covers}
+use Rattle.flow_laws.proofs.Deciding.{name_or}
 use Rattle.flow_laws.proofs.Staying.{run_keeps, same_store, same_given, store_keeps}
 use Rattle.flow_laws.proofs.Growing.{Names, names_or, sets_name, through_grows, unset_stays, reaches, items_reach}
 use Rattle.flow_laws.proofs.Cases.{Fits, same_widest, same_signs, Agree, Unmatched, agree_at, unmatched_label, full_matches}
 
 -- ---- names in lists, numbers from bits
 
-names_same_or : (x y : Name) → (x ≡ y) ⊎ (x ≡ y → ⊥)
-names_same_or x y =
-    ⊎_elim (λ (t : bytes_eq x y ≡ true). inl ((bytes_eq-Decides x y).0 t))
-    (λ (t : bytes_eq x y ≡ false). inr (λ e. let u : bytes_eq x y ≡ true = (bytes_eq-Decides x y).1 e in cc))
-    (bool_cases (bytes_eq x y))
-
 among_or : (xs : List Name) (x : Name) → Among xs x ⊎ (Among xs x → ⊥)
 among_or [] x = inr (λ m. m)
 among_or (y ∷ ys) x =
-    ⊎_elim (λ e. inl (inl e)) (λ (n : y ≡ x → ⊥). ⊎_elim (λ m. inl (inr m)) (λ (k : Among ys x → ⊥). inr (λ m. ⊎_elim n k m)) (among_or ys x)) (names_same_or y x)
+    ⊎_elim (λ e. inl (inl e)) (λ (n : y ≡ x → ⊥). ⊎_elim (λ m. inl (inr m)) (λ (k : Among ys x → ⊥). inr (λ m. ⊎_elim n k m)) (among_or ys x)) (name_or y x)
 
 -- a number without bits from n on is below 2 ^ n
 below_from_bits : (n m : ℕ) → ((b : ℕ) → n ≤ b → bit_at m b ≡ 0) → m < 2 ^ n
