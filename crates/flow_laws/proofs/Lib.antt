@@ -1,0 +1,12 @@
+pub mod Giving
+pub mod Reading
+pub mod Covering
+pub mod Staying
+pub mod Growing
+pub mod Shapes
+pub mod Bounds
+pub mod Cases
+pub mod Following
+pub mod Deciding
+pub mod Passing
+pub mod Walking
