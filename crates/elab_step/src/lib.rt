@@ -1,0 +1,2 @@
+//! Modules without instances as functions of words.
+#![tactic(auto)]
