@@ -1,1 +1,2 @@
 mod Solving
+mod Fitting

@@ -54,6 +54,20 @@ solved p ks (x ∷ xs) c = solved p ks xs (settled p (drivers_of ks x) x c)
 abbrev pub Fits : List Signal → Cycle → Type 0
 Fits gs c = (g : Signal) → Among gs g → c g.name < 2 ^ g.width
 
+-- no name stands twice
+abbrev pub AreDistinct : List Name → Type 0
+AreDistinct [] = Unit {0}
+AreDistinct (x ∷ xs) = (Among xs x → ⊥) × AreDistinct xs
+
+-- none of the signals is a memory
+abbrev pub ArePlain : List Signal → Type 0
+ArePlain [] = Unit {0}
+ArePlain (g ∷ gs) = (g.depth ≡ 0) × ArePlain gs
+
+-- the place of a module without instances
+abbrev pub alone : List Signal → Place
+alone gs = record { prefix = []; signals = gs; params = [] }
+
 -- a statement drives bit b of x
 abbrev pub DrivesBit : Place → Stmt → Name → ℕ → Type 0
 DrivesBit p k x b = (left : Lval) × Among (lefts k) left × Drives p left x b
