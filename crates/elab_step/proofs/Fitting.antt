@@ -25,11 +25,11 @@ use Rattle.elab_step.proofs.Solving.{bool_cases, same_name, other_name, named_or
 
 -- ---- bits of a number
 
-positive : (k : ℕ) → 0 < 2 ^ k
+pub positive : (k : ℕ) → 0 < 2 ^ k
 positive zero = omega (arith)
 positive (suc k) = omega (arith, pow-suc 2 k, positive k)
 
-less_or : (j b : ℕ) → (j < b) ⊎ (b ≤ j)
+pub less_or : (j b : ℕ) → (j < b) ⊎ (b ≤ j)
 less_or j b = ⊎_elim (λ (e : nat_lt j b ≡ true). inl (ltb-true j b e)) (λ (e : nat_lt j b ≡ false). inr (ltb-false j b e)) (bool_cases (nat_lt j b))
 
 next_power : (b : ℕ) → 2 ^ (b + 1) ≡ 2 * 2 ^ b

@@ -1,5 +1,5 @@
 -- A module without instances, solved one net after another (IEEE 1364-2005, sections 6.1 and 9.2).
-use Rattle.std.specs.Prelude.{ℕ, ◌≡◌, ◌^◌, ◌<◌, true, List, [], ◌∷◌, ◌++◌, map, if◌then◌else◌}
+use Rattle.std.specs.Prelude.{ℕ, ◌≡◌, ◌^◌, ◌<◌, ◌⊎◌, true, false, List, [], ◌∷◌, ◌++◌, map, if◌then◌else◌}
 use Rattle.std.specs.Int.{bit_at}
 use Rattle.std.specs.List.{flat_map}
 use Rattle.std.specs.Str.{bytes_eq}
@@ -13,6 +13,7 @@ use Rattle.vlog_runs.specs.declared.flat.Signal.{Signal}
 use Rattle.vlog_runs.specs.Places.{Name, Cycle, Among, Place}
 use Rattle.vlog_runs.specs.Contents.{is_among}
 use Rattle.vlog_runs.specs.Blocks.{run, lefts, left_names, Drives}
+use Rattle.vlog_runs.specs.Cycles.{IsRegister, IsInput}
 
 -- the bodies of the combinational blocks
 abbrev pub bodies : List Always → List Stmt
@@ -22,6 +23,11 @@ bodies (k ∷ ks) = if k.clocked then bodies ks else k.body ∷ bodies ks
 -- the continuous assignments, each as a statement, and the combinational blocks
 abbrev pub processes : Flat → List Stmt
 processes f = map (λ (a : Assign). s.Blocking a.left a.right) f.assigns ++ bodies f.blocks
+
+-- the bodies of the clocked blocks
+abbrev pub clocked : List Always → List Stmt
+clocked [] = []
+clocked (k ∷ ks) = if k.clocked then k.body ∷ clocked ks else clocked ks
 
 -- the names that a statement assigns
 abbrev pub assigned_by : Stmt → List Name
@@ -86,3 +92,22 @@ pub record Meets (p : Place) (ks : List Stmt) (x : Name) (w : ℕ) (c : Cycle) :
 abbrev pub IsOrder : (Name → Name → Type 0) → List Name → Type 0
 IsOrder depends [] = Unit {0}
 IsOrder depends (x ∷ xs) = ((z : Name) → depends x z → Among (x ∷ xs) z → ⊥) × (Among xs x → ⊥) × IsOrder depends xs
+
+-- `d` after clocked blocks, one after another, which all read the cycle `c` before the edge
+abbrev pub after_edge : Place → List Stmt → Cycle → Cycle → Cycle
+after_edge p [] c d x = d x
+after_edge p (k ∷ ks) c d x = after_edge p ks c (run false p k c d) x
+
+-- a declared signal that is no register and no input
+pub record IsNet (f : Flat) (x : Name) : Type 0 where
+  pub signal : Signal
+  pub is_declared : Among f.signals signal
+  pub named : signal.name ≡ x
+  pub no_register : IsRegister f x → ⊥
+  pub no_input : IsInput f x → ⊥
+
+-- the nets of a module, each after those that it depends on
+pub record IsNetOrder (f : Flat) (depends : Name → Name → Type 0) (xs : List Name) : Type 0 where
+  pub order : IsOrder depends xs
+  pub nets : (x : Name) → Among xs x → IsNet f x
+  pub others : (g : Signal) → Among f.signals g → Among xs g.name ⊎ (IsRegister f g.name ⊎ IsInput f g.name)
