@@ -6,6 +6,7 @@ use Rattle.vlog_tree.specs.declared.expr.Expr.TheVariants as e
 use Rattle.vlog_tree.specs.declared.item.Assign.{Assign}
 use Rattle.vlog_tree.specs.declared.stmt.Lval.{Lval, Row_of-Lval, end_of-Lval, more_of-Lval}
 use Rattle.vlog_tree.specs.declared.stmt.Lval.TheVariants as l
+use Rattle.vlog_tree.specs.declared.stmt.Stmt.{Stmt}
 use Rattle.vlog_tree.specs.Value.{part_low, part_width}
 use Rattle.vlog_runs.specs.declared.flat.Always.{Always}
 use Rattle.vlog_runs.specs.declared.flat.Flat.{Flat}
@@ -106,13 +107,18 @@ IsWanted f x b =
 
 -- ---- dependences
 
+-- on some path through a combinational block an assignment to y depends on z
+abbrev pub BlockDepends : Place → Stmt → Name → Name → Type 0
+BlockDepends p body y z =
+    (before after : List Step) × (left : Lval) × (as' : List Expr)
+    × IsPath p body (before ++ Assigns left as' ∷ after) × Among (left_names left) y × DependsAt p (reverse before) as' z
+
 -- y depends on z: by a continuous assignment, or by an assignment on a path through a combinational block. A register depends on nothing
 abbrev pub DependsOn : Flat → Name → Name → Type 0
 DependsOn f y z =
     (IsRegister f y → ⊥)
     × (((a : Assign) × Among f.assigns a × Among (left_names a.left) y × Among (flat_map names_in (a.right ∷ numbers_in a.left)) z)
-    ⊎ ((k : Always) × Among f.blocks k × (k.clocked ≡ false) × (before after : List Step) × (left : Lval) × (as' : List Expr)
-    × IsPath (flat_place f) k.body (before ++ Assigns left as' ∷ after) × Among (left_names left) y × DependsAt (flat_place f) (reverse before) as' z))
+    ⊎ ((k : Always) × Among f.blocks k × (k.clocked ≡ false) × BlockDepends (flat_place f) k.body y z))
 
 -- each of a list depends on the next one, and the last one on z
 abbrev pub IsChain : Flat → Name → List Name → Name → Type 0
