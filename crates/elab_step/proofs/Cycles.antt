@@ -17,7 +17,7 @@ use Rattle.vlog_runs.specs.Places.{Name, Cycle, Among, Place, holders, words_fro
 use Rattle.vlog_runs.specs.Contents.{is_among}
 use Rattle.vlog_runs.specs.Blocks.{run, lefts, left_names, row_names, Drives, AnyDrives}
 use Rattle.vlog_runs.specs.Cycles.{flat_place, IsRegister, IsInput, IsDriven, IsAssigned, DrivesFull, IsClocked, IsCycle, Follows}
-use Rattle.elab_step.proofs.Lists.{among_append, append_left, append_right, among_map, map_among, flat_among, among_flat}
+use Rattle.flat_laws.proofs.Lists.{among_append, append_left, append_right, among_map, map_among, flat_among, among_flat}
 use Rattle.elab_step.specs.Solving.{bodies, clocked, processes, assigned_by, after_edge, solved, Fits, ArePlain, DrivesBit, AreApart, Meets, IsOrder, IsNet, IsNetOrder}
 use Rattle.elab_step.proofs.Solving.{bool_cases, stable, named_or, AreProcesses, solved_only, solved_meets}
 use Rattle.elab_step.proofs.Fitting.{less_or}

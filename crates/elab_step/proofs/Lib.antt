@@ -1,4 +1,4 @@
-mod Lists
 mod Solving
 mod Fitting
 mod Cycles
+mod Drivers
