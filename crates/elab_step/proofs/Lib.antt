@@ -2,3 +2,4 @@ mod Solving
 mod Fitting
 mod Cycles
 mod Drivers
+mod Elaborating
