@@ -80,7 +80,7 @@ found_signal (h ∷ gs) g d m =
     rw (other_name h.name g.name (λ e. d.0 (subst (λ x. Among (map (λ (k : Signal). k.name) gs) x) (sym e) (among_names gs g u)))) (found_signal gs g d.1 u))
     m
 
-one_entry : (g : Signal) (c : Cycle) → g.depth ≡ 0 → entries_of [] c g ≡ held_entry [] c g ∷ []
+pub one_entry : (g : Signal) (c : Cycle) → g.depth ≡ 0 → entries_of [] c g ≡ held_entry [] c g ∷ []
 one_entry g c z = rw (eq-eqb g.depth 0 z) refl
 
 pub found_entry : (gs : List Signal) (c : Cycle) (g : Signal) → AreDistinct (map (λ (h : Signal). h.name) gs) → ArePlain gs → Among gs g

@@ -3,3 +3,5 @@ mod Fitting
 mod Cycles
 mod Drivers
 mod Elaborating
+mod Texts
+mod Boards

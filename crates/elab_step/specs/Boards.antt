@@ -1,0 +1,62 @@
+-- Leaves of a module that show its cycles.
+use Rattle.std.specs.Prelude.{ℕ, zero, suc, ◌≡◌, ◌<◌, List, [], ◌∷◌, ◌++◌, map, length}
+use Rattle.std.proofs.Common.{Vec, Global}
+use Rattle.vlog_tree.specs.declared.item.Assign.{Assign}
+use Rattle.vlog_tree.specs.declared.stmt.Stmt.{Stmt}
+use Rattle.vlog_tree.specs.declared.stmt.Stmt.TheVariants as s
+use Rattle.vlog_runs.specs.declared.flat.Always.{Always}
+use Rattle.vlog_runs.specs.declared.flat.Flat.{Flat}
+use Rattle.vlog_runs.specs.declared.flat.Signal.{Signal}
+use Rattle.vlog_runs.specs.Places.{Name, Cycle, Among}
+use Rattle.word_dag.specs.declared.node.Node.{Node}
+use Rattle.word_dag.specs.Nodes.{Naming}
+use Rattle.elab_node.specs.declared.leaves.Leaf.{Leaf}
+use Rattle.elab_node.specs.Leaves.{AreReady}
+use Rattle.elab_block.specs.Standing.{AreLeavesOf, AreApart, AreShown}
+use Rattle.elab_step.specs.Solving.{processes, drivers_of}
+
+-- a leaf for each signal, in their order, each with a node of its length
+pub record IsBoard (gs : List Signal) (ls : List Leaf) (ns : List Node) : Type 0 where
+  pub leaves : AreLeavesOf gs ls
+  pub ready : AreReady ls ns
+  pub apart : AreApart ls
+
+-- the later leaves show what f makes of each cycle that the earlier ones show
+abbrev pub Shows : (Cycle → Cycle) → List Leaf → List Node → List Leaf → List Node → Type 0
+Shows f ls a ms b = (e : Naming) (c : Cycle) → AreShown e a ls c → AreShown e b ms (f c)
+
+-- what is left, g, makes of a cycle that the later leaves show what f makes of the cycle that the earlier ones show
+abbrev pub Follows : (Cycle → Cycle) → (Cycle → Cycle) → List Leaf → List Node → List Leaf → List Node → Type 0
+Follows f g ls a ms b = (e : Naming) (c : Cycle) → AreShown e a ls c → (now : Cycle) × AreShown e b ms now × (g now ≡ f c)
+
+-- the continuous assignments, each as a statement, and the bodies of all blocks
+abbrev pub statements : Flat → List Stmt
+statements f = map (λ (a : Assign). s.Blocking a.left a.right) f.assigns ++ map (λ (k : Always). k.body) f.blocks
+
+abbrev pub statement_at : List Stmt → ℕ → Stmt
+statement_at [] i = s.Empty
+statement_at (k ∷ ks) zero = k
+statement_at (k ∷ ks) (suc i) = statement_at ks i
+
+abbrev pub picked : List Stmt → List ℕ → List Stmt
+picked ks is = map (statement_at ks) is
+
+-- the node of a leaf
+abbrev pub node_at : List Leaf → ℕ → ℕ
+node_at [] i = 0
+node_at (l ∷ ls) zero = l.node
+node_at (l ∷ ls) (suc i) = node_at ls i
+
+-- the name of a signal
+abbrev pub name_of : List Signal → ℕ → Name
+name_of [] i = []
+name_of (g ∷ gs) zero = g.name
+name_of (g ∷ gs) (suc i) = name_of gs i
+
+-- for each signal the places of the statements that assign it
+abbrev pub ArePlacesOf : Flat → List Signal → List (Vec ℕ Global) → Type 0
+ArePlacesOf f [] [] = Unit {0}
+ArePlacesOf f [] (v ∷ vs) = ⊥
+ArePlacesOf f (g ∷ gs) [] = ⊥
+ArePlacesOf f (g ∷ gs) (v ∷ vs) =
+    ((i : ℕ) → Among v.items i → i < length (statements f)) × (picked (statements f) v.items ≡ drivers_of (processes f) g.name) × ArePlacesOf f gs vs
