@@ -1,5 +1,5 @@
 -- Leaves of a module that show its cycles.
-use Rattle.std.specs.Prelude.{ℕ, zero, suc, ◌≡◌, ◌<◌, List, [], ◌∷◌, ◌++◌, map, length}
+use Rattle.std.specs.Prelude.{ℕ, zero, suc, ◌≡◌, ◌<◌, ◌%◌, ◌^◌, pos, Bool, true, false, List, [], ◌∷◌, ◌++◌, map, length}
 use Rattle.std.proofs.Common.{Vec, Global}
 use Rattle.vlog_tree.specs.declared.item.Assign.{Assign}
 use Rattle.vlog_tree.specs.declared.stmt.Stmt.{Stmt}
@@ -11,8 +11,11 @@ use Rattle.vlog_runs.specs.Places.{Name, Cycle, Among}
 use Rattle.word_dag.specs.declared.node.Node.{Node}
 use Rattle.word_dag.specs.Nodes.{Naming}
 use Rattle.elab_node.specs.declared.leaves.Leaf.{Leaf}
+use Rattle.word_dag.specs.Adding.{IsAt}
+use Rattle.word_design.specs.Designs.{free}
 use Rattle.elab_node.specs.Leaves.{AreReady}
-use Rattle.elab_block.specs.Standing.{AreLeavesOf, AreApart, AreShown}
+use Rattle.elab_node.specs.Nodes.{number_at}
+use Rattle.elab_block.specs.Standing.{IsLeafOf, AreLeavesOf, AreApart, AreShown}
 use Rattle.elab_step.specs.Solving.{processes, drivers_of}
 
 -- a leaf for each signal, in their order, each with a node of its length
@@ -60,3 +63,14 @@ ArePlacesOf f [] (v ∷ vs) = ⊥
 ArePlacesOf f (g ∷ gs) [] = ⊥
 ArePlacesOf f (g ∷ gs) (v ∷ vs) =
     ((i : ℕ) → Among v.items i → i < length (statements f)) × (picked (statements f) v.items ≡ drivers_of (processes f) g.name) × ArePlacesOf f gs vs
+
+-- a leaf is begun: the leaf of a net has the value 0, any other one is a free word
+abbrev pub IsBegun : List Node → Signal → Bool → Leaf → Type 0
+IsBegun ns g true l = (e : Naming) → number_at e ns l.node ≡ 0
+IsBegun ns g false l = IsAt ns l.node (free g.name g.width) × ((e : Naming) → number_at e ns l.node ≡ e g.name 0 (pos 0) % 2 ^ g.width)
+
+-- leaves are begun, the flags telling the nets
+abbrev pub AreBegun : List Node → List Signal → List Bool → List Leaf → Type 0
+AreBegun ns [] [] [] = Unit {0}
+AreBegun ns (g ∷ gs) (t ∷ ts) (l ∷ ls) = IsLeafOf g l × IsBegun ns g t l × AreBegun ns gs ts ls
+AreBegun ns gs ts ls = ⊥

@@ -1,2 +1,5 @@
 //! Modules without instances as functions of words.
 #![tactic(auto)]
+
+mod nodes;
+mod start;
