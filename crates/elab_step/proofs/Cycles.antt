@@ -108,7 +108,7 @@ plain_signal (h ∷ gs) g z m = ⊎_elim (λ (e : h ≡ g). sym (ap (λ (k : Sig
 pub own_holder : (gs : List Signal) (g w : Signal) → ArePlain gs → Among gs g → Among (holders g) w → g ≡ w
 own_holder gs g w z m h = let u : Among (g ∷ []) w = rw (eq-eqb g.depth 0 (plain_signal gs g z m)) at h in ⊎_elim (λ e. e) (λ n. absurd n) u
 
-holds_itself : (gs : List Signal) (g : Signal) → ArePlain gs → Among gs g → Among (holders g) g
+pub holds_itself : (gs : List Signal) (g : Signal) → ArePlain gs → Among gs g → Among (holders g) g
 holds_itself gs g z m = rw (eq-eqb g.depth 0 (plain_signal gs g z m)) (inl refl)
 
 -- ---- which bits are driven

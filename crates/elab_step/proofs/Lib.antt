@@ -5,3 +5,4 @@ mod Drivers
 mod Elaborating
 mod Texts
 mod Boards
+mod Runs

@@ -184,7 +184,7 @@ module _ (p : Place) (gs : List Signal) (all : List Stmt) (net : Name → Type 0
 
   -- ---- all nets
 
-  solved_other : (xs : List Name) (c : Cycle) (z : Name) → (Among xs z → ⊥) → solved p all xs c z ≡ c z
+  pub solved_other : (xs : List Name) (c : Cycle) (z : Name) → (Among xs z → ⊥) → solved p all xs c z ≡ c z
   solved_other [] c z n = refl
   solved_other (x ∷ xs) c z n = solved_other xs (settled p (drivers_of all x) x c) z (λ m. n (inr m)) ∙ settled_other (drivers_of all x) x z c (λ e. n (inl e))
 

@@ -1,5 +1,5 @@
 -- Leaves of a module that show its cycles.
-use Rattle.std.specs.Prelude.{ℕ, zero, suc, ◌≡◌, ◌<◌, ◌%◌, ◌^◌, pos, Bool, true, false, List, [], ◌∷◌, ◌++◌, map, length}
+use Rattle.std.specs.Prelude.{ℕ, zero, suc, ◌≡◌, ◌<◌, ◌%◌, ◌^◌, pos, Bool, true, false, if◌then◌else◌, List, [], ◌∷◌, ◌++◌, map, length}
 use Rattle.std.proofs.Common.{Vec, Global}
 use Rattle.vlog_tree.specs.declared.item.Assign.{Assign}
 use Rattle.vlog_tree.specs.declared.stmt.Stmt.{Stmt}
@@ -8,15 +8,19 @@ use Rattle.vlog_runs.specs.declared.flat.Always.{Always}
 use Rattle.vlog_runs.specs.declared.flat.Flat.{Flat}
 use Rattle.vlog_runs.specs.declared.flat.Signal.{Signal}
 use Rattle.vlog_runs.specs.Places.{Name, Cycle, Among}
+use Rattle.vlog_runs.specs.Contents.{is_among}
+use Rattle.vlog_runs.specs.Cycles.{flat_place, IsRegister}
 use Rattle.word_dag.specs.declared.node.Node.{Node}
-use Rattle.word_dag.specs.Nodes.{Naming}
+use Rattle.word_dag.specs.Nodes.{FitFrom, Naming}
 use Rattle.elab_node.specs.declared.leaves.Leaf.{Leaf}
 use Rattle.word_dag.specs.Adding.{IsAt}
-use Rattle.word_design.specs.Designs.{free}
+use Rattle.word_design.specs.declared.design.Net.{Net}
+use Rattle.word_design.specs.declared.design.Register.{Register}
+use Rattle.word_design.specs.Designs.{Parts, free, naming_of}
 use Rattle.elab_node.specs.Leaves.{AreReady}
-use Rattle.elab_node.specs.Nodes.{number_at}
+use Rattle.elab_node.specs.Nodes.{IsNode, number_at}
 use Rattle.elab_block.specs.Standing.{IsLeafOf, AreLeavesOf, AreApart, AreShown}
-use Rattle.elab_step.specs.Solving.{processes, drivers_of}
+use Rattle.elab_step.specs.Solving.{clocked, processes, drivers_of, after_edge, solved, Fits}
 
 -- a leaf for each signal, in their order, each with a node of its length
 pub record IsBoard (gs : List Signal) (ls : List Leaf) (ns : List Node) : Type 0 where
@@ -74,3 +78,17 @@ abbrev pub AreBegun : List Node → List Signal → List Bool → List Leaf → 
 AreBegun ns [] [] [] = Unit {0}
 AreBegun ns (g ∷ gs) (t ∷ ts) (l ∷ ls) = IsLeafOf g l × IsBegun ns g t l × AreBegun ns gs ts ls
 AreBegun ns gs ts ls = ⊥
+
+-- a cycle in which these names have the value 0
+abbrev pub unset : List Name → Cycle → Cycle
+unset xs c z = if is_among xs z then 0 else c z
+
+-- the nets of a design have the values that they are solved to, and the registers next what the clocked blocks leave
+pub record IsSolved (f : Flat) (xs : List Name) (d : Parts) : Type 0 where
+  pub fit : FitFrom [] d.nodes
+  pub net : (n : Net) → Among d.nets n → (g : Signal) × Among f.signals g × (n.name ≡ g.name) × (n.width ≡ g.width) × IsNode d.nodes n.node n.width
+      × ((c : Cycle) → Fits f.signals c → number_at (naming_of c) d.nodes n.node ≡ solved (flat_place f) (processes f) xs (unset xs c) g.name)
+  pub each_net : (g : Signal) → Among f.signals g → (n : Net) × Among d.nets n × (n.name ≡ g.name) × (n.width ≡ g.width)
+  pub register : (r : Register) → Among d.registers r → IsRegister f r.name × IsNode d.nodes r.next r.width
+      × ((c : Cycle) → Fits f.signals c → let now = solved (flat_place f) (processes f) xs (unset xs c) in number_at (naming_of c) d.nodes r.next ≡ after_edge (flat_place f) (clocked f.blocks) now now r.name)
+  pub each_register : (x : Name) → IsRegister f x → (r : Register) × Among d.registers r × (r.name ≡ x)
