@@ -1,5 +1,5 @@
 -- Leaves that show cycles.
-use Rattle.std.proofs.Common.{arith, ◌≡◌, ◌≢◌, ℕ, zero, suc, ◌+◌, ◌<◌, ◌≤◌, Bool, true, false, List, [], ◌∷◌, ◌++◌, Option, None, refl, sym, ap, ◌∙◌, subst, ◌⊎◌, inl, inr, ⊎_elim, map, length, get_or, take, drop}
+use Rattle.std.proofs.Common.{arith, ◌≡◌, ◌≢◌, ℕ, zero, suc, ◌+◌, ◌<◌, ◌≤◌, Bool, true, false, List, [], ◌∷◌, ◌++◌, Option, None, refl, sym, ap, ◌∙◌, subst, ◌⊎◌, inl, inr, ⊎_elim, map, length, get_or, take, drop, length-append, Vec, Global}
 use Rattle.std.specs.Prelude.{if◌then◌else◌}
 use Rattle.std.proofs.lemmas.List.{take_all}
 use Rattle.std.specs.List.{flat_map}
@@ -27,7 +27,7 @@ use Rattle.elab_block.specs.Standing.{AreLeavesOf, IsLeafOf, Lacks, AreApart, Ar
 use Rattle.elab_block.specs.Runs.{AreSet, Runs}
 use Rattle.elab_step.specs.Solving.{alone, taking, driven, settled, solved, processes, drivers_of, ArePlain, AreDistinct}
 use Rattle.elab_step.specs.Asked.{at_rest}
-use Rattle.elab_step.specs.Boards.{IsBoard, IsBegun, AreBegun, Shows, Follows, statements, statement_at, picked, node_at, name_of}
+use Rattle.elab_step.specs.Boards.{IsBoard, IsBegun, AreBegun, Shows, Follows, statements, statement_at, picked, node_at, name_of, names_of, ArePlacesOf}
 use Rattle.elab_step.proofs.Solving.{taken, kept}
 use Rattle.elab_step.proofs.Fitting.{one_entry}
 
@@ -261,3 +261,272 @@ pub signal_among : (gs : List Signal) (i : ℕ) (g u : Signal) → i < length gs
 signal_among [] i g u l e = absurd (omega arith)
 signal_among (h ∷ gs) zero g u l e = inl (sym e)
 signal_among (h ∷ gs) (suc i) g u l e = inr (signal_among gs i g u (omega arith) e)
+
+-- ---- what runs leave
+
+same_leaves : (gs : List Signal) (ls ms : List Leaf) → declared ms ≡ declared ls → AreLeavesOf gs ls → AreLeavesOf gs ms
+same_leaves [] [] [] e h = tt
+same_leaves [] [] (m ∷ ms) e h = cc
+same_leaves [] (l ∷ ls) ms e h = absurd h
+same_leaves (g ∷ gs) [] ms e h = absurd h
+same_leaves (g ∷ gs) (l ∷ ls) [] e h = cc
+same_leaves (g ∷ gs) (l ∷ ls) (m ∷ ms) e h =
+    let k : entry_of m 0 ≡ entry_of l 0 = cc in
+    let t : declared ms ≡ declared ls = cc in (
+      record {
+        name = ap (λ (z : Entry). z.name) k ∙ h.0.name;
+        offset = ap (λ (z : Entry). z.offset) k ∙ h.0.offset;
+        width = ap (λ (z : Entry). z.width) k ∙ h.0.width;
+        low = ap (λ (z : Entry). z.low) k ∙ h.0.low;
+        signed = ap (λ (z : Entry). z.signed) k ∙ h.0.signed;
+        depth = h.0.depth;
+      },
+      same_leaves gs ls ms t h.1,
+    )
+
+pub board_after : (gs : List Signal) (ls ms : List Leaf) (a b : List Node) → IsBoard gs ls a → declared ms ≡ declared ls → AreSet None ms b → IsBoard gs ms b
+board_after gs ls ms a b h e set = record { leaves = same_leaves gs ls ms e h.leaves; ready = set.ready; apart = set.apart }
+
+pub same_long : (ls ms : List Leaf) → declared ms ≡ declared ls → length ms ≡ length ls
+same_long [] [] e = refl
+same_long [] (m ∷ ms) e = cc
+same_long (l ∷ ls) [] e = cc
+same_long (l ∷ ls) (m ∷ ms) e = let t : declared ms ≡ declared ls = cc in ap suc (same_long ls ms t)
+
+pub runs_show : (gs : List Signal) (k : Stmt) (ls ms : List Leaf) (a b : List Node) → IsBoard gs ls a → Runs None (λ hs. run true (alone hs) k) ls a ms b → Shows (λ c. run true (alone gs) k c c) ls a ms b
+runs_show gs k ls ms a b h r e c s = r gs e c c h.leaves tt s
+
+-- ---- statements by their places
+
+abbrev assign_stmt : Assign → Stmt
+assign_stmt a = s.Blocking a.left a.right
+
+at_assign : (as' : List Assign) (rest : List Stmt) (i : ℕ) (a u : Assign) → i < length as' → a ≡ get_or as' i u → statement_at (map assign_stmt as' ++ rest) i ≡ assign_stmt a
+at_assign [] rest i a u l e = absurd (omega arith)
+at_assign (x ∷ as') rest zero a u l e = ap assign_stmt (sym e)
+at_assign (x ∷ as') rest (suc i) a u l e = at_assign as' rest i a u (omega arith) e
+
+at_block : (as' : List Assign) (ks : List Always) (i : ℕ) (k u : Always) → i < length ks → k ≡ get_or ks i u → statement_at (map assign_stmt as' ++ map (λ (z : Always). z.body) ks) (length as' + i) ≡ k.body
+at_block [] ks i k u l e = let z : 0 + i ≡ i = omega arith in ap (λ n. statement_at (map (λ (z : Always). z.body) ks) n) z ∙ here ks i l e
+  where
+    here : (ks : List Always) (i : ℕ) → i < length ks → k ≡ get_or ks i u → statement_at (map (λ (z : Always). z.body) ks) i ≡ k.body
+    here [] i l e = absurd (omega arith)
+    here (x ∷ ks) zero l e = ap (λ (z : Always). z.body) (sym e)
+    here (x ∷ ks) (suc i) l e = here ks i (omega arith) e
+at_block (x ∷ as') ks i k u l e =
+    let z : length (x ∷ as') + i ≡ suc (length as' + i) = omega arith in
+    ap (λ n. statement_at (map assign_stmt (x ∷ as') ++ map (λ (z : Always). z.body) ks) n) z ∙ at_block as' ks i k u l e
+
+pub assign_at : (f : Flat) (i : ℕ) (a u : Assign) → i < length f.assigns → a ≡ get_or f.assigns i u → assign_stmt a ≡ statement_at (statements f) i
+assign_at f i a u l e = sym (at_assign f.assigns (map (λ (z : Always). z.body) f.blocks) i a u l e)
+
+pub block_at : (f : Flat) (i : ℕ) (k u : Always) → i < length f.blocks → k ≡ get_or f.blocks i u → k.body ≡ statement_at (statements f) (length f.assigns + i)
+block_at f i k u l e = sym (at_block f.assigns f.blocks i k u l e)
+
+pub shows_at : (gs : List Signal) (j k : Stmt) (ls ms : List Leaf) (a b : List Node) → j ≡ k → Shows (λ c. run true (alone gs) j c c) ls a ms b → Shows (λ c. run true (alone gs) k c c) ls a ms b
+shows_at gs j k ls ms a b e h = let P : Stmt → Type 0 = λ z. Shows (λ c. run true (alone gs) z c c) ls a ms b in subst P e h
+
+pub item_among : {X : Type 0} (xs : List X) (i : ℕ) (x u : X) → i < length xs → x ≡ get_or xs i u → Among xs x
+item_among [] i x u l e = absurd (omega arith)
+item_among (y ∷ xs) zero x u l e = inl (sym e)
+item_among (y ∷ xs) (suc i) x u l e = inr (item_among xs i x u (omega arith) e)
+
+-- ---- nodes taken and given back
+
+nodes_push : (ls : List Leaf) (l : Leaf) → nodes_of (ls ++ l ∷ []) ≡ nodes_of ls ++ l.node ∷ []
+nodes_push [] l = refl
+nodes_push (x ∷ ls) l = ap (λ r. x.node ∷ r) (nodes_push ls l)
+
+pub nodes_next : (ls : List Leaf) (i : ℕ) (l : Leaf) (is js : List ℕ) → i < length ls → l ≡ get_or ls i l → is ≡ nodes_of (take i ls) → js ≡ is ++ l.node ∷ [] → js ≡ nodes_of (take (i + 1) ls)
+nodes_next ls i l is js lt e h p = p ∙ ap (λ r. r ++ l.node ∷ []) h ∙ sym (nodes_push (take i ls) l) ∙ ap nodes_of (sym (take_next ls i l l lt e))
+
+pub nodes_all : (ls : List Leaf) (i : ℕ) (is : List ℕ) → length ls ≤ i → is ≡ nodes_of (take i ls) → is ≡ nodes_of ls
+nodes_all ls i is le h = h ∙ ap nodes_of (take_all i ls le)
+
+pub with_none : (ls : List Leaf) → ls ≡ with_nodes ls []
+with_none [] = refl
+with_none (l ∷ ls) = refl
+
+pub with_next : (ls ms : List Leaf) (is : List ℕ) (i n : ℕ) → i < length ls → i < length is → n ≡ get_or is i 0 → ms ≡ with_nodes ls (take i is) → with_node ms i n ≡ with_nodes ls (take (i + 1) is)
+with_next ls ms is i n lt in' e h = let k : suc i ≡ i + 1 = omega arith in ap (λ r. with_node r i n) h ∙ next ls is i lt in' e ∙ ap (λ m. with_nodes ls (take m is)) k
+  where
+    next : (ls : List Leaf) (is : List ℕ) (i : ℕ) → i < length ls → i < length is → n ≡ get_or is i 0 → with_node (with_nodes ls (take i is)) i n ≡ with_nodes ls (take (suc i) is)
+    next [] is i lt in' e = absurd (omega arith)
+    next (l ∷ ls) [] i lt in' e = absurd (omega arith)
+    next (l ∷ ls) (k ∷ is) zero lt in' e = ap (λ m. record l { node = m } ∷ ls) e ∙ ap (λ r. record l { node = k } ∷ r) (with_none ls)
+    next (l ∷ ls) (k ∷ is) (suc i) lt in' e = ap (λ r. record l { node = k } ∷ r) (next ls is i (omega arith) (omega arith) e)
+
+pub with_long : (ls : List Leaf) (is : List ℕ) → length (with_nodes ls is) ≡ length ls
+with_long [] is = refl
+with_long (l ∷ ls) [] = refl
+with_long (l ∷ ls) (i ∷ is) = ap suc (with_long ls is)
+
+pub node_long : (ls : List Leaf) (i n : ℕ) → length (with_node ls i n) ≡ length ls
+node_long [] i n = refl
+node_long (l ∷ ls) zero n = refl
+node_long (l ∷ ls) (suc i) n = ap suc (node_long ls i n)
+
+pub node_get : (ls : List Leaf) (i : ℕ) (l : Leaf) → i < length ls → l ≡ get_or ls i l → l.node ≡ node_at ls i
+node_get [] i l lt e = absurd (omega arith)
+node_get (m ∷ ls) zero l lt e = ap (λ (z : Leaf). z.node) e
+node_get (m ∷ ls) (suc i) l lt e = node_get ls i l (omega arith) e
+
+pub nodes_long : (ls : List Leaf) → length (nodes_of ls) ≡ length ls
+nodes_long [] = refl
+nodes_long (l ∷ ls) = ap suc (nodes_long ls)
+
+-- where a statement has been run, and all leaves but one have their nodes back
+pub driven_board : (gs : List Signal) (ls ms : List Leaf) (a b : List Node) (i : ℕ) → IsBoard gs ls a → IsBoard gs ms b → declared ms ≡ declared ls → Keeps a b → i < length ls
+    → IsBoard gs (with_node ls i (node_at ms i)) b
+driven_board gs ls ms a b i h k same keeps lt = record {
+  leaves = (board_at' gs ls i h.leaves);
+  ready = ready ls ms i same h.ready k.ready lt;
+  apart = apart ls i h.apart;
+}
+  where
+    board_at' : (gs : List Signal) (ls : List Leaf) (i : ℕ) → AreLeavesOf gs ls → AreLeavesOf gs (with_node ls i (node_at ms i))
+    board_at' gs ls i h = leaves gs ls i (node_at ms i) h
+      where
+        leaves : (gs : List Signal) (ls : List Leaf) (i n : ℕ) → AreLeavesOf gs ls → AreLeavesOf gs (with_node ls i n)
+        leaves [] [] i n h = tt
+        leaves [] (m ∷ ls) i n h = absurd h
+        leaves (g ∷ gs) [] i n h = absurd h
+        leaves (g ∷ gs) (m ∷ ls) zero n h = (record { name = h.0.name; offset = h.0.offset; width = h.0.width; low = h.0.low; signed = h.0.signed; depth = h.0.depth }, h.1)
+        leaves (g ∷ gs) (m ∷ ls) (suc i) n h = (h.0, leaves gs ls i n h.1)
+
+    ready : (ls ms : List Leaf) (i : ℕ) → declared ms ≡ declared ls → AreReady ls a → AreReady ms b → i < length ls → AreReady (with_node ls i (node_at ms i)) b
+    ready [] ms i e r q lt = tt
+    ready (l ∷ ls) [] i e r q lt = cc
+    ready (l ∷ ls) (m ∷ ms) zero e r q lt =
+        let w : entry_of m 0 ≡ entry_of l 0 = cc in
+        (r.0, subst (λ n. IsNode b m.node n) (ap (λ (z : Entry). z.width) w) q.1, ready_kept ls a b keeps r.2)
+    ready (l ∷ ls) (m ∷ ms) (suc i) e r q lt =
+        let t : declared ms ≡ declared ls = cc in
+        (r.0, node_kept a b l.node l.width keeps r.1, ready ls ms i t r.2 q.2 (omega arith))
+
+    lacks : (x : Name) (ls : List Leaf) (i n : ℕ) → Lacks x ls → Lacks x (with_node ls i n)
+    lacks x [] i n h = tt
+    lacks x (m ∷ ls) zero n h = h
+    lacks x (m ∷ ls) (suc i) n h = (h.0, lacks x ls i n h.1)
+
+    apart : (ls : List Leaf) (i : ℕ) → AreApart ls → AreApart (with_node ls i (node_at ms i))
+    apart ls i h = all ls i (node_at ms i) h
+      where
+        all : (ls : List Leaf) (i n : ℕ) → AreApart ls → AreApart (with_node ls i n)
+        all [] i n h = tt
+        all (m ∷ ls) zero n h = h
+        all (m ∷ ls) (suc i) n h = (lacks m.name ls i n h.0, all ls i n h.1)
+
+-- ---- a net, statement after statement
+
+pub record Settling (f : Flat) (all : List Stmt) (x : Name) (rest : List Stmt) (ls : List Leaf) (a : List Node) (ms : List Leaf) (b : List Node) : Type 0 where
+  pub keeps : Keeps a b
+  pub board : IsBoard f.signals ms b
+  pub long : length ms ≡ length ls
+  pub follows : Follows (settled (flat_place f) all x) (driven (flat_place f) rest x) ls a ms b
+
+pub settling_start : (f : Flat) (all : List Stmt) (ls : List Leaf) (a b : List Node) (i n : ℕ) (l : Leaf) → IsBoard f.signals ls a → Keeps a b → i < length ls → l ≡ get_or ls i l → IsNode b n l.width → ((e : Naming) → number_at e b n ≡ 0)
+    → Settling f all (name_of f.signals i) all ls a (with_node ls i n) b
+settling_start f all ls a b i n l h k lt g node z = record {
+  keeps = k;
+  board = board_at f.signals ls a b i n l h k lt g node;
+  long = node_long ls i n;
+  follows = follows_next (settled (flat_place f) all (name_of f.signals i)) (driven (flat_place f) all (name_of f.signals i)) (taking (name_of f.signals i) (λ y. 0)) ls ls (with_node ls i n) a a b
+      (λ e c s. (c, s, refl)) (zero_shows f.signals ls a b i n h k lt z);
+}
+
+pub settling_next : (f : Flat) (all : List Stmt) (x : Name) (k : Stmt) (rest : List Stmt) (ls ms ks : List Leaf) (a b d : List Node) → Settling f all x (k ∷ rest) ls a ms b → Keeps b d → length ks ≡ length ms → IsBoard f.signals ks d
+    → Shows (λ c. taking x (run true (flat_place f) k c c) c) ms b ks d → Settling f all x rest ls a ks d
+settling_next f all x k rest ls ms ks a b d h keeps long board shows = record {
+  keeps = keeps_then a b d h.keeps keeps;
+  board = board;
+  long = long ∙ h.long;
+  follows = follows_next (settled (flat_place f) all x) (driven (flat_place f) rest x) (λ c. taking x (run true (flat_place f) k c c) c) ls ms ks a b d h.follows shows;
+}
+
+pub settling_end : (f : Flat) (all : List Stmt) (x : Name) (ls ms : List Leaf) (a b : List Node) → Settling f all x [] ls a ms b → Shows (settled (flat_place f) all x) ls a ms b
+settling_end f all x ls ms a b h = follows_end (settled (flat_place f) all x) ls ms a b h.follows
+
+-- what is left of a list of places
+pub picked_at : (ks : List Stmt) (is : List ℕ) (i n u : ℕ) → i < length is → n ≡ get_or is i u → picked ks (drop i is) ≡ statement_at ks n ∷ picked ks (drop (i + 1) is)
+picked_at ks is i n u lt e = let k : i + 1 ≡ suc i = omega arith in next is i lt e ∙ ap (λ z. statement_at ks n ∷ picked ks (drop z is)) (sym k)
+  where
+    next : (is : List ℕ) (i : ℕ) → i < length is → n ≡ get_or is i u → picked ks (drop i is) ≡ statement_at ks n ∷ picked ks (drop (suc i) is)
+    next [] i lt e = absurd (omega arith)
+    next (m ∷ is) zero lt e = ap (λ z. statement_at ks z ∷ picked ks is) (sym e)
+    next (m ∷ is) (suc i) lt e = next is i (omega arith) e
+
+pub picked_all : (ks : List Stmt) (is : List ℕ) (i : ℕ) → length is ≤ i → picked ks (drop i is) ≡ []
+picked_all ks [] zero l = refl
+picked_all ks [] (suc i) l = refl
+picked_all ks (n ∷ is) zero l = absurd (omega arith)
+picked_all ks (n ∷ is) (suc i) l = picked_all ks is i (omega arith)
+
+pub leaf_wide : (ls : List Leaf) (ns : List Node) (i : ℕ) (l : Leaf) → AreReady ls ns → i < length ls → l ≡ get_or ls i l → IsLength l.width
+leaf_wide [] ns i l r lt e = absurd (omega arith)
+leaf_wide (m ∷ ls) ns zero l r lt e = subst (λ (z : Leaf). IsLength z.width) (sym e) r.0
+leaf_wide (m ∷ ls) ns (suc i) l r lt e = leaf_wide ls ns i l r.2 (omega arith) e
+
+pub number_among : (is : List ℕ) (i u : ℕ) → i < length is → Among is (get_or is i u)
+number_among [] i u l = absurd (omega arith)
+number_among (n ∷ is) zero u l = inl refl
+number_among (n ∷ is) (suc i) u l = inr (number_among is i u (omega arith))
+
+-- ---- all nets
+
+pub statements_long : (f : Flat) → length (statements f) ≡ length f.assigns + length f.blocks
+statements_long f = length-append (map assign_stmt f.assigns) (map (λ (z : Always). z.body) f.blocks) ∙ (λ r. long assign_stmt f.assigns r + long (λ (z : Always). z.body) f.blocks r)
+  where
+    long : {X Y : Type 0} (g : X → Y) (xs : List X) → length (map g xs) ≡ length xs
+    long g [] = refl
+    long g (x ∷ xs) = ap suc (long g xs)
+
+pub places_long : (f : Flat) (gs : List Signal) (vs : List (Vec ℕ Global)) → ArePlacesOf f gs vs → length vs ≡ length gs
+places_long f [] [] h = refl
+places_long f [] (v ∷ vs) h = absurd h
+places_long f (g ∷ gs) [] h = absurd h
+places_long f (g ∷ gs) (v ∷ vs) h = ap suc (places_long f gs vs h.2)
+
+pub places_at : (f : Flat) (gs : List Signal) (vs : List (Vec ℕ Global)) (i : ℕ) (v u : Vec ℕ Global) → ArePlacesOf f gs vs → i < length gs → v ≡ get_or vs i u
+    → ((k : ℕ) → Among v.items k → k < length (statements f)) × (picked (statements f) v.items ≡ drivers_of (processes f) (name_of gs i))
+places_at f [] vs i v u h l e = absurd (omega arith)
+places_at f (g ∷ gs) [] i v u h l e = absurd h
+places_at f (g ∷ gs) (w ∷ vs) zero v u h l e =
+    let P : Vec ℕ Global → Type 0 = λ z. ((k : ℕ) → Among z.items k → k < length (statements f)) × (picked (statements f) z.items ≡ drivers_of (processes f) g.name) in
+    subst P (sym e) (h.0, h.1)
+places_at f (g ∷ gs) (w ∷ vs) (suc i) v u h l e = places_at f gs vs i v u h.2 (omega arith) e
+
+pub record Solving (f : Flat) (all rest : List Name) (ls : List Leaf) (a : List Node) (ms : List Leaf) (b : List Node) : Type 0 where
+  pub keeps : Keeps a b
+  pub board : IsBoard f.signals ms b
+  pub follows : Follows (solved (flat_place f) (processes f) all) (solved (flat_place f) (processes f) rest) ls a ms b
+
+pub solving_start : (f : Flat) (all : List Name) (ls : List Leaf) (a : List Node) → IsBoard f.signals ls a → Solving f all all ls a ls a
+solving_start f all ls a h = record { keeps = keeps_same a; board = h; follows = follows_start (solved (flat_place f) (processes f) all) ls a }
+
+pub solving_next : (f : Flat) (all : List Name) (x : Name) (rest : List Name) (js : List Stmt) (ls ms ks : List Leaf) (a b d : List Node) → Solving f all (x ∷ rest) ls a ms b → Keeps b d → IsBoard f.signals ks d → js ≡ drivers_of (processes f) x
+    → Shows (settled (flat_place f) js x) ms b ks d → Solving f all rest ls a ks d
+solving_next f all x rest js ls ms ks a b d h keeps board e shows =
+    let P : List Stmt → Type 0 = λ z. Shows (settled (flat_place f) z x) ms b ks d in
+    record {
+      keeps = keeps_then a b d h.keeps keeps;
+      board = board;
+      follows = follows_next (solved (flat_place f) (processes f) all) (solved (flat_place f) (processes f) rest) (settled (flat_place f) (drivers_of (processes f) x) x) ls ms ks a b d h.follows (subst P e shows);
+    }
+
+pub solving_end : (f : Flat) (all : List Name) (ls ms : List Leaf) (a b : List Node) → Solving f all [] ls a ms b → Shows (solved (flat_place f) (processes f) all) ls a ms b
+solving_end f all ls ms a b h = follows_end (solved (flat_place f) (processes f) all) ls ms a b h.follows
+
+pub names_at : (gs : List Signal) (is : List ℕ) (i n u : ℕ) → i < length is → n ≡ get_or is i u → names_of gs (drop i is) ≡ name_of gs n ∷ names_of gs (drop (i + 1) is)
+names_at gs is i n u lt e = let k : i + 1 ≡ suc i = omega arith in next is i lt e ∙ ap (λ z. name_of gs n ∷ names_of gs (drop z is)) (sym k)
+  where
+    next : (is : List ℕ) (i : ℕ) → i < length is → n ≡ get_or is i u → names_of gs (drop i is) ≡ name_of gs n ∷ names_of gs (drop (suc i) is)
+    next [] i lt e = absurd (omega arith)
+    next (m ∷ is) zero lt e = ap (λ z. name_of gs z ∷ names_of gs is) (sym e)
+    next (m ∷ is) (suc i) lt e = next is i (omega arith) e
+
+pub names_all : (gs : List Signal) (is : List ℕ) (i : ℕ) → length is ≤ i → names_of gs (drop i is) ≡ []
+names_all gs [] zero l = refl
+names_all gs [] (suc i) l = refl
+names_all gs (n ∷ is) zero l = absurd (omega arith)
+names_all gs (n ∷ is) (suc i) l = names_all gs is i (omega arith)

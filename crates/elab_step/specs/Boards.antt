@@ -92,3 +92,6 @@ pub record IsSolved (f : Flat) (xs : List Name) (d : Parts) : Type 0 where
   pub register : (r : Register) → Among d.registers r → IsRegister f r.name × IsNode d.nodes r.next r.width
       × ((c : Cycle) → Fits f.signals c → let now = solved (flat_place f) (processes f) xs (unset xs c) in number_at (naming_of c) d.nodes r.next ≡ after_edge (flat_place f) (clocked f.blocks) now now r.name)
   pub each_register : (x : Name) → IsRegister f x → (r : Register) × Among d.registers r × (r.name ≡ x)
+
+abbrev pub names_of : List Signal → List ℕ → List Name
+names_of gs is = map (name_of gs) is

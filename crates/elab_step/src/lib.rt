@@ -1,5 +1,6 @@
 //! Modules without instances as functions of words.
 #![tactic(auto)]
 
+mod nets;
 mod nodes;
 mod start;
