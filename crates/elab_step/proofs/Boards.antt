@@ -20,14 +20,14 @@ use Rattle.word_dag.specs.Adding.{Keeps, IsAt}
 use Rattle.vlog_tree.specs.Valuation.{IsLength}
 use Rattle.word_design.specs.Designs.{free}
 use Rattle.elab_node.specs.declared.leaves.Leaf.{Leaf}
-use Rattle.elab_node.specs.Leaves.{entry_of, declared, AreReady, with_node}
+use Rattle.elab_node.specs.Leaves.{entry_of, declared, AreReady, AreWide, with_node}
 use Rattle.elab_node.specs.Nodes.{IsNode, number_at}
 use Rattle.elab_node.proofs.Kept.{node_kept, number_kept, ready_kept, keeps_then, keeps_same}
 use Rattle.elab_block.specs.Standing.{AreLeavesOf, IsLeafOf, Lacks, AreApart, AreShown, nodes_of, with_nodes}
 use Rattle.elab_block.specs.Runs.{AreSet, Runs}
 use Rattle.elab_step.specs.Solving.{alone, taking, driven, settled, solved, processes, drivers_of, ArePlain, AreDistinct}
 use Rattle.elab_step.specs.Asked.{at_rest}
-use Rattle.elab_step.specs.Boards.{IsBoard, IsBegun, AreBegun, Shows, Follows, statements, statement_at, picked, node_at, name_of, names_of, ArePlacesOf}
+use Rattle.elab_step.specs.Boards.{IsBoard, IsBegun, AreBegun, Shows, Follows, statements, statement_at, picked, node_at, name_of, names_of, list_at, ArePlacesOf}
 use Rattle.elab_step.proofs.Solving.{taken, kept}
 use Rattle.elab_step.proofs.Fitting.{one_entry}
 
@@ -184,7 +184,7 @@ at_kept a b i n k h =
     let l = h.0 in
     (omega (arith, m, l), subst (λ z. n ≡ get_or z i n) (sym k.more.1) (h.1 ∙ sym (get_or-append_left a k.more.0 i n l)))
 
-begun_kept : (a b : List Node) (gs : List Signal) (ts : List Bool) (ls : List Leaf) → Keeps a b → AreReady ls a → AreBegun a gs ts ls → AreBegun b gs ts ls
+pub begun_kept : (a b : List Node) (gs : List Signal) (ts : List Bool) (ls : List Leaf) → Keeps a b → AreReady ls a → AreBegun a gs ts ls → AreBegun b gs ts ls
 begun_kept a b [] [] [] k r h = tt
 begun_kept a b [] [] (l ∷ ls) k r h = absurd h
 begun_kept a b [] (t ∷ ts) ls k r h = absurd h
@@ -264,7 +264,7 @@ signal_among (h ∷ gs) (suc i) g u l e = inr (signal_among gs i g u (omega arit
 
 -- ---- what runs leave
 
-same_leaves : (gs : List Signal) (ls ms : List Leaf) → declared ms ≡ declared ls → AreLeavesOf gs ls → AreLeavesOf gs ms
+pub same_leaves : (gs : List Signal) (ls ms : List Leaf) → declared ms ≡ declared ls → AreLeavesOf gs ls → AreLeavesOf gs ms
 same_leaves [] [] [] e h = tt
 same_leaves [] [] (m ∷ ms) e h = cc
 same_leaves [] (l ∷ ls) ms e h = absurd h
@@ -487,14 +487,18 @@ places_long f [] (v ∷ vs) h = absurd h
 places_long f (g ∷ gs) [] h = absurd h
 places_long f (g ∷ gs) (v ∷ vs) h = ap suc (places_long f gs vs h.2)
 
-pub places_at : (f : Flat) (gs : List Signal) (vs : List (Vec ℕ Global)) (i : ℕ) (v u : Vec ℕ Global) → ArePlacesOf f gs vs → i < length gs → v ≡ get_or vs i u
-    → ((k : ℕ) → Among v.items k → k < length (statements f)) × (picked (statements f) v.items ≡ drivers_of (processes f) (name_of gs i))
-places_at f [] vs i v u h l e = absurd (omega arith)
-places_at f (g ∷ gs) [] i v u h l e = absurd h
-places_at f (g ∷ gs) (w ∷ vs) zero v u h l e =
-    let P : Vec ℕ Global → Type 0 = λ z. ((k : ℕ) → Among z.items k → k < length (statements f)) × (picked (statements f) z.items ≡ drivers_of (processes f) g.name) in
-    subst P (sym e) (h.0, h.1)
-places_at f (g ∷ gs) (w ∷ vs) (suc i) v u h l e = places_at f gs vs i v u h.2 (omega arith) e
+pub places_at : (f : Flat) (gs : List Signal) (vs : List (Vec ℕ Global)) (i : ℕ) → ArePlacesOf f gs vs → i < length vs
+    → ((k : ℕ) → Among (list_at vs i) k → k < length (statements f)) × (picked (statements f) (list_at vs i) ≡ drivers_of (processes f) (name_of gs i))
+places_at f [] [] i h l = absurd (omega arith)
+places_at f [] (w ∷ vs) i h l = absurd h
+places_at f (g ∷ gs) [] i h l = absurd h
+places_at f (g ∷ gs) (w ∷ vs) zero h l = (h.0, h.1)
+places_at f (g ∷ gs) (w ∷ vs) (suc i) h l = places_at f gs vs i h.2 (omega arith)
+
+pub list_get : (vs : List (Vec ℕ Global)) (i : ℕ) (u : Vec ℕ Global) → i < length vs → list_at vs i ≡ (get_or vs i u).items
+list_get [] i u l = absurd (omega arith)
+list_get (v ∷ vs) zero u l = refl
+list_get (v ∷ vs) (suc i) u l = list_get vs i u (omega arith)
 
 pub record Solving (f : Flat) (all rest : List Name) (ls : List Leaf) (a : List Node) (ms : List Leaf) (b : List Node) : Type 0 where
   pub keeps : Keeps a b
@@ -530,3 +534,11 @@ names_all gs [] zero l = refl
 names_all gs [] (suc i) l = refl
 names_all gs (n ∷ is) zero l = absurd (omega arith)
 names_all gs (n ∷ is) (suc i) l = names_all gs is i (omega arith)
+
+pub wide_at : (ls : List Leaf) (i : ℕ) (l m : Leaf) → AreWide ls → i < length ls → l ≡ get_or ls i l → m ≡ l → IsLength m.width
+wide_at ls i l m r lt e q = subst (λ (z : Leaf). IsLength z.width) (sym q) (one ls i r lt e)
+  where
+    one : (ls : List Leaf) (i : ℕ) → AreWide ls → i < length ls → l ≡ get_or ls i l → IsLength l.width
+    one [] i r lt e = absurd (omega arith)
+    one (k ∷ ls) zero r lt e = subst (λ (z : Leaf). IsLength z.width) (sym e) r.0
+    one (k ∷ ls) (suc i) r lt e = one ls i r.1 (omega arith) e

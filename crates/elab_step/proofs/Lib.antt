@@ -1,8 +1,10 @@
-mod Solving
-mod Fitting
-mod Cycles
-mod Drivers
-mod Elaborating
-mod Texts
-mod Boards
-mod Runs
+pub mod Solving
+pub mod Fitting
+pub mod Cycles
+pub mod Drivers
+pub mod Elaborating
+pub mod Texts
+pub mod Boards
+pub mod Runs
+pub mod Edges
+pub mod Solutions

@@ -1,5 +1,5 @@
 -- Leaves of a module that show its cycles.
-use Rattle.std.specs.Prelude.{ℕ, zero, suc, ◌≡◌, ◌<◌, ◌%◌, ◌^◌, pos, Bool, true, false, if◌then◌else◌, List, [], ◌∷◌, ◌++◌, map, length}
+use Rattle.std.specs.Prelude.{ℕ, zero, suc, ◌≡◌, ◌<◌, ◌%◌, ◌^◌, pos, Bool, true, false, if◌then◌else◌, List, [], ◌∷◌, ◌++◌, map, length, Some}
 use Rattle.std.proofs.Common.{Vec, Global}
 use Rattle.vlog_tree.specs.declared.item.Assign.{Assign}
 use Rattle.vlog_tree.specs.declared.stmt.Stmt.{Stmt}
@@ -20,6 +20,7 @@ use Rattle.word_design.specs.Designs.{Parts, free, naming_of}
 use Rattle.elab_node.specs.Leaves.{AreReady}
 use Rattle.elab_node.specs.Nodes.{IsNode, number_at}
 use Rattle.elab_block.specs.Standing.{IsLeafOf, AreLeavesOf, AreApart, AreShown}
+use Rattle.elab_block.specs.Runs.{AreSet}
 use Rattle.elab_step.specs.Solving.{clocked, processes, drivers_of, after_edge, solved, Fits}
 
 -- a leaf for each signal, in their order, each with a node of its length
@@ -95,3 +96,22 @@ pub record IsSolved (f : Flat) (xs : List Name) (d : Parts) : Type 0 where
 
 abbrev pub names_of : List Signal → List ℕ → List Name
 names_of gs is = map (name_of gs) is
+
+-- the list of this place
+abbrev pub list_at : List (Vec ℕ Global) → ℕ → List ℕ
+list_at [] i = []
+list_at (v ∷ vs) zero = v.items
+list_at (v ∷ vs) (suc i) = list_at vs i
+
+-- the later leaves show what the clocked blocks make of the cycle that the earlier ones show
+abbrev pub ShowsEdge : Flat → List Leaf → List Node → List Leaf → List Node → Type 0
+ShowsEdge f ls a ms b = (e : Naming) (c : Cycle) → AreShown e a ls c → AreShown e b ms (after_edge (flat_place f) (clocked f.blocks) c c)
+
+-- leaves as they are begun, in the cycle that they are solved to, and after the edge that ends it
+pub record IsSolution (f : Flat) (xs : List Name) (nets : List Bool) (ns : List Node) (first now next : List Leaf) : Type 0 where
+  pub first_board : IsBoard f.signals first ns
+  pub begun : AreBegun ns f.signals nets first
+  pub board : IsBoard f.signals now ns
+  pub set : AreSet (Some now) next ns
+  pub shows : (e : Naming) (c : Cycle) → AreShown e ns first c → AreShown e ns now (solved (flat_place f) (processes f) xs c)
+  pub edge : (e : Naming) (c : Cycle) → AreShown e ns now c → AreShown e ns next (after_edge (flat_place f) (clocked f.blocks) c c)

@@ -9,7 +9,7 @@ ghost use Rattle.elab_node.specs.Nodes.{IsNode};
 ghost use Rattle.elab_block.specs.Standing.{nodes_of, with_nodes};
 ghost use Rattle.elab_step.specs.Solving.{taking, driven, settled, solved, processes};
 ghost use Rattle.elab_step.specs.Asked.{CanElaborate};
-ghost use Rattle.elab_step.specs.Boards.{IsBoard, Shows, statements, statement_at, picked, node_at, name_of, names_of, ArePlacesOf};
+ghost use Rattle.elab_step.specs.Boards.{IsBoard, Shows, statements, statement_at, picked, node_at, name_of, names_of, list_at, ArePlacesOf};
 
 use crate::nodes::zero;
 use elab_block::{assign, run};
@@ -163,6 +163,15 @@ fn settle(
     Ok(())
 }
 
+// The list of a net.
+#[tactic(auto, using(crate::proofs::Boards::list_get))]
+fn list_of(places: &[Vec<usize>], net: usize) -> &[usize]
+    requires { net < length places.now }
+    ensures { result.now ≡ list_at places.now net }
+{
+    &places[net]
+}
+
 /// Solves nets one after another, in an order of their places, each by the places of the statements that assign it. It is refused for want of
 /// memory alone, and then the leaves are half changed.
 pub fn solve_nets(
@@ -176,13 +185,13 @@ pub fn solve_nets(
     requires can { CanElaborate flat.now }
     requires board { IsBoard flat.now.signals state.old dag.old }
     requires places { ArePlacesOf flat.now flat.now.signals places.now }
-    requires order { (i : ℕ) → Among order.now i → i < length flat.now.signals }
+    requires order { (i : ℕ) → Among order.now i → i < length places.now }
     ensures keeps { Keeps dag.old dag.new }
     ensures board { IfOk result (λ u. IsBoard flat.now.signals state.new dag.new) }
     ensures shows { IfOk result (λ u. Shows (solved (flat_place flat.now) (processes flat.now) (names_of flat.now.signals order.now)) state.old dag.old state.new dag.new) }
 {
     for net in order {
-        settle(alloc, dag, flat, &places[*net], *net, state)?;
+        settle(alloc, dag, flat, list_of(places, *net), *net, state)?;
     }
     Ok(())
 }
