@@ -1,22 +1,20 @@
 -- The value of an expression is below 2 to the length that it is taken at.
-use Rattle.std.proofs.Common.{arith, ◌≡◌, ℕ, zero, suc, ◌+◌, ◌-◌, ◌*◌, ◌/◌, ◌%◌, ◌^◌, ◌<◌, ◌≤◌, max, min, Bool, true, false, List, [], ◌∷◌, sym, ap, ◌∙◌, refl, subst, ◌&&◌, ℤ, pos, negsuc}
-use Rattle.std.specs.Prelude.{nat_eq, nat_le, if◌then◌else◌, not, bit_and, bit_or, bit_xor, count_ones, int_lt, int_le}
+use Rattle.std.proofs.Common.{arith, ◌≡◌, ℕ, zero, suc, ◌+◌, ◌-◌, ◌*◌, ◌/◌, ◌^◌, ◌<◌, ◌≤◌, max, min, Bool, true, false, List, sym, ap, ◌∙◌, subst, ℤ, pos, negsuc}
+use Rattle.std.specs.Prelude.{nat_eq, if◌then◌else◌, bit_and}
 use Rattle.std.proofs.lemmas.Nat.{pow_pos, pow-add, and_le_l, or_lt, xor_lt}
 use Rattle.std.proofs.Math.Nat.{mod-lt, div-le_self, mul-le-mul_right, div-lt_iff_lt-mul}
 use Rattle.std.proofs.Math.Pow.{pow_mono}
 use Rattle.vlog_tree.specs.declared.expr.Binary.{Binary}
 use Rattle.vlog_tree.specs.declared.expr.Binary.TheVariants as b
-use Rattle.vlog_tree.specs.declared.expr.Cast.{Cast}
 use Rattle.vlog_tree.specs.declared.expr.Constant.{Constant}
 use Rattle.vlog_tree.specs.declared.expr.Expr.{Expr, Row_of-Expr, end_of-Expr, more_of-Expr}
 use Rattle.vlog_tree.specs.declared.expr.Expr.TheVariants as e
 use Rattle.vlog_tree.specs.declared.expr.Name.{Name as Read}
-use Rattle.vlog_tree.specs.declared.expr.Span.{Span}
 use Rattle.vlog_tree.specs.declared.expr.Unary.{Unary}
 use Rattle.vlog_tree.specs.declared.expr.Unary.TheVariants as u
 use Rattle.vlog_tree.specs.declared.valuation.Entry.{Entry}
 use Rattle.vlog_tree.specs.Valuation.{named, depth_of}
-use Rattle.vlog_tree.specs.Value.{Operand, operand_of, row_of, own, own_integer, natural, bit, is_negative, extend, integer, cut, vector, unary_of, binary_of, choice_of, cast_of, joined, copies, repeated, bit_of, bits_of, word_of, part_of, part_width}
+use Rattle.vlog_tree.specs.Value.{Operand, operand_of, row_of, own, own_integer, natural, bit, is_negative, extend, cut, unary_of, binary_of, joined, copies, bit_of, bits_of, word_of}
 use Rattle.flow_laws.proofs.Staying.{chosen}
 
 -- at each length that is not below its own
@@ -116,7 +114,7 @@ copies_bounded : (k : ℕ) (a : Operand) → Bounded a → Bounded (copies k a)
 copies_bounded zero a h n s l = pow_pos n
 copies_bounded (suc k) a h n s l = joined_bounded a (copies k a) h (copies_bounded k a h) n s l
 
-bits_bounded : (k : Constant) (i : ℤ) (m n : ℕ) → m ≤ n → bits_of k i m < 2 ^ n
+pub bits_bounded : (k : Constant) (i : ℤ) (m n : ℕ) → m ≤ n → bits_of k i m < 2 ^ n
 bits_bounded k i m n l = raised _ m n (mod-lt _ (pow_pos m)) l
 
 -- names have values of their lengths, and none is a memory's
@@ -146,6 +144,6 @@ module _ (v : List Entry) (m : AllFit v) where
         (right_fits (operand_of v a) (operand_of v c) (bounded a) (bounded c) n s l)
         (left_fits (operand_of v a) (operand_of v c) (bounded a) (bounded c) n s l)
 
-    row_bounded : {k : _} (row : Row_of-Expr k) → Bounded (row_of v row)
+    pub row_bounded : {k : _} (row : Row_of-Expr k) → Bounded (row_of v row)
     row_bounded end_of-Expr = λ n s l. pow_pos n
     row_bounded (more_of-Expr a rest) = joined_bounded (operand_of v a) (row_of v rest) (bounded a) (row_bounded rest)

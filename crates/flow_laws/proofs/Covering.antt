@@ -7,10 +7,10 @@ use Rattle.vlog_tree.specs.declared.expr.Expr.{Expr}
 use Rattle.vlog_tree.specs.declared.expr.Span.{Span}
 use Rattle.vlog_tree.specs.declared.stmt.Lval.{Lval, Row_of-Lval, end_of-Lval, more_of-Lval}
 use Rattle.vlog_tree.specs.declared.stmt.Lval.TheVariants as l
-use Rattle.vlog_tree.specs.Valuation.{named, depth_of}
+use Rattle.vlog_tree.specs.Valuation.{named}
 use Rattle.vlog_tree.specs.Value.{NamesOnly, operand_of, own_integer, part_width, part_low}
 use Rattle.vlog_runs.specs.declared.flat.Signal.{Signal}
-use Rattle.vlog_runs.specs.Places.{Name, Cycle, Among, Piece, read, pieces, row_pieces, bit_piece, word_piece}
+use Rattle.vlog_runs.specs.Places.{Name, Cycle, Among, read, pieces, row_pieces, bit_piece, word_piece}
 use Rattle.vlog_runs.specs.Blocks.{IsWithin, low_in, left_names, row_names, Drives, AnyDrives}
 use Rattle.flat_faults.specs.Texts.{names_in, numbers_in, row_numbers_in}
 use Rattle.elab_faults.specs.Paths.{Sets, AnySets, width_in}
@@ -40,16 +40,16 @@ module _ (gs : List Signal) (vectors : AreVectors gs) where
   mutual
     pub same_pieces : (c d : Cycle) (left : Lval) → ReadAlike (values gs c) (values gs d) (flat_map names_in (numbers_in left)) →
         pieces (place_over gs) c left ≡ pieces (place_over gs) d left
-    same_pieces c d (l.Name x) m = ap (λ n. record { name = x; size = n; from = pos 0; count = n } ∷ []) (read_shape gs c d x vectors).width
+    same_pieces c d (l.Name x) m = ap (λ n. record { name = x; size = n; from = pos 0; count = n } ∷ []) (read_shape gs c d x 0 vectors).width
     same_pieces c d (l.Select x a) m =
-        let s = read_shape gs c d x vectors in
+        let s = read_shape gs c d x 0 vectors in
         let o = same_operand (values gs c) (values gs d) a (first_of_two (values gs c) (values gs d) (names_in a) [] m) in
         select_is c x a ∙ ((λ r. record { name = x; size = s.width r; from = own_integer (o r) -ℤ pos (s.low r); count = 1 } ∷ []) ∙ sym (select_is d x a))
     same_pieces c d (l.Part x span a b) m =
-        let s = read_shape gs c d x vectors in
+        let s = read_shape gs c d x 0 vectors in
         let o = same_operand (values gs c) (values gs d) a (first_of_two (values gs c) (values gs d) (names_in a) (names_in b ++ []) m) in
         let q = same_operand (values gs c) (values gs d) b
-            (first_of_two (values gs c) (values gs d) (names_in b) [] (second_of_two (values gs c) (values gs d) (names_in a) (names_in b ++ []) m)) in
+        (first_of_two (values gs c) (values gs d) (names_in b) [] (second_of_two (values gs c) (values gs d) (names_in a) (names_in b ++ []) m)) in
         λ r. record {
           name = x;
           size = s.width r;

@@ -43,7 +43,7 @@ covers_right (q ∷ xs) ys x b h = inr (covers_right xs ys x b h)
 
 -- ---- which bits a piece has can be told
 
-within_or : (i : ℤ) (n b : ℕ) → IsWithin i n b ⊎ (IsWithin i n b → ⊥)
+pub within_or : (i : ℤ) (n b : ℕ) → IsWithin i n b ⊎ (IsWithin i n b → ⊥)
 within_or (pos a) n b =
     ⊎_elim (λ (l : b < a). inr (λ h. omega (arith, ints, l, h)))
     (λ (l : a ≤ b). ⊎_elim (λ (k : b < a + n). inl (omega (arith, ints, l, k), omega (arith, ints, l, k))) (λ (k : a + n ≤ b). inr (λ h. omega (arith, ints, k, h))) (less_or b (a + n)))

@@ -5,3 +5,8 @@ pub mod Staying
 pub mod Growing
 pub mod Shapes
 pub mod Bounds
+pub mod Cases
+pub mod Following
+pub mod Deciding
+pub mod Passing
+pub mod Walking

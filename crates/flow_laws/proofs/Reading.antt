@@ -1,11 +1,12 @@
 -- What names stand for in two cycles, and expressions that read the same.
-use Rattle.std.proofs.Common.{arith, ◌≡◌, ℕ, zero, suc, ◌+◌, ◌<◌, Bool, true, false, List, [], ◌∷◌, ◌++◌, Option, Some, None, sym, ap, ◌∙◌, refl, inl, inr, ⊎_elim, subst}
-use Rattle.std.specs.Prelude.{nat_eq, ◌&&◌, if◌then◌else◌, unwrap_or, IsTrue, pos, ◌-ℤ◌}
+use Rattle.std.proofs.Common.{arith, ◌≡◌, ℕ, zero, suc, ◌<◌, ◌^◌, Bool, true, false, List, [], ◌∷◌, ◌++◌, Option, Some, None, sym, ap, ◌∙◌, refl, inl, inr, ⊎_elim, subst}
+use Rattle.std.specs.Prelude.{nat_eq, ◌&&◌, if◌then◌else◌, unwrap_or, IsTrue}
 use Rattle.std.specs.Option.{option_map}
 use Rattle.std.specs.List.{flat_map}
 use Rattle.std.specs.Str.{bytes_eq}
 use Rattle.std.proofs.lemmas.Slice.Eq.{bytes_eq-Decides}
 use Rattle.std.proofs.Math.Dec.{eqb-zero-suc}
+use Rattle.std.proofs.lemmas.Nat.{pow_pos}
 use Rattle.vlog_tree.specs.declared.expr.Constant.{Constant}
 use Rattle.vlog_tree.specs.declared.expr.Expr.{Expr, Row_of-Expr, end_of-Expr, more_of-Expr}
 use Rattle.vlog_tree.specs.declared.expr.Expr.TheVariants as e
@@ -14,8 +15,8 @@ use Rattle.vlog_tree.specs.declared.valuation.Entry.{Entry}
 use Rattle.vlog_tree.specs.Valuation.{entry_at, meant, named, depth_of}
 use Rattle.vlog_tree.specs.Value.{operand_of, row_of, vector, bit_of, word_of, part_of, cast_of, unary_of, binary_of, choice_of, joined, repeated, NamesOnly, AllNamesOnly}
 use Rattle.vlog_runs.specs.declared.flat.Signal.{Signal}
-use Rattle.vlog_runs.specs.Places.{Name, Cycle, Among, entries_of, held_entry, valuation}
-use Rattle.vlog_runs.specs.Blocks.{signal_at, is_parameter, low_in}
+use Rattle.vlog_runs.specs.Places.{Name, Cycle, Among, entries_of, held_entry}
+use Rattle.vlog_runs.specs.Blocks.{signal_at, low_in}
 use Rattle.flat_faults.specs.Texts.{names_in, row_names_in}
 use Rattle.elab_faults.specs.Paths.{width_in}
 use Rattle.flat_laws.proofs.Lists.{bool_cases, append_left, append_right, among_append}
@@ -110,10 +111,29 @@ told_shape : (c d : Cycle) (o : Option Signal) → Shaped (told c o) (told d o)
 told_shape c d None = record { width = refl; low = refl; signed = refl }
 told_shape c d (Some g) = record { width = refl; low = refl; signed = refl }
 
-pub read_shape : (gs : List Signal) (c d : Cycle) (x : Name) → AreVectors gs → Shaped (named (values gs c) (record { text = x; offset = 0 })) (named (values gs d) (record { text = x; offset = 0 }))
-read_shape gs c d x h =
+shape_now : (gs : List Signal) (c d : Cycle) (x : Name) → AreVectors gs → Shaped (named (values gs c) (record { text = x; offset = 0 })) (named (values gs d) (record { text = x; offset = 0 }))
+shape_now gs c d x h =
     subst (λ (k : Constant). Shaped k (named (values gs d) (record { text = x; offset = 0 }))) (sym (named_is gs c x (record { text = x; offset = 0 }) h refl))
     (subst (λ (k : Constant). Shaped (told c (signal_at gs x)) k) (sym (named_is gs d x (record { text = x; offset = 0 }) h refl)) (told_shape c d (signal_at gs x)))
+
+-- a name read in another row stands for nothing
+unnamed : (gs : List Signal) (c : Cycle) (x : Name) (j : ℕ) → AreVectors gs → named (values gs c) (record { text = x; offset = suc j }) ≡ record { width = 1; low = 0; signed = false; value = 0 }
+unnamed gs c x j h = ap (λ (o : Option Entry). unwrap_or (option_map meant o) (record { width = 1; low = 0; signed = false; value = 0 })) (later gs c x j h)
+
+pub read_shape : (gs : List Signal) (c d : Cycle) (x : Name) (j : ℕ) → AreVectors gs → Shaped (named (values gs c) (record { text = x; offset = j })) (named (values gs d) (record { text = x; offset = j }))
+read_shape gs c d x zero h = shape_now gs c d x h
+read_shape gs c d x (suc j) h =
+    let k : named (values gs c) (record { text = x; offset = suc j }) ≡ named (values gs d) (record { text = x; offset = suc j }) = unnamed gs c x j h ∙ sym (unnamed gs d x j h) in
+    record { width = ap (λ (i : Constant). i.width) k; low = ap (λ (i : Constant). i.low) k; signed = ap (λ (i : Constant). i.signed) k }
+
+told_fits : (c : Cycle) (o : Option Signal) → ((g : Signal) → o ≡ Some g → c g.name < 2 ^ g.width) → (told c o).value < 2 ^ (told c o).width
+told_fits c None h = pow_pos 1
+told_fits c (Some g) h = h g refl
+
+pub named_fits : (gs : List Signal) (c : Cycle) (x : Name) (j : ℕ) → AreVectors gs → ((g : Signal) → signal_at gs x ≡ Some g → c g.name < 2 ^ g.width) →
+    (named (values gs c) (record { text = x; offset = j })).value < 2 ^ (named (values gs c) (record { text = x; offset = j })).width
+named_fits gs c x zero h f = subst (λ (k : Constant). k.value < 2 ^ k.width) (sym (named_is gs c x (record { text = x; offset = 0 }) h refl)) (told_fits c (signal_at gs x) f)
+named_fits gs c x (suc j) h f = subst (λ (k : Constant). k.value < 2 ^ k.width) (sym (unnamed gs c x j h)) (pow_pos 1)
 
 told_low : (c : Cycle) (o : Option Signal) → (told c o).low ≡ unwrap_or (option_map (λ (g : Signal). g.low) o) 0
 told_low c None = refl

@@ -1,9 +1,6 @@
 -- Lengths and signs that don't depend on values, and values below their lengths.
-use Rattle.std.proofs.Common.{arith, ◌≡◌, ℕ, zero, suc, ◌+◌, ◌-◌, ◌*◌, ◌/◌, ◌%◌, ◌^◌, ◌<◌, ◌≤◌, max, min, Bool, true, false, List, [], ◌∷◌, sym, ap, ◌∙◌, refl, subst, ◌&&◌, ℤ, pos, negsuc}
-use Rattle.std.specs.Prelude.{nat_eq, nat_le, if◌then◌else◌, not, bit_and, bit_or, bit_xor, count_ones, int_lt, int_le}
-use Rattle.std.proofs.lemmas.Nat.{pow_pos, pow-add, or_lt, xor_lt}
-use Rattle.std.proofs.Math.Nat.{mod-lt}
-use Rattle.std.proofs.Math.Pow.{pow_mono}
+use Rattle.std.proofs.Common.{◌≡◌, ℕ, zero, suc, ◌+◌, max, List, sym, ap, ◌∙◌, refl, subst, ◌&&◌}
+use Rattle.std.specs.Prelude.{nat_eq, if◌then◌else◌}
 use Rattle.vlog_tree.specs.declared.expr.Binary.{Binary}
 use Rattle.vlog_tree.specs.declared.expr.Binary.TheVariants as b
 use Rattle.vlog_tree.specs.declared.expr.Constant.{Constant}
@@ -16,9 +13,8 @@ use Rattle.vlog_tree.specs.declared.expr.Unary.{Unary}
 use Rattle.vlog_tree.specs.declared.expr.Unary.TheVariants as u
 use Rattle.vlog_tree.specs.declared.valuation.Entry.{Entry}
 use Rattle.vlog_tree.specs.Valuation.{named, depth_of}
-use Rattle.vlog_tree.specs.Value.{Operand, operand_of, row_of, own, own_integer, natural, bit, is_negative, extend, integer, cut, unary_of, binary_of, choice_of, cast_of, joined, copies, repeated, bit_of, word_of, part_of, part_width, NamesOnly, HasConstantParts, AllHaveConstantParts, IsPartConstant}
-use Rattle.flow_laws.proofs.Staying.{chosen}
-use Rattle.flow_laws.proofs.Reading.{nothing, no_names, same_operand, ReadAlike}
+use Rattle.vlog_tree.specs.Value.{Operand, operand_of, row_of, own_integer, natural, unary_of, binary_of, copies, bit_of, word_of, part_width, NamesOnly, HasConstantParts, AllHaveConstantParts, IsPartConstant}
+use Rattle.flow_laws.proofs.Reading.{nothing, no_names, same_operand}
 
 -- ---- lengths and signs
 

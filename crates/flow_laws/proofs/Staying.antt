@@ -1,5 +1,5 @@
 -- Bits that a block leaves, and bits that are apart.
-use Rattle.std.proofs.Common.{◌≡◌, ℕ, ◌+◌, ◌<◌, max, Bool, true, false, List, [], ◌∷◌, ◌++◌, sym, ap, ◌∙◌, refl, inl, inr, ⊎_elim, ◌%◌, ◌^◌}
+use Rattle.std.proofs.Common.{◌≡◌, ℕ, max, Bool, true, false, List, ◌∷◌, ◌++◌, ap, ◌∙◌, refl, inl, ◌%◌, ◌^◌}
 use Rattle.std.specs.Prelude.{if◌then◌else◌}
 use Rattle.std.specs.Int.{bit_at}
 use Rattle.std.specs.List.{flat_map}
@@ -11,9 +11,8 @@ use Rattle.vlog_tree.specs.declared.stmt.Stmt.TheVariants as s
 use Rattle.vlog_tree.specs.Value.{assigned}
 use Rattle.vlog_runs.specs.declared.flat.Signal.{Signal}
 use Rattle.vlog_runs.specs.Places.{Name, Cycle, Among, Place, valuation, pieces, total, give, store}
-use Rattle.vlog_runs.specs.Blocks.{labels_in, case_width, case_sign, any_matches, is_default, seen, is_false, run, run_row, run_items, run_default, lefts, row_lefts, case_lefts, Drives}
+use Rattle.vlog_runs.specs.Blocks.{labels_in, case_width, case_sign, any_matches, is_default, seen, is_false, run, run_row, run_items, run_default, lefts, row_lefts, case_lefts}
 use Rattle.flat_faults.specs.Texts.{names_in, numbers_in}
-use Rattle.elab_faults.specs.Paths.{Sets, width_in}
 use Rattle.flat_laws.proofs.Lists.{append_left, append_right}
 use Rattle.flow_laws.specs.Laws.{place_over, AreVectors, StoreStays, BitsStay, StoreApart, BitsApart, StoreFollows}
 use Rattle.flow_laws.proofs.Giving.{Writes, AnyCovers, give_apart, give_given, give_kept}

@@ -1,5 +1,5 @@
 -- What the bits of a block depend on, over all its paths in one pass through its text (IEEE 1364-2005, sections 9.4, 9.5 and 9.7.5; flow of
--- data as in Aho, Lam, Sethi and Ullman, Compilers, 2nd edition, section 9.2).
+-- data as in Aho, Lam, Sethi and Ullman, Compilers: Principles, Techniques, and Tools, 2nd edition, section 9.2).
 use Rattle.std.specs.Prelude.{ℕ, ◌≡◌, ◌⊎◌, ◌<◌, List, [], ◌∷◌}
 use Rattle.std.specs.List.{flat_map}
 use Rattle.vlog_tree.specs.declared.expr.Expr.{Expr}

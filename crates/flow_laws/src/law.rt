@@ -1,6 +1,6 @@
 // The laws.
 
-ghost use Rattle.flow_laws.specs.Laws.{StoreStays, BitsStay, StoreApart, BitsApart, StoreFollows};
+ghost use Rattle.flow_laws.specs.Laws.{StoreStays, BitsStay, StoreApart, BitsApart, StoreFollows, FlowFollows, BitsFollow, PassesArePaths};
 
 use write_laws::bits_are_written;
 
@@ -20,9 +20,18 @@ pub fn bits_are_apart()
     bits_are_written();
 }
 
-/// A bit that an assignment surely sets depends on the names that it reads alone.
+/// A bit that an assignment surely sets depends on the names that it reads alone. A bit that a block sets on every path depends on those that
+/// assignments to its signal depend on, by the pass through the text as by its paths.
 pub fn bits_follow()
     ensures assignment { StoreFollows }
+    ensures flow { FlowFollows }
+    ensures paths { BitsFollow }
 {
     bits_are_written();
 }
+
+/// One pass through a block says which bits some path leaves unset, what assignments on some path depend on, and what some path reads before
+/// it has set all of it.
+pub fn passes_are_paths()
+    ensures { PassesArePaths }
+{}

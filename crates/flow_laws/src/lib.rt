@@ -3,4 +3,4 @@
 
 mod law;
 
-pub use law::{bits_are_apart, bits_follow, bits_stay};
+pub use law::{bits_are_apart, bits_follow, bits_stay, passes_are_paths};

@@ -1,4 +1,3 @@
-use Rattle.flow_laws.proofs.Giving.{Writes}
 use Rattle.flow_laws.proofs.Staying.{store_apart, bits_apart}
 use Rattle.flow_laws.proofs.law.bits_are_apart.Goals as goal
 

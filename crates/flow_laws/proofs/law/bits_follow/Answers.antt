@@ -1,7 +1,16 @@
-use Rattle.flow_laws.proofs.Giving.{Writes}
 use Rattle.flow_laws.proofs.Staying.{store_follows}
+use Rattle.flow_laws.proofs.Following.{flow_follows}
+use Rattle.flow_laws.proofs.Walking.{bits_follow}
 use Rattle.flow_laws.proofs.law.bits_follow.Goals as goal
 
-pub returns : goal.returns
-returns c =
-    let k = c.bits_are_written.ensures in record { assignment = store_follows (record { inside = k.inside; others = k.others; below = k.below }) }
+pub returns-clause-assignment : goal.returns-clause-assignment
+returns-clause-assignment c =
+    let k = c.bits_are_written.ensures in store_follows (record { inside = k.inside; others = k.others; below = k.below })
+
+pub returns-clause-flow : goal.returns-clause-flow
+returns-clause-flow c =
+    let k = c.bits_are_written.ensures in flow_follows (record { inside = k.inside; others = k.others; below = k.below })
+
+pub returns-clause-paths : goal.returns-clause-paths
+returns-clause-paths c =
+    let k = c.bits_are_written.ensures in bits_follow (record { inside = k.inside; others = k.others; below = k.below })

@@ -1,4 +1,3 @@
-use Rattle.flow_laws.proofs.Giving.{Writes}
 use Rattle.flow_laws.proofs.Staying.{store_stays, bits_stay}
 use Rattle.flow_laws.proofs.law.bits_stay.Goals as goal
 
