@@ -24,23 +24,12 @@ use Rattle.elab_faults.specs.declared.fault.ElabFault.TheVariants as e
 use Rattle.elab_faults.specs.Paths.{Step, IsPath, IsSetBy, IsConstant, Sets, AnySets, width_in}
 use Rattle.elab_faults.specs.Drivers.{BlockDepends, DependsOn, HasTwoDrivers}
 use Rattle.elab_faults.specs.Stands.{Stands}
-use Rattle.flow_laws.specs.Laws.{AreVectors, BitsStay, BitsApart, StoreFollows}
+use Rattle.flow_laws.specs.Laws.{AreVectors, BitsStay, BitsApart, StoreFollows, BitsFollow, HaveConstantParts}
 use Rattle.elab_step.specs.Solving.{clocked, processes, assigned_by, Fits, AreDistinct, ArePlain, alone, DrivesBit, AreApart, IsNet}
 use Rattle.elab_step.proofs.Solving.{bool_cases, AreProcesses}
 use Rattle.elab_step.proofs.Fitting.{positive, found_signal, run_fits}
 use Rattle.elab_step.proofs.Cycles.{drives_assigned, drives_name, processes_are, clocked_are, plain_signal, own_holder, IsSolvable, AreClocked}
 use Rattle.elab_step.proofs.Drivers.{processes_apart, blocks_apart, input_apart}
-
--- the parts of case expressions that must be constant are so
-abbrev pub HaveConstantParts : Place → Stmt → Type 0
-HaveConstantParts p body = (k : Compared) → Among (compared_in body) k → HasConstantParts (is_parameter p) k.value
-
--- a bit that a block sets on each path follows from what it depends on
-abbrev pub BodiesFollow : Type 0
-BodiesFollow =
-    (gs : List Signal) (body : Stmt) (x : Name) (b : ℕ) (c d : Cycle) → AreVectors gs → HaveConstantParts (alone gs) body → Fits gs c → Fits gs d → b < width_in (alone gs) x
-    → ((steps : List Step) → IsPath (alone gs) body steps → (IsSetBy (alone gs) steps x b → ⊥) → ⊥) → ((z : Name) → BlockDepends (alone gs) body x z → c z ≡ d z)
-    → bit_at (run true (alone gs) body c c x) b ≡ bit_at (run true (alone gs) body d d x) b
 
 -- what the proofs ask of a text
 pub record IsText (f : Flat) : Type 0 where
@@ -71,7 +60,7 @@ vectors gs z g m = plain_signal gs g z m
 pub wide_as : (gs : List Signal) → AreDistinct (map (λ (h : Signal). h.name) gs) → (g : Signal) → Among gs g → width_in (alone gs) g.name ≡ g.width
 wide_as gs d g m = ap (λ (o : Option Signal). unwrap_or (option_map (λ (h : Signal). h.width) o) 0) (found_signal gs g d m)
 
-module _ (f : Flat) (text : IsText f) (faultless : (x : ElabFault) → Stands f x → ⊥) (stay : BitsStay) (apart : BitsApart) (store : StoreFollows) (follow : BodiesFollow) where
+module _ (f : Flat) (text : IsText f) (faultless : (x : ElabFault) → Stands f x → ⊥) (stay : BitsStay) (apart : BitsApart) (store : StoreFollows) (follow : BitsFollow) where
   abbrev p : Place
   p = flat_place f
 
@@ -94,7 +83,7 @@ module _ (f : Flat) (text : IsText f) (faultless : (x : ElabFault) → Stands f 
   block_follows : (k : Always) → Among f.blocks k → k.clocked ≡ false → (x : Name) (b : ℕ) (c d : Cycle) → IsNet f x → b < width_in p x → DrivesBit p k.body x b → Fits f.signals c → Fits f.signals d → ((z : Name) → DependsOn f x z → c z ≡ d z)
       → bit_at (run true p k.body c c x) b ≡ bit_at (run true p k.body d d x) b
   block_follows k m t x b c d is l h fc fd agree =
-      follow f.signals k.body x b c d (vectors f.signals text.plain) (text.subjects k m) fc fd l
+      follow f.signals k.body c d x b (vectors f.signals text.plain) (text.subjects k m) fc fd l
       (λ steps path unset. faultless (e.Latch x) (record { block = k; combinational = (m, t); bit = b; left = h.0; within = l; is_left = h.1; drives = h.2; steps = steps; path = path; unset = unset }))
       (λ z u. agree z (is.no_register, inr (k, m, t, u)))
 

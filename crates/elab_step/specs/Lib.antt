@@ -1,3 +1,4 @@
 pub mod Solving
 pub mod Asked
 pub mod Boards
+pub mod Laws
