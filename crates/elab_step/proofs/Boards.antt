@@ -1,9 +1,7 @@
 -- Leaves that show cycles.
-use Rattle.std.proofs.Common.{arith, ◌≡◌, ◌≢◌, ℕ, zero, suc, ◌+◌, ◌<◌, ◌≤◌, Bool, true, false, List, [], ◌∷◌, ◌++◌, Option, None, refl, sym, ap, ◌∙◌, subst, ◌⊎◌, inl, inr, ⊎_elim, map, length, get_or, take, drop, length-append, Vec, Global}
-use Rattle.std.specs.Prelude.{if◌then◌else◌}
+use Rattle.std.proofs.Common.{arith, ◌≡◌, ◌≢◌, ℕ, zero, suc, ◌+◌, ◌<◌, ◌≤◌, Bool, true, false, List, [], ◌∷◌, ◌++◌, None, refl, sym, ap, ◌∙◌, subst, inl, inr, map, length, get_or, take, drop, length-append, Vec, Global}
 use Rattle.std.proofs.lemmas.List.{take_all}
 use Rattle.std.specs.List.{flat_map}
-use Rattle.std.specs.Str.{bytes_eq}
 use Rattle.vlog_tree.specs.declared.item.Assign.{Assign}
 use Rattle.vlog_tree.specs.declared.stmt.Stmt.{Stmt}
 use Rattle.vlog_tree.specs.declared.stmt.Stmt.TheVariants as s
@@ -11,7 +9,7 @@ use Rattle.vlog_tree.specs.declared.valuation.Entry.{Entry}
 use Rattle.vlog_runs.specs.declared.flat.Always.{Always}
 use Rattle.vlog_runs.specs.declared.flat.Flat.{Flat}
 use Rattle.vlog_runs.specs.declared.flat.Signal.{Signal}
-use Rattle.vlog_runs.specs.Places.{Name, Cycle, Among, Place, entries_of, valuation}
+use Rattle.vlog_runs.specs.Places.{Name, Cycle, Among, entries_of}
 use Rattle.vlog_runs.specs.Blocks.{run}
 use Rattle.vlog_runs.specs.Cycles.{flat_place}
 use Rattle.word_dag.specs.declared.node.Node.{Node}
@@ -25,8 +23,7 @@ use Rattle.elab_node.specs.Nodes.{IsNode, number_at}
 use Rattle.elab_node.proofs.Kept.{node_kept, number_kept, ready_kept, keeps_then, keeps_same}
 use Rattle.elab_block.specs.Standing.{AreLeavesOf, IsLeafOf, Lacks, AreApart, AreShown, nodes_of, with_nodes}
 use Rattle.elab_block.specs.Runs.{AreSet, Runs}
-use Rattle.elab_step.specs.Solving.{alone, taking, driven, settled, solved, processes, drivers_of, ArePlain, AreDistinct}
-use Rattle.elab_step.specs.Asked.{at_rest}
+use Rattle.elab_step.specs.Solving.{alone, taking, driven, settled, solved, processes, drivers_of, AreDistinct}
 use Rattle.elab_step.specs.Boards.{IsBoard, IsBegun, AreBegun, Shows, Follows, statements, statement_at, picked, node_at, name_of, names_of, list_at, ArePlacesOf}
 use Rattle.elab_step.proofs.Solving.{taken, kept}
 use Rattle.elab_step.proofs.Fitting.{one_entry}

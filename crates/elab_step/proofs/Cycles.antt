@@ -1,8 +1,7 @@
 -- The cycles of a module are those that its nets are solved to, and what follows is what its clocked blocks leave.
-use Rattle.std.proofs.Common.{arith, ◌≡◌, ◌≢◌, ℕ, ◌^◌, ◌<◌, ◌≤◌, ◌↔◌, Bool, true, false, List, [], ◌∷◌, ◌++◌, refl, sym, ap, ◌∙◌, subst, ◌⊎◌, inl, inr, ⊎_elim, nat_eq, map}
+use Rattle.std.proofs.Common.{◌≡◌, ◌≢◌, ℕ, ◌^◌, ◌<◌, ◌≤◌, Bool, true, false, List, [], ◌∷◌, ◌++◌, refl, sym, ap, ◌∙◌, subst, ◌⊎◌, inl, inr, ⊎_elim, map}
 use Rattle.std.specs.Prelude.{if◌then◌else◌}
 use Rattle.std.specs.Int.{bit_at}
-use Rattle.std.specs.List.{flat_map}
 use Rattle.std.proofs.lemmas.Bool.{eq-eqb}
 use Rattle.std.proofs.lemmas.Nat.Bits.{same_from_bits, same_from_bits_below, bit_at_above}
 use Rattle.vlog_tree.specs.declared.item.Assign.{Assign}
@@ -13,13 +12,12 @@ use Rattle.vlog_tree.specs.declared.stmt.Stmt.TheVariants as s
 use Rattle.vlog_runs.specs.declared.flat.Always.{Always}
 use Rattle.vlog_runs.specs.declared.flat.Flat.{Flat}
 use Rattle.vlog_runs.specs.declared.flat.Signal.{Signal}
-use Rattle.vlog_runs.specs.Places.{Name, Cycle, Among, Place, holders, words_from}
-use Rattle.vlog_runs.specs.Contents.{is_among}
+use Rattle.vlog_runs.specs.Places.{Name, Cycle, Among, Place, holders}
 use Rattle.vlog_runs.specs.Blocks.{run, lefts, left_names, row_names, Drives, AnyDrives}
-use Rattle.vlog_runs.specs.Cycles.{flat_place, IsRegister, IsInput, IsDriven, IsAssigned, DrivesFull, IsClocked, IsCycle, Follows}
-use Rattle.flat_laws.proofs.Lists.{among_append, append_left, append_right, among_map, map_among, flat_among, among_flat}
-use Rattle.elab_step.specs.Solving.{bodies, clocked, processes, assigned_by, after_edge, solved, Fits, ArePlain, DrivesBit, AreApart, Meets, IsOrder, IsNet, IsNetOrder}
-use Rattle.elab_step.proofs.Solving.{bool_cases, stable, named_or, AreProcesses, solved_only, solved_meets}
+use Rattle.vlog_runs.specs.Cycles.{flat_place, IsRegister, IsInput, IsDriven, DrivesFull, IsCycle, Follows}
+use Rattle.flat_laws.proofs.Lists.{among_append, append_left, append_right, among_map, map_among, flat_among}
+use Rattle.elab_step.specs.Solving.{bodies, clocked, processes, assigned_by, after_edge, solved, Fits, ArePlain, DrivesBit, AreApart, Meets, IsNet, IsNetOrder}
+use Rattle.elab_step.proofs.Solving.{stable, named_or, AreProcesses, solved_only, solved_meets}
 use Rattle.elab_step.proofs.Fitting.{less_or}
 
 -- ---- what drives a bit of a name names it
@@ -114,7 +112,6 @@ holds_itself gs g z m = rw (eq-eqb g.depth 0 (plain_signal gs g z m)) (inl refl)
 -- ---- which bits are driven
 
 module _ (f : Flat) (plain : ArePlain f.signals) where
-
   full_drives : (left : Lval) (x : Name) (b : ℕ) → DrivesFull (flat_place f) left x b → Drives (flat_place f) left x b
   full_drives left x b h =
       ⊎_elim (λ k. subst (λ y. Drives (flat_place f) left y b) (sym k.1) k.2)
@@ -147,7 +144,6 @@ pub record IsSolvable (f : Flat) (depends : Name → Name → Type 0) (width : N
   pub widths : (g : Signal) → Among f.signals g → width g.name ≡ g.width
 
 module _ (f : Flat) (depends : Name → Name → Type 0) (width : Name → ℕ) (can : IsSolvable f depends width) where
-
   -- in a cycle each net has what drives it
   cycle_meets : (c : Cycle) → IsCycle f c → (x : Name) → IsNet f x → Meets (flat_place f) (processes f) x (width x) c
   cycle_meets c h x is = record {
@@ -270,10 +266,10 @@ module _ (f : Flat) (can : AreClocked f) where
       same_from_bits_below g.width (e g.name) (after_edge p (clocked f.blocks) c c g.name) (fe g m) (edge_fits (clocked f.blocks) c c (λ k u. u) fc g m)
       (λ b l. stable (bit_at (e g.name) b) (bit_at (after_edge p (clocked f.blocks) c c g.name) b) (λ n.
       let none : (k : Stmt) → Among (clocked f.blocks) k → DrivesBit p k g.name b → ⊥ = λ k u d.
-          let a = clocked_are f.blocks k u in
-          let v : DrivesBit p a.0.body g.name b = subst (λ z. DrivesBit p z g.name b) (sym a.3) d in
-          n (h.driven a.0 a.1 a.2 v.0 v.1 g.name b (drives_full f can.plain v.0 g.name b v.2)
-          ∙ sym (edge_taken (clocked f.blocks) g.name b c c a.0.body (λ j z. z) (can.apart g b m l) (are_clocked f.blocks a.0 a.1 a.2) v refl)) in
+      let a = clocked_are f.blocks k u in
+      let v : DrivesBit p a.0.body g.name b = subst (λ z. DrivesBit p z g.name b) (sym a.3) d in
+      n (h.driven a.0 a.1 a.2 v.0 v.1 g.name b (drives_full f can.plain v.0 g.name b v.2)
+      ∙ sym (edge_taken (clocked f.blocks) g.name b c c a.0.body (λ j z. z) (can.apart g b m l) (are_clocked f.blocks a.0 a.1 a.2) v refl)) in
       n (h.kept g.name b r (λ z. none z.0.body (are_clocked f.blocks z.0 z.1 z.2) (z.3, z.4, full_drives f can.plain z.3 g.name b z.5))
       ∙ sym (edge_stays (clocked f.blocks) g.name b c c (λ k u. u) none))))
 

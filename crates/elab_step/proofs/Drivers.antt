@@ -1,5 +1,5 @@
 -- Where no bit has two drivers, no two statements of a module drive it.
-use Rattle.std.proofs.Common.{arith, ◌≡◌, ℕ, zero, suc, ◌+◌, ◌<◌, Bool, true, false, List, [], ◌∷◌, ◌++◌, Option, Some, refl, sym, ap, ◌∙◌, subst, ◌⊎◌, inl, inr, ⊎_elim, map}
+use Rattle.std.proofs.Common.{arith, ◌≡◌, ℕ, zero, suc, ◌<◌, Bool, true, false, List, [], ◌∷◌, ◌++◌, Some, refl, sym, ap, ◌∙◌, subst, ◌⊎◌, inl, inr, ⊎_elim, map}
 use Rattle.std.specs.Prelude.{slice_get, if◌then◌else◌}
 use Rattle.std.specs.List.{flat_map}
 use Rattle.vlog_tree.specs.declared.item.Assign.{Assign}
@@ -13,8 +13,8 @@ use Rattle.vlog_runs.specs.declared.flat.TopPort.{TopPort}
 use Rattle.vlog_runs.specs.Places.{Name, Among, Place}
 use Rattle.vlog_runs.specs.Blocks.{lefts, Drives, AnyDrives}
 use Rattle.vlog_runs.specs.Cycles.{flat_place, IsInput}
-use Rattle.flat_laws.proofs.Lists.{append_left, append_right, map_among, flat_among}
-use Rattle.elab_faults.specs.Drivers.{Driver, Input, Part, Block, parts_of, row_parts_of, input_drivers, drivers_of, DrivesIn, HasTwoDrivers}
+use Rattle.flat_laws.proofs.Lists.{append_left, append_right, map_among}
+use Rattle.elab_faults.specs.Drivers.{Driver, Input, Part, Block, parts_of, row_parts_of, input_drivers, DrivesIn, HasTwoDrivers}
 use Rattle.elab_step.specs.Solving.{bodies, clocked, processes, DrivesBit, AreApart}
 
 -- no two drivers of a list drive bit b of x
@@ -23,7 +23,6 @@ AreAlone p [] x b = Unit {0}
 AreAlone p (d ∷ ds) x b = (DrivesIn p d x b → (e : Driver) → Among ds e → DrivesIn p e x b → ⊥) × AreAlone p ds x b
 
 module _ (p : Place) (x : Name) (b : ℕ) where
-
   place_among : (ds : List Driver) (e : Driver) → Among ds e → (j : ℕ) × (slice_get ds j ≡ Some e)
   place_among [] e m = absurd m
   place_among (d ∷ ds) e m = ⊎_elim (λ (i : d ≡ e). (zero, ap Some i)) (λ n. let r = place_among ds e n in (suc r.0, r.1)) m

@@ -1,31 +1,29 @@
 -- A faultless module can be solved.
-use Rattle.std.proofs.Common.{arith, ◌≡◌, ◌≢◌, ℕ, zero, ◌+◌, ◌^◌, ◌<◌, ◌≤◌, Bool, true, false, List, [], ◌∷◌, ◌++◌, Option, Some, None, refl, sym, ap, ◌∙◌, subst, ◌⊎◌, inl, inr, ⊎_elim, map}
-use Rattle.std.specs.Prelude.{unwrap_or, reverse}
+use Rattle.std.proofs.Common.{◌≡◌, ℕ, ◌+◌, ◌^◌, ◌<◌, Bool, true, false, List, [], ◌∷◌, ◌++◌, Option, refl, sym, ap, ◌∙◌, subst, inl, inr, ⊎_elim, map}
+use Rattle.std.specs.Prelude.{unwrap_or}
 use Rattle.std.specs.Option.{option_map}
 use Rattle.std.specs.Int.{bit_at}
-use Rattle.std.specs.List.{flat_map}
 use Rattle.vlog_tree.specs.declared.expr.Expr.{Expr}
 use Rattle.vlog_tree.specs.declared.item.Assign.{Assign}
 use Rattle.vlog_tree.specs.declared.stmt.Lval.{Lval, Row_of-Lval, end_of-Lval, more_of-Lval}
 use Rattle.vlog_tree.specs.declared.stmt.Lval.TheVariants as l
 use Rattle.vlog_tree.specs.declared.stmt.Stmt.{Stmt}
 use Rattle.vlog_tree.specs.declared.stmt.Stmt.TheVariants as s
-use Rattle.vlog_tree.specs.Value.{HasConstantParts}
 use Rattle.vlog_runs.specs.declared.flat.Always.{Always}
 use Rattle.vlog_runs.specs.declared.flat.Flat.{Flat}
 use Rattle.vlog_runs.specs.declared.flat.Signal.{Signal}
 use Rattle.vlog_runs.specs.Places.{Name, Cycle, Among, Place}
-use Rattle.vlog_runs.specs.Blocks.{run, lefts, left_names, row_names, Drives, AnyDrives, signal_at, low_in, is_parameter}
-use Rattle.vlog_runs.specs.Cycles.{flat_place, IsRegister, IsInput}
-use Rattle.flat_laws.proofs.Lists.{append_left, append_right, flat_among}
-use Rattle.flat_faults.specs.Texts.{names_in, numbers_in, row_numbers_in, Compared, compared_in}
+use Rattle.vlog_runs.specs.Blocks.{run, left_names, Drives, AnyDrives, low_in}
+use Rattle.vlog_runs.specs.Cycles.{flat_place, IsRegister}
+use Rattle.flat_laws.proofs.Lists.{append_left, append_right}
+use Rattle.flat_faults.specs.Texts.{numbers_in, row_numbers_in}
 use Rattle.elab_faults.specs.declared.fault.ElabFault.{ElabFault}
 use Rattle.elab_faults.specs.declared.fault.ElabFault.TheVariants as e
-use Rattle.elab_faults.specs.Paths.{Step, IsPath, IsSetBy, IsConstant, Sets, AnySets, width_in}
-use Rattle.elab_faults.specs.Drivers.{BlockDepends, DependsOn, HasTwoDrivers}
+use Rattle.elab_faults.specs.Paths.{IsConstant, Sets, AnySets, width_in}
+use Rattle.elab_faults.specs.Drivers.{DependsOn, HasTwoDrivers}
 use Rattle.elab_faults.specs.Stands.{Stands}
 use Rattle.flow_laws.specs.Laws.{AreVectors, BitsStay, BitsApart, StoreFollows, BitsFollow, HaveConstantParts}
-use Rattle.elab_step.specs.Solving.{clocked, processes, assigned_by, Fits, AreDistinct, ArePlain, alone, DrivesBit, AreApart, IsNet}
+use Rattle.elab_step.specs.Solving.{processes, assigned_by, Fits, AreDistinct, ArePlain, alone, DrivesBit, IsNet}
 use Rattle.elab_step.proofs.Solving.{bool_cases, AreProcesses}
 use Rattle.elab_step.proofs.Fitting.{positive, found_signal, run_fits}
 use Rattle.elab_step.proofs.Cycles.{drives_assigned, drives_name, processes_are, clocked_are, plain_signal, own_holder, IsSolvable, AreClocked}

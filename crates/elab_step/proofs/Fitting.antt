@@ -1,5 +1,5 @@
 -- A statement leaves each signal a number of its length.
-use Rattle.std.proofs.Common.{arith, ◌≡◌, ◌≢◌, ℕ, zero, suc, ◌+◌, ◌-◌, ◌*◌, ◌/◌, ◌%◌, ◌^◌, ◌<◌, ◌≤◌, ◌&&◌, Bool, true, false, List, [], ◌∷◌, ◌++◌, refl, sym, ap, ◌∙◌, subst, ◌⊎◌, inl, inr, ⊎_elim, nat_eq, nat_lt, Option, Some, None, map}
+use Rattle.std.proofs.Common.{arith, ◌≡◌, ℕ, zero, suc, ◌+◌, ◌-◌, ◌*◌, ◌/◌, ◌%◌, ◌^◌, ◌<◌, ◌≤◌, Bool, true, false, List, [], ◌∷◌, ◌++◌, refl, sym, ap, ◌∙◌, subst, ◌⊎◌, inl, inr, ⊎_elim, nat_lt, Option, Some, map}
 use Rattle.std.specs.Prelude.{if◌then◌else◌, ℤ, pos, negsuc, ◌+ℤ◌, unwrap_or}
 use Rattle.std.specs.Option.{option_map}
 use Rattle.std.specs.List.{flat_map}
@@ -15,13 +15,13 @@ use Rattle.vlog_tree.specs.declared.stmt.Lval.TheVariants as l
 use Rattle.vlog_tree.specs.declared.stmt.Stmt.{Stmt, Row_of-Stmt, end_of-Stmt, more_of-Stmt, Row_of-CaseItem, end_of-CaseItem, more_of-CaseItem}
 use Rattle.vlog_tree.specs.declared.stmt.Stmt.TheVariants as s
 use Rattle.vlog_tree.specs.declared.valuation.Entry.{Entry}
-use Rattle.vlog_tree.specs.Valuation.{entry_at, meant, meaning_of, named, depth_of}
-use Rattle.vlog_tree.specs.Value.{assigned, operand_of}
+use Rattle.vlog_tree.specs.Valuation.{entry_at, meant, named, depth_of}
+use Rattle.vlog_tree.specs.Value.{assigned}
 use Rattle.vlog_runs.specs.declared.flat.Signal.{Signal}
-use Rattle.vlog_runs.specs.Places.{Name, Cycle, Among, Place, read, entries_of, held_entry, valuation, Piece, pieces, row_pieces, total, with_bit, write_bit, write_bits, put, give, store}
+use Rattle.vlog_runs.specs.Places.{Name, Cycle, Among, read, entries_of, held_entry, valuation, Piece, pieces, row_pieces, total, with_bit, write_bit, write_bits, put, give, store}
 use Rattle.vlog_runs.specs.Blocks.{run, run_row, run_items, run_default, seen, is_false, any_matches, is_default, labels_in, case_width, case_sign, signal_at}
 use Rattle.elab_step.specs.Solving.{Fits, AreDistinct, ArePlain, alone}
-use Rattle.elab_step.proofs.Solving.{bool_cases, same_name, other_name, named_or}
+use Rattle.elab_step.proofs.Solving.{bool_cases, same_name, other_name}
 
 -- ---- bits of a number
 
@@ -101,7 +101,6 @@ no_depth (h ∷ gs) c x z =
     ∙ ⊎_elim (λ (e : bytes_eq h.name x ≡ true). rw e z.0) (λ (e : bytes_eq h.name x ≡ false). rw e (no_depth gs c x z.1)) (bool_cases (bytes_eq h.name x))
 
 module _ (gs : List Signal) (distinct : AreDistinct (map (λ (h : Signal). h.name) gs)) (plain : ArePlain gs) where
-
   wide : (c : Cycle) (g : Signal) (x : Name) → Among gs g → g.name ≡ x → (named (valuation (alone gs) c) (read x)).width ≡ g.width
   wide c g x m e =
       subst (λ y. (named (valuation (alone gs) c) (read y)).width ≡ g.width) e

@@ -1,17 +1,14 @@
 -- A design whose nets are solved has the runs of its module.
-use Rattle.std.proofs.Common.{arith, ◌≡◌, ◌≢◌, ℕ, ◌%◌, ◌^◌, ◌<◌, ◌↔◌, Bool, true, false, List, [], ◌∷◌, refl, sym, ap, ◌∙◌, subst, ◌⊎◌, inl, inr, ⊎_elim}
-use Rattle.std.specs.Prelude.{if◌then◌else◌}
+use Rattle.std.proofs.Common.{◌≡◌, ℕ, ◌^◌, ◌<◌, true, false, List, [], ◌∷◌, refl, sym, ap, ◌∙◌, subst, inl, inr, ⊎_elim}
 use Rattle.word_core.specs.Words.{Bits}
-use Rattle.word_dag.specs.Nodes.{FitFrom, word_at}
 use Rattle.vlog_runs.specs.declared.flat.Flat.{Flat}
 use Rattle.vlog_runs.specs.declared.flat.Signal.{Signal}
 use Rattle.vlog_runs.specs.Places.{Name, Cycle, Among}
 use Rattle.vlog_runs.specs.Contents.{is_among}
-use Rattle.vlog_runs.specs.Cycles.{flat_place, IsRegister, IsCycle, Follows}
-use Rattle.word_design.specs.declared.design.Net.{Net}
+use Rattle.vlog_runs.specs.Cycles.{flat_place, IsCycle}
 use Rattle.word_design.specs.declared.design.Register.{Register}
-use Rattle.word_design.specs.Designs.{Parts, naming_of, word_in, IsCycleOf, FollowsIn, HasRunsOf}
-use Rattle.elab_node.specs.Nodes.{IsNode, number_at, words}
+use Rattle.word_design.specs.Designs.{Parts, naming_of, IsCycleOf, HasRunsOf}
+use Rattle.elab_node.specs.Nodes.{number_at}
 use Rattle.elab_node.proofs.Kept.{word_is, number_fits}
 use Rattle.elab_step.specs.Solving.{clocked, processes, after_edge, solved, Fits, IsNet, IsNetOrder}
 use Rattle.elab_step.specs.Boards.{unset, IsSolved}
@@ -31,7 +28,6 @@ unset_fits gs xs c h g m =
     ⊎_elim (λ (e : is_among xs g.name ≡ true). rw e (positive g.width)) (λ (e : is_among xs g.name ≡ false). rw e (h g m)) (bool_cases (is_among xs g.name))
 
 module _ (f : Flat) (depends : Name → Name → Type 0) (width : Name → ℕ) (can : IsSolvable f depends width) (edge : AreClocked f) (xs : List Name) (order : IsNetOrder f depends xs) (d : Parts) (is : IsSolved f xs d) where
-
   abbrev all_solved : Cycle → Cycle
   all_solved c = solved (flat_place f) (processes f) xs (unset xs c)
 
@@ -87,6 +83,6 @@ module _ (f : Flat) (depends : Name → Name → Type 0) (width : Name → ℕ) 
       λ u. edge_follows f edge c e (cycle_fits c h) (cycle_fits e k) (λ x r.
           let s = is.each_register x r in
           let v : number_at (naming_of c) d.nodes s.0.next ≡ e s.0.name = ap (λ (w : Bits). w.value) (u s.0 s.1) in
-          ap e (sym s.2) ∙ sym v ∙ next_is c h s.0 s.1 ∙ ap (after_edge (flat_place f) (clocked f.blocks) c c) s.2)
+          ap e (sym s.2) ∙ sym v ∙ next_is c h s.0 s.1 ∙ ap (after_edge (flat_place f) (clocked f.blocks) c c) s.2),
     );
   }

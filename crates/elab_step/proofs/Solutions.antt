@@ -1,9 +1,9 @@
 -- A solution's leaves, and what their nodes are in a cycle.
-use Rattle.std.proofs.Common.{arith, ◌≡◌, ℕ, zero, suc, ◌%◌, ◌^◌, ◌<◌, ◌↔◌, Bool, true, false, List, [], ◌∷◌, ◌++◌, Option, Some, None, refl, sym, ap, ◌∙◌, subst, ◌⊎◌, inl, inr, ⊎_elim, length}
+use Rattle.std.proofs.Common.{arith, ◌≡◌, ℕ, ◌<◌, Bool, true, false, List, [], ◌∷◌, Some, refl, sym, ◌∙◌, subst, inl, inr, length}
 use Rattle.std.proofs.Math.Nat.{mod-eq_of_lt}
 use Rattle.vlog_runs.specs.declared.flat.Flat.{Flat}
 use Rattle.vlog_runs.specs.declared.flat.Signal.{Signal}
-use Rattle.vlog_runs.specs.Places.{Name, Cycle, Among}
+use Rattle.vlog_runs.specs.Places.{Name, Cycle}
 use Rattle.vlog_runs.specs.Contents.{is_among}
 use Rattle.vlog_runs.specs.Cycles.{flat_place}
 use Rattle.word_dag.specs.declared.node.Node.{Node}
@@ -11,7 +11,7 @@ use Rattle.word_dag.specs.Nodes.{Naming}
 use Rattle.word_dag.specs.Adding.{Keeps}
 use Rattle.word_design.specs.Designs.{naming_of}
 use Rattle.elab_node.specs.declared.leaves.Leaf.{Leaf}
-use Rattle.elab_node.specs.Leaves.{declared, AreReady}
+use Rattle.elab_node.specs.Leaves.{AreReady}
 use Rattle.elab_node.specs.Nodes.{number_at}
 use Rattle.elab_node.proofs.Kept.{number_kept, ready_kept, keeps_then}
 use Rattle.elab_block.specs.Standing.{AreLeavesOf, AreShown}

@@ -1,9 +1,8 @@
 -- Nets that are solved one after another have the values of a cycle, and no other cycle has these values of registers and inputs.
-use Rattle.std.proofs.Common.{arith, ◌≡◌, ◌≢◌, ℕ, ◌^◌, ◌<◌, ◌||◌, Bool, true, false, List, [], ◌∷◌, refl, sym, ap, ◌∙◌, subst, ◌⊎◌, inl, inr, ⊎_elim, nat_eq}
+use Rattle.std.proofs.Common.{◌≡◌, ◌≢◌, ℕ, ◌^◌, ◌<◌, ◌||◌, Bool, true, false, List, [], ◌∷◌, refl, sym, ap, ◌∙◌, subst, ◌⊎◌, inl, inr, ⊎_elim, nat_eq}
 use Rattle.std.specs.Prelude.{if◌then◌else◌}
 use Rattle.std.specs.Int.{bit_at}
 use Rattle.std.specs.Str.{bytes_eq}
-use Rattle.std.specs.List.{list_any}
 use Rattle.std.proofs.lemmas.Bool.{eqb-true, eq-eqb}
 use Rattle.std.proofs.lemmas.Slice.Eq.{bytes_eq-Decides}
 use Rattle.std.proofs.lemmas.Nat.Bits.{same_from_bits_below, bit_at-zero}
@@ -66,7 +65,6 @@ pub record AreProcesses (p : Place) (gs : List Signal) (ks : List Stmt) (net : N
 
 module _ (p : Place) (gs : List Signal) (all : List Stmt) (net : Name → Type 0) (depends : Name → Name → Type 0) (width : Name → ℕ)
     (laws : AreProcesses p gs all net depends width) where
-
   -- ---- one net
 
   driven_other : (ks : List Stmt) (x y : Name) (c : Cycle) → x ≢ y → driven p ks x c y ≡ c y
@@ -198,7 +196,7 @@ module _ (p : Place) (gs : List Signal) (all : List Stmt) (net : Name → Type 0
   solved_only [] c d o is fc fd agree h z = agree z (λ m. m)
   solved_only (x ∷ xs) c d o is fc fd agree h z =
       let own : settled p (drivers_of all x) x c x ≡ d x =
-          only x (is x (inl refl)) c d fc fd (λ y u. (λ e. o.0 y u (inl e), agree y (o.0 y u))) (h x (inl refl)) in
+      only x (is x (inl refl)) c d fc fd (λ y u. (λ e. o.0 y u (inl e), agree y (o.0 y u))) (h x (inl refl)) in
       solved_only xs (settled p (drivers_of all x) x c) d o.2 (λ y m. is y (inr m)) (settled_fits (drivers_of all x) x c (chosen_all all x) fc) fd
       (λ y n. ⊎_elim (λ (e : x ≡ y). subst (λ t. settled p (drivers_of all x) x c t ≡ d t) e own)
       (λ (e : x ≢ y). settled_other (drivers_of all x) x y c e ∙ agree y (λ m. ⊎_elim e n m)) (named_or x y))

@@ -1,13 +1,11 @@
 -- Texts that can be taken where they stand use declared names.
-use Rattle.std.proofs.Common.{arith, ◌≡◌, ℕ, ◌+◌, max, Bool, true, false, IsTrue, List, [], ◌∷◌, ◌++◌, Option, Some, None, refl, sym, ap, ◌∙◌, subst, ◌⊎◌, inl, inr, ⊎_elim, map}
-use Rattle.std.specs.Prelude.{IsSomeAnd, if◌then◌else◌}
+use Rattle.std.proofs.Common.{◌≡◌, true, false, List, [], ◌∷◌, ◌++◌, Option, Some, None, refl, sym, ap, ◌∙◌, subst, inl, inr, ⊎_elim}
+use Rattle.std.specs.Prelude.{IsSomeAnd}
 use Rattle.std.specs.Option.{option_map}
 use Rattle.std.specs.List.{flat_map}
 use Rattle.std.specs.Str.{bytes_eq}
-use Rattle.std.proofs.lemmas.Bool.{eq-eqb}
 use Rattle.std.proofs.lemmas.Slice.Eq.{bytes_eq-Decides}
 use Rattle.vlog_tree.specs.declared.expr.Expr.{Expr}
-use Rattle.vlog_tree.specs.declared.item.Assign.{Assign}
 use Rattle.vlog_tree.specs.declared.stmt.Lval.{Lval, Row_of-Lval, end_of-Lval, more_of-Lval}
 use Rattle.vlog_tree.specs.declared.stmt.Lval.TheVariants as l
 use Rattle.vlog_tree.specs.declared.stmt.Stmt.{Stmt, Row_of-Stmt, end_of-Stmt, more_of-Stmt, Row_of-CaseItem, end_of-CaseItem, more_of-CaseItem}
@@ -15,16 +13,15 @@ use Rattle.vlog_tree.specs.declared.stmt.Stmt.TheVariants as s
 use Rattle.vlog_tree.specs.declared.valuation.Entry.{Entry}
 use Rattle.vlog_tree.specs.Valuation.{IsLength, entry_at, meant}
 use Rattle.vlog_tree.specs.Value.{HasConstantParts, Stands}
-use Rattle.vlog_runs.specs.declared.flat.Always.{Always}
 use Rattle.vlog_runs.specs.declared.flat.Flat.{Flat}
 use Rattle.vlog_runs.specs.declared.flat.Signal.{Signal}
-use Rattle.vlog_runs.specs.Places.{Name, Cycle, Among, Place, read, entries_of, held_entry}
+use Rattle.vlog_runs.specs.Places.{Name, Cycle, Among, read, entries_of, held_entry}
 use Rattle.vlog_runs.specs.Blocks.{lefts, row_lefts, case_lefts, left_names, row_names}
 use Rattle.flat_laws.proofs.Lists.{among_append, among_flat}
 use Rattle.flat_faults.specs.Texts.{Compared, compared_in, row_compared_in, case_compared_in}
 use Rattle.elab_node.specs.Terms.{nothing}
 use Rattle.elab_block.specs.Ready.{IsReadyLeft, AreReadyLefts, IsReadyStore, IsReadyStmt, AreReadyStmts, AreReadyItems}
-use Rattle.elab_step.specs.Solving.{ArePlain, assigned_by}
+use Rattle.elab_step.specs.Solving.{ArePlain}
 use Rattle.elab_step.specs.Asked.{at_rest, CanElaborate}
 use Rattle.elab_step.proofs.Solving.{bool_cases}
 use Rattle.elab_step.proofs.Fitting.{one_entry}

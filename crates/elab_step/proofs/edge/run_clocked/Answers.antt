@@ -1,4 +1,4 @@
-use Rattle.std.proofs.Common.{arith, false, ◌≡◌, ◌+◌, ◌≤◌, ◌<◌, ◌∷◌, [], ℕ, List, length, drop, get_or, refl, sym, ap, ◌∙◌, subst}
+use Rattle.std.proofs.Common.{arith, ◌≡◌, ◌+◌, ◌≤◌, ◌<◌, ◌∷◌, List, length, drop, get_or, sym, ap, ◌∙◌, subst}
 use Rattle.vlog_tree.specs.declared.valuation.Entry.{Entry}
 use Rattle.vlog_runs.specs.declared.flat.Always.{Always}
 use Rattle.word_dag.specs.declared.node.Node.{Node}
@@ -33,7 +33,7 @@ loop-block-preserved c =
     let h : Running f (k ∷ rest) ls a c.loop-block.next c.loop-block.dag = subst P (blocks_at f.blocks i k k lt e) c.loop-block.invariant in
     let Q : List Leaf → Type 0 = λ z. Running f rest ls a z c.if-block.dag in
     elim c.if-block.branch [
-      then-block+in_ok-run w ↦
+      | then-block+in_ok-run w ↦
           let R : List Node → Type 0 = λ z. Running f rest ls a w.run.new.state z in
           subst Q (sym w.next-is) (subst R (sym w.dag-is)
           (running_next f k rest ls c.loop-block.next w.run.new.state a c.loop-block.dag w.run.new.dag c.requires.board w.if-block.true h w.in_ok-run.ensures.keeps w.in_ok-run.ensures.same w.in_ok-run.ensures.set w.in_ok-run.ensures.runs))

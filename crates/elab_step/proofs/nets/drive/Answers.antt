@@ -1,7 +1,7 @@
-use Rattle.std.proofs.Common.{arith, true, ◌≡◌, ◌≤◌, ◌<◌, ℕ, List, length, refl, sym, ap, ◌∙◌, subst}
+use Rattle.std.proofs.Common.{arith, true, ◌≡◌, List, length, sym, ap, ◌∙◌, subst}
 use Rattle.elab_node.specs.declared.leaves.Leaf.{Leaf}
 use Rattle.elab_node.specs.Leaves.{with_node}
-use Rattle.elab_block.specs.Standing.{nodes_of, with_nodes}
+use Rattle.elab_block.specs.Standing.{with_nodes}
 use Rattle.vlog_runs.specs.Places.{Cycle}
 use Rattle.vlog_runs.specs.Blocks.{run}
 use Rattle.vlog_runs.specs.Cycles.{flat_place}
@@ -22,8 +22,8 @@ returns-clause-long c =
     let ls = c.args.state.now in
     let ms = c.run_one.new.state in
     let e : c.restore.new.state ≡ with_node ls c.args.net (node_at ms c.args.net) =
-        c.restore.ensures ∙ ap (λ z. with_node (with_nodes ms z) c.args.net (node_at ms c.args.net)) (c.deref.ensures.value ∙ c.in_ok-before.ensures)
-        ∙ ap (λ z. with_node z c.args.net (node_at ms c.args.net)) (nodes_back ls ms c.in_ok-run_one.ensures.same) in
+    c.restore.ensures ∙ ap (λ z. with_node (with_nodes ms z) c.args.net (node_at ms c.args.net)) (c.deref.ensures.value ∙ c.in_ok-before.ensures)
+    ∙ ap (λ z. with_node z c.args.net (node_at ms c.args.net)) (nodes_back ls ms c.in_ok-run_one.ensures.same) in
     ap length e ∙ node_long ls c.args.net (node_at ms c.args.net)
 
 pub returns-clause-board : goal.returns-clause-board
@@ -31,8 +31,8 @@ returns-clause-board c =
     let ls = c.args.state.now in
     let ms = c.run_one.new.state in
     let e : c.restore.new.state ≡ with_node ls c.args.net (node_at ms c.args.net) =
-        c.restore.ensures ∙ ap (λ z. with_node (with_nodes ms z) c.args.net (node_at ms c.args.net)) (c.deref.ensures.value ∙ c.in_ok-before.ensures)
-        ∙ ap (λ z. with_node z c.args.net (node_at ms c.args.net)) (nodes_back ls ms c.in_ok-run_one.ensures.same) in
+    c.restore.ensures ∙ ap (λ z. with_node (with_nodes ms z) c.args.net (node_at ms c.args.net)) (c.deref.ensures.value ∙ c.in_ok-before.ensures)
+    ∙ ap (λ z. with_node z c.args.net (node_at ms c.args.net)) (nodes_back ls ms c.in_ok-run_one.ensures.same) in
     let P : List Leaf → Type 0 = λ z. IsBoard c.args.flat.now.signals z c.run_one.new.dag in
     subst P (sym e) (driven_board c.args.flat.now.signals ls ms c.args.dag.now c.run_one.new.dag c.args.net c.requires.board c.in_ok-run_one.ensures.board c.in_ok-run_one.ensures.same c.in_ok-run_one.ensures.keeps c.requires.net)
 
@@ -42,8 +42,8 @@ returns-clause-shows c =
     let ls = c.args.state.now in
     let ms = c.run_one.new.state in
     let e : c.restore.new.state ≡ with_node ls c.args.net (node_at ms c.args.net) =
-        c.restore.ensures ∙ ap (λ z. with_node (with_nodes ms z) c.args.net (node_at ms c.args.net)) (c.deref.ensures.value ∙ c.in_ok-before.ensures)
-        ∙ ap (λ z. with_node z c.args.net (node_at ms c.args.net)) (nodes_back ls ms c.in_ok-run_one.ensures.same) in
+    c.restore.ensures ∙ ap (λ z. with_node (with_nodes ms z) c.args.net (node_at ms c.args.net)) (c.deref.ensures.value ∙ c.in_ok-before.ensures)
+    ∙ ap (λ z. with_node z c.args.net (node_at ms c.args.net)) (nodes_back ls ms c.in_ok-run_one.ensures.same) in
     let k = statement_at (statements f) c.args.place in
     let P : List Leaf → Type 0 = λ z. Shows (λ (d : Cycle). taking (name_of f.signals c.args.net) (run true (flat_place f) k d d) d) ls c.args.dag.now z c.run_one.new.dag in
     subst P (sym e)

@@ -1,12 +1,9 @@
-use Rattle.std.proofs.Common.{arith, ◌≡◌, ◌+◌, ◌<◌, sym, ap, ◌∙◌, subst, List, get_or}
-use Rattle.std.specs.Prelude.{length}
-use Rattle.vlog_tree.specs.declared.item.Assign.{Assign}
+use Rattle.std.proofs.Common.{◌≡◌, sym, ap, ◌∙◌, subst, List, get_or}
 use Rattle.vlog_tree.specs.declared.valuation.Entry.{Entry}
-use Rattle.vlog_runs.specs.declared.flat.Always.{Always}
-use Rattle.elab_block.specs.Ready.{IsReadyStore, IsReadyStmt}
+use Rattle.elab_block.specs.Ready.{IsReadyStore}
 use Rattle.vlog_tree.specs.declared.stmt.Stmt.TheVariants as s
 use Rattle.elab_step.specs.Boards.{statements, statement_at}
-use Rattle.elab_step.proofs.Boards.{rest_is, board_after, runs_show, shows_at, assign_at, block_at, item_among}
+use Rattle.elab_step.proofs.Boards.{rest_is, board_after, runs_show, shows_at, assign_at, item_among}
 use Rattle.elab_step.proofs.nets.run_assign.Goals as goal
 
 pub assign-requires-clause-store : goal.assign-requires-clause-store

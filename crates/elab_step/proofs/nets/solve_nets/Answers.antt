@@ -1,6 +1,6 @@
-use Rattle.std.proofs.Common.{arith, ◌≡◌, ◌+◌, ◌<◌, ◌∷◌, ℕ, List, length, drop, get_or, refl, sym, ap, ◌∙◌, subst}
+use Rattle.std.proofs.Common.{arith, ◌+◌, ◌<◌, List, length, drop, get_or, refl, ap, ◌∙◌, subst}
 use Rattle.vlog_runs.specs.Places.{Name, Among}
-use Rattle.elab_step.specs.Boards.{statements, picked, name_of, names_of, list_at}
+use Rattle.elab_step.specs.Boards.{statements, picked, name_of, names_of}
 use Rattle.elab_step.proofs.Boards.{Solving, number_among, places_at, places_long, leaves_long, statements_long, solving_next, names_at}
 use Rattle.elab_step.proofs.nets.solve_nets.Goals as goal
 

@@ -1,4 +1,4 @@
-use Rattle.std.proofs.Common.{arith, ◌≡◌, ◌+◌, ◌<◌, ◌≤◌, List, length, refl, sym, subst}
+use Rattle.std.proofs.Common.{arith, ◌+◌, ◌<◌, ◌≤◌, List, length, refl, sym, subst}
 use Rattle.elab_node.specs.declared.leaves.Leaf.{Leaf}
 use Rattle.elab_step.proofs.Boards.{Beginning, signal_among, beginning_next, board_begun}
 use Rattle.elab_step.proofs.Cycles.{plain_signal}
