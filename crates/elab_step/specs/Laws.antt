@@ -1,0 +1,13 @@
+-- The law of solved modules.
+use Rattle.vlog_runs.specs.declared.flat.Flat.{Flat}
+use Rattle.vlog_runs.specs.Places.{Name}
+use Rattle.elab_faults.specs.Drivers.{DependsOn}
+use Rattle.word_design.specs.Designs.{Parts, HasRunsOf}
+use Rattle.elab_step.specs.Solving.{IsNetOrder}
+use Rattle.elab_step.specs.Asked.{CanElaborate, IsFaultless}
+use Rattle.elab_step.specs.Boards.{IsSolved}
+use Rattle.std.specs.Prelude.{List}
+
+-- a design whose nets are solved in an order of a faultless module has the module's runs
+abbrev pub SolvedHaveRuns : Type 0
+SolvedHaveRuns = (f : Flat) (xs : List Name) (d : Parts) → CanElaborate f → IsFaultless f → IsNetOrder f (DependsOn f) xs → IsSolved f xs d → HasRunsOf f d

@@ -1,0 +1,4 @@
+pub mod Solving
+pub mod Asked
+pub mod Boards
+pub mod Laws

@@ -1,0 +1,113 @@
+-- A module without instances, solved one net after another (IEEE 1364-2005, sections 6.1 and 9.2).
+use Rattle.std.specs.Prelude.{ℕ, ◌≡◌, ◌^◌, ◌<◌, ◌⊎◌, true, false, List, [], ◌∷◌, ◌++◌, map, if◌then◌else◌}
+use Rattle.std.specs.Int.{bit_at}
+use Rattle.std.specs.List.{flat_map}
+use Rattle.std.specs.Str.{bytes_eq}
+use Rattle.vlog_tree.specs.declared.item.Assign.{Assign}
+use Rattle.vlog_tree.specs.declared.stmt.Lval.{Lval}
+use Rattle.vlog_tree.specs.declared.stmt.Stmt.{Stmt}
+use Rattle.vlog_tree.specs.declared.stmt.Stmt.TheVariants as s
+use Rattle.vlog_runs.specs.declared.flat.Always.{Always}
+use Rattle.vlog_runs.specs.declared.flat.Flat.{Flat}
+use Rattle.vlog_runs.specs.declared.flat.Signal.{Signal}
+use Rattle.vlog_runs.specs.Places.{Name, Cycle, Among, Place}
+use Rattle.vlog_runs.specs.Contents.{is_among}
+use Rattle.vlog_runs.specs.Blocks.{run, lefts, left_names, Drives}
+use Rattle.vlog_runs.specs.Cycles.{IsRegister, IsInput}
+
+-- the bodies of the combinational blocks
+abbrev pub bodies : List Always → List Stmt
+bodies [] = []
+bodies (k ∷ ks) = if k.clocked then bodies ks else k.body ∷ bodies ks
+
+-- the continuous assignments, each as a statement, and the combinational blocks
+abbrev pub processes : Flat → List Stmt
+processes f = map (λ (a : Assign). s.Blocking a.left a.right) f.assigns ++ bodies f.blocks
+
+-- the bodies of the clocked blocks
+abbrev pub clocked : List Always → List Stmt
+clocked [] = []
+clocked (k ∷ ks) = if k.clocked then k.body ∷ clocked ks else clocked ks
+
+-- the names that a statement assigns
+abbrev pub assigned_by : Stmt → List Name
+assigned_by k = flat_map left_names (lefts k)
+
+-- those that assign a name
+abbrev pub drivers_of : List Stmt → Name → List Stmt
+drivers_of [] x = []
+drivers_of (k ∷ ks) x = if is_among (assigned_by k) x then k ∷ drivers_of ks x else drivers_of ks x
+
+-- a cycle, with another one's value of a name
+abbrev pub taking : Name → Cycle → Cycle → Cycle
+taking x d c y = if bytes_eq x y then d y else c y
+
+-- a cycle in which x has in turn what each statement makes of it
+abbrev pub driven : Place → List Stmt → Name → Cycle → Cycle
+driven p [] x c = c
+driven p (k ∷ ks) x c = driven p ks x (taking x (run true p k c c) c)
+
+-- the same from 0 on
+abbrev pub settled : Place → List Stmt → Name → Cycle → Cycle
+settled p ks x c = driven p ks x (taking x (λ y. 0) c)
+
+-- nets one after another, each by the statements that assign it
+abbrev pub solved : Place → List Stmt → List Name → Cycle → Cycle
+solved p ks [] c = c
+solved p ks (x ∷ xs) c = solved p ks xs (settled p (drivers_of ks x) x c)
+
+-- the values are of their signals' lengths
+abbrev pub Fits : List Signal → Cycle → Type 0
+Fits gs c = (g : Signal) → Among gs g → c g.name < 2 ^ g.width
+
+-- no name stands twice
+abbrev pub AreDistinct : List Name → Type 0
+AreDistinct [] = Unit {0}
+AreDistinct (x ∷ xs) = (Among xs x → ⊥) × AreDistinct xs
+
+-- none of the signals is a memory
+abbrev pub ArePlain : List Signal → Type 0
+ArePlain [] = Unit {0}
+ArePlain (g ∷ gs) = (g.depth ≡ 0) × ArePlain gs
+
+-- the place of a module without instances
+abbrev pub alone : List Signal → Place
+alone gs = record { prefix = []; signals = gs; params = [] }
+
+-- a statement drives bit b of x
+abbrev pub DrivesBit : Place → Stmt → Name → ℕ → Type 0
+DrivesBit p k x b = (left : Lval) × Among (lefts k) left × Drives p left x b
+
+-- no two of them drive bit b of x
+abbrev pub AreApart : Place → List Stmt → Name → ℕ → Type 0
+AreApart p [] x b = Unit {0}
+AreApart p (k ∷ ks) x b = (DrivesBit p k x b → (j : Stmt) → Among ks j → DrivesBit p j x b → ⊥) × AreApart p ks x b
+
+-- in a cycle each bit of x has what the statement gives that drives it, and is 0 where none does
+pub record Meets (p : Place) (ks : List Stmt) (x : Name) (w : ℕ) (c : Cycle) : Type 0 where
+  pub driven_bits : (k : Stmt) (b : ℕ) → Among ks k → b < w → DrivesBit p k x b → bit_at (run true p k c c x) b ≡ bit_at (c x) b
+  pub other_bits : (b : ℕ) → b < w → ((k : Stmt) → Among ks k → DrivesBit p k x b → ⊥) → bit_at (c x) b ≡ 0
+
+-- nets one after another, each depending on earlier ones alone
+abbrev pub IsOrder : (Name → Name → Type 0) → List Name → Type 0
+IsOrder depends [] = Unit {0}
+IsOrder depends (x ∷ xs) = ((z : Name) → depends x z → Among (x ∷ xs) z → ⊥) × (Among xs x → ⊥) × IsOrder depends xs
+
+-- `d` after clocked blocks, one after another, which all read the cycle `c` before the edge
+abbrev pub after_edge : Place → List Stmt → Cycle → Cycle → Cycle
+after_edge p [] c d x = d x
+after_edge p (k ∷ ks) c d x = after_edge p ks c (run false p k c d) x
+
+-- a declared signal that is no register and no input
+pub record IsNet (f : Flat) (x : Name) : Type 0 where
+  pub signal : Signal
+  pub is_declared : Among f.signals signal
+  pub named : signal.name ≡ x
+  pub no_register : IsRegister f x → ⊥
+  pub no_input : IsInput f x → ⊥
+
+-- the nets of a module, each after those that it depends on
+pub record IsNetOrder (f : Flat) (depends : Name → Name → Type 0) (xs : List Name) : Type 0 where
+  pub order : IsOrder depends xs
+  pub nets : (x : Name) → Among xs x → IsNet f x
+  pub others : (g : Signal) → Among f.signals g → Among xs g.name ⊎ (IsRegister f g.name ⊎ IsInput f g.name)

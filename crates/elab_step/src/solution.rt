@@ -1,0 +1,51 @@
+// All nets of a module and what its clocked blocks leave, as nodes.
+ghost use Rattle.std.specs.Prelude.{◌≡◌, ◌<◌, length, ℕ, IfOk};
+ghost use Rattle.vlog_runs.specs.Places.{Among};
+ghost use Rattle.elab_step.specs.Asked.{CanElaborate};
+ghost use Rattle.elab_step.specs.Boards.{names_of, ArePlacesOf, IsSolution};
+
+use crate::edge::{copy_of, run_clocked};
+use crate::nets::solve_nets;
+use crate::start::begun;
+use elab_node::Leaves;
+use std::alloc::{AllocError, Global};
+use vlog_runs::Flat;
+use word_dag::Dag;
+
+/// The signals of a module as nodes of a dag: as they are begun, in a cycle, and after the edge that ends it.
+#[derive(Drop)]
+pub struct Solution {
+    pub dag: Dag,
+    pub begun: Leaves,
+    pub now: Leaves,
+    pub next: Leaves,
+}
+
+/// Solves a module's nets in an order of their places, each by the places of the statements that assign it, and runs its clocked blocks. The
+/// flags tell the nets; every other signal is a free word. It is refused for want of memory alone.
+pub fn solve(
+    alloc: Global,
+    flat: &Flat,
+    places: &[Vec<usize>],
+    order: &[usize],
+    nets: &[bool],
+) -> Result<Solution, AllocError>
+    requires can { CanElaborate flat.now }
+    requires places { ArePlacesOf flat.now flat.now.signals places.now }
+    requires order { (i : ℕ) → Among order.now i → i < length places.now }
+    requires nets { length nets.now ≡ length flat.now.signals }
+    ensures { IfOk result (λ s. IsSolution flat.now (names_of flat.now.signals order.now) nets.now s.dag s.begun s.now s.next) }
+{
+    let mut dag = Dag::new(alloc);
+    let begun = begun(alloc, &mut dag, flat.signals.as_slice(), nets)?;
+    let mut now = copy_of(alloc, &begun)?;
+    solve_nets(alloc, &mut dag, flat, places, order, &mut now)?;
+    let mut next = copy_of(alloc, &now)?;
+    run_clocked(alloc, &mut dag, flat, &now, &mut next)?;
+    Ok(Solution {
+        dag,
+        begun,
+        now,
+        next,
+    })
+}
