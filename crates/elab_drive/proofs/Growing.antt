@@ -1,7 +1,7 @@
 -- Lists that grow at their ends.
-use Rattle.std.proofs.Common.{◌≡◌, List, [], ◌∷◌, ◌++◌, map, append_assoc, Result, Ok, Err, sym, ap, ◌∙◌}
+use Rattle.std.proofs.Common.{◌≡◌, ℕ, ◌≤◌, List, [], ◌∷◌, ◌++◌, map, length, drop, drop_of_length-le, append_assoc, Result, Ok, Err, sym, ap, ◌∙◌}
 use Rattle.std.specs.Prelude.{OnOk}
-use Rattle.std.proofs.lemmas.List.{map-append}
+use Rattle.std.proofs.lemmas.List.{map-append, append-nil}
 
 pub ok_then : {T E : Type 0} (r : Result T E) (P Q : Type 0) → OnOk r P → (P → Q) → OnOk r Q
 ok_then (Ok x) P Q h f = f h
@@ -19,3 +19,7 @@ module _ {A B : Type 0} (f : A → B) where
 
   pub same_end : (old new : List A) (ys zs : List B) → map f new ≡ map f old ++ ys → ys ≡ zs → map f new ≡ map f old ++ zs
   same_end old new ys zs h g = h ∙ ap (λ z. map f old ++ z) g
+
+-- nothing is left to add
+pub ended : {X B : Type 0} (g : List X → List B) (xs : List X) (i : ℕ) (all base whole : List B) → g [] ≡ [] → length xs ≤ i → all ++ g (drop i xs) ≡ base ++ whole → all ≡ base ++ whole
+ended g xs i all base whole none le h = sym (append-nil all) ∙ (ap (λ z. all ++ z) (sym none ∙ ap g (sym (drop_of_length-le xs {i = i} le))) ∙ h)

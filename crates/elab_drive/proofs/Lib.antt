@@ -5,3 +5,7 @@ pub mod Constants
 pub mod Bits
 pub mod Spots
 pub mod Parting
+pub mod Naming
+pub mod Kinding
+pub mod Marking
+pub mod Twice

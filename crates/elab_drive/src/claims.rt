@@ -130,8 +130,8 @@ fn span_run(span: Span, a: i128, b: i128) -> Run
     }
 }
 
-// The numbers of the bits that a part names; none: all bits of its signal.
-fn run_of(alloc: Global, part: Part<'_>) -> Result<Option<Run>, AllocError>
+/// The numbers of the bits that a part names; none: all bits of its signal. Refused only for want of memory.
+pub fn run_of(alloc: Global, part: Part<'_>) -> Result<Option<Run>, AllocError>
     requires { IsPartReady (part_meant part) }
     ensures run { IfOk result (λ o. o ≡ part_run (part_meant part.entry)) }
     ensures small { IfOk result (λ o. IfSome o IsSmall) }

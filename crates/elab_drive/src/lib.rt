@@ -2,8 +2,15 @@
 #![tactic(auto)]
 
 mod claims;
+mod declared;
+mod drivers;
+mod kind;
+mod masks;
+mod names;
 mod parts;
 mod pieces;
 
+pub use drivers::driven_twice;
+pub use kind::wrongly_assigned;
 pub use parts::{Part, parts_of, reads_of};
 pub use pieces::{Piece, pieces_of};

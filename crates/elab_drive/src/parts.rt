@@ -1,9 +1,11 @@
 // The signals, bits and parts that left sides and expressions name (IEEE 1364-2005, section 5.2.1).
 
-ghost use Rattle.std.specs.Prelude.{◌≡◌, ◌++◌, OnOk, IfOk, map};
+ghost use Rattle.std.specs.Prelude.{◌≡◌, ◌++◌, [], ◌∷◌, OnOk, IfOk, map};
 ghost use Rattle.std.specs.List.{flat_map};
+ghost use Rattle.vlog_runs.specs.Blocks.{left_names};
 ghost use Rattle.elab_faults.specs.Drivers.{parts_of};
 ghost use Rattle.elab_drive.specs.Parts.{part_meant, reads_of};
+ghost use Rattle.elab_drive.specs.Claims.{part_name};
 
 use outside::Text;
 use sqlite_items::{Boxed, Items};
@@ -18,6 +20,18 @@ pub enum Part<'a> {
     Bit(&'a Text, &'a Expr),
     /// `name[a:b]`, `name[a+:b]` or `name[a-:b]`
     Bits(&'a Text, Span, &'a Expr, &'a Expr),
+}
+
+/// The name of the signal.
+pub fn name_of(part: Part<'_>) -> &Text
+    ensures names { left_names (part_meant part.entry) ≡ result.now ∷ [] }
+    ensures name { result.now ≡ part_name (part_meant part.entry) }
+{
+    match part {
+        Part::Whole(name) => name,
+        Part::Bit(name, _) => name,
+        Part::Bits(name, _, _, _) => name,
+    }
 }
 
 #[cycle(parts)]
