@@ -1,5 +1,5 @@
 -- What stands in each form of a statement, as the code reads it.
-use Rattle.std.proofs.Common.{◌≡◌, List, [], ◌∷◌, ◌++◌, map, refl, sym, ap, ◌∙◌}
+use Rattle.std.proofs.Common.{◌≡◌, List, ◌∷◌, ◌++◌, refl, sym, ap, ◌∙◌}
 use Rattle.std.specs.List.{flat_map}
 use Rattle.vlog_tree.specs.declared.expr.Expr.{Expr}
 use Rattle.vlog_tree.specs.declared.stmt.CaseItem.{CaseItem}
@@ -7,7 +7,7 @@ use Rattle.vlog_tree.specs.declared.stmt.CaseKind.{CaseKind}
 use Rattle.vlog_tree.specs.declared.stmt.Stmt.{Stmt, Row_of-Stmt, end_of-Stmt, more_of-Stmt, items-the_row-Stmt, items_hidden-the_row-Stmt-0, Row_of-CaseItem, end_of-CaseItem, more_of-CaseItem, items-the_row-CaseItem, items_hidden-the_row-CaseItem-2}
 use Rattle.vlog_tree.specs.declared.stmt.Stmt.TheVariants as s
 use Rattle.vlog_tree.specs.declared.stmt.Stmt.TheBlock.{hidden-the_row-Stmt-0, shape-the_row-Stmt-1, hidden-the_row-Stmt-1, hidden-the_row-CaseItem-2}
-use Rattle.elab_drive.specs.Pieces.{Deed, Tests, deeds, row_deeds, case_deeds, item_deeds}
+use Rattle.elab_drive.specs.Pieces.{Tests, deeds, row_deeds, case_deeds, item_deeds}
 use denote.Hole.Carrier
 
 rows : (m : _) (row : Row_of-Stmt m) → row_deeds row ≡ flat_map deeds (items-the_row-Stmt m row)

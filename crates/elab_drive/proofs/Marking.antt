@@ -1,5 +1,5 @@
 -- Bits that are set in tables.
-use Rattle.std.proofs.Common.{◌≡◌, ◌≢◌, ℕ, zero, suc, ◌+◌, ◌≤◌, ◌<◌, max, ◌⊎◌, inl, inr, List, [], ◌∷◌, length, get_or, drop, drop-cons, add-one, get_or-set_same, get_or-set_other, replicate, arith, refl, sym, ap, ◌∙◌, subst}
+use Rattle.std.proofs.Common.{◌≡◌, ◌≢◌, ℕ, zero, suc, ◌+◌, ◌<◌, max, ◌⊎◌, inl, inr, List, [], ◌∷◌, length, get_or, drop, drop-cons, add-one, get_or-set_same, get_or-set_other, replicate, arith, refl, sym, ap, ◌∙◌, subst}
 use Rattle.std.specs.Prelude.{bit_or, bit_and, slice_set, min}
 use Rattle.std.specs.Int.{bit_at}
 use Rattle.std.proofs.Math.ListN.{length-set}

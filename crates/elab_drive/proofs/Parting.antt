@@ -1,10 +1,9 @@
 -- The bits that a part claims are those that it drives, and a left side drives the bits of its parts.
-use Rattle.std.proofs.Common.{◌≡◌, ℕ, ◌+◌, ◌≤◌, ◌<◌, min, ◌⊎◌, inl, inr, List, [], ◌∷◌, ◌++◌, Option, Some, None, arith, refl, sym, ap, ◌∙◌, subst}
+use Rattle.std.proofs.Common.{◌≡◌, ℕ, ◌<◌, min, ◌⊎◌, inl, inr, List, [], ◌∷◌, Option, Some, None, arith, refl, sym, ap, ◌∙◌, subst}
 use Rattle.std.specs.Prelude.{ℤ, pos, ◌≤ℤ◌, ◌<ℤ◌, ◌-ℤ◌, ◌+ℤ◌}
 use Rattle.std.specs.Int.{bit_at}
 use Rattle.std.proofs.lemmas.Int.{ints}
 use Rattle.vlog_tree.specs.declared.expr.Expr.{Expr}
-use Rattle.vlog_tree.specs.declared.expr.Span.{Span}
 use Rattle.vlog_tree.specs.declared.stmt.Lval.{Lval, Row_of-Lval, end_of-Lval, more_of-Lval}
 use Rattle.vlog_tree.specs.declared.stmt.Lval.TheVariants as l
 use Rattle.vlog_tree.specs.Value.{operand_of, own_integer, natural, part_low, part_width, NamesOnly}
@@ -13,11 +12,10 @@ use Rattle.vlog_runs.specs.Places.{Name, Place, Among}
 use Rattle.vlog_runs.specs.Blocks.{IsWithin, low_in, Drives, AnyDrives}
 use Rattle.flat_laws.proofs.Lists.{among_append, append_left, append_right}
 use Rattle.elab_faults.specs.Drivers.{parts_of, row_parts_of}
-use Rattle.elab_drive.specs.declared.claims.Claim.{Claim}
 use Rattle.elab_drive.specs.declared.claims.Run.{Run}
 use Rattle.elab_drive.specs.declared.claims.Spot.{Spot}
 use Rattle.elab_drive.specs.Parts.{reads_of}
-use Rattle.elab_drive.specs.Claims.{nothing, ones, known, known_if, bit_run, span_run, part_run, part_name, claim_at, spot_in}
+use Rattle.elab_drive.specs.Claims.{nothing, known, known_if, bit_run, span_run, part_run, part_name, claim_at, spot_in}
 use Rattle.elab_drive.proofs.Bits.{ones_set, set_ones, run_set, set_run}
 use Rattle.elab_drive.proofs.Constants.{no_names, no_reads}
 use Rattle.elab_drive.proofs.Spots.{bare, low_is}

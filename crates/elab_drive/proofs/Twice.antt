@@ -1,5 +1,5 @@
 -- Drivers that claim one bit are two drivers of it.
-use Rattle.std.proofs.Common.{◌≡◌, ℕ, zero, suc, ◌+◌, ◌≤◌, ◌<◌, ◌⊎◌, inl, inr, Bool, true, false, cond, List, [], ◌∷◌, ◌++◌, length, replicate, map, Option, Some, None, arith, refl, sym, ap, ◌∙◌, subst}
+use Rattle.std.proofs.Common.{◌≡◌, ℕ, zero, suc, ◌+◌, ◌<◌, ◌⊎◌, inl, inr, Bool, true, false, cond, List, [], ◌∷◌, ◌++◌, length, replicate, map, Option, Some, None, arith, refl, sym, ap, ◌∙◌, subst}
 use Rattle.std.specs.List.{flat_map, slice_get}
 use Rattle.std.specs.Int.{bit_at}
 use Rattle.vlog_tree.specs.declared.item.Assign.{Assign}
@@ -13,7 +13,7 @@ use Rattle.vlog_runs.specs.Places.{Name, Among}
 use Rattle.vlog_runs.specs.Blocks.{Drives, lefts}
 use Rattle.flat_laws.proofs.Lists.{among_append, among_flat, flat_among, among_map}
 use Rattle.elab_faults.specs.declared.fault.ElabFault.TheVariants as f
-use Rattle.elab_faults.specs.Drivers.{Driver, Input, Part, Block, parts_of, input_drivers, drivers_of, DrivesIn, HasTwoDrivers}
+use Rattle.elab_faults.specs.Drivers.{Driver, Input, Part, Block, parts_of, input_drivers, drivers_of, DrivesIn}
 use Rattle.elab_faults.specs.Stands.{Stands}
 use Rattle.elab_drive.specs.declared.claims.Claim.{Claim}
 use Rattle.elab_drive.specs.declared.claims.Run.{Run}

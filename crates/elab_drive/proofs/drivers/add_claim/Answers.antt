@@ -1,4 +1,4 @@
-use Rattle.std.proofs.Common.{sym, ◌∙◌, ap, subst, ◌≤◌}
+use Rattle.std.proofs.Common.{sym, ◌∙◌}
 use Rattle.elab_drive.proofs.Spots.{narrow_spot}
 use Rattle.elab_drive.proofs.drivers.add_claim.Goals as goal
 

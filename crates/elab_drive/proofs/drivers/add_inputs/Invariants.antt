@@ -1,5 +1,4 @@
 use Rattle.std.proofs.Common.{◌≡◌, ◌++◌, drop, map}
-use Rattle.std.specs.List.{flat_map}
 use Rattle.elab_faults.specs.Drivers.{input_drivers}
 use Rattle.elab_drive.specs.Driving.{driver_meant}
 use Rattle.elab_drive.proofs.drivers.add_inputs.Given as goal

@@ -1,5 +1,4 @@
 use Rattle.std.proofs.Common.{◌≡◌, ◌++◌, drop, map}
-use Rattle.std.specs.List.{flat_map}
 use Rattle.elab_faults.specs.Drivers.{Part}
 use Rattle.elab_drive.specs.Parts.{part_meant}
 use Rattle.elab_drive.specs.Driving.{driver_meant}

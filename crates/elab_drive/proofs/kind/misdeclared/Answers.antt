@@ -1,4 +1,4 @@
-use Rattle.std.proofs.Common.{◌≡◌, true, false, List, map, ap, ◌∙◌}
+use Rattle.std.proofs.Common.{true, false, ap, ◌∙◌}
 use Rattle.std.specs.List.{flat_map}
 use Rattle.vlog_tree.specs.declared.item.Assign.{Assign}
 use Rattle.vlog_runs.specs.Blocks.{left_names}

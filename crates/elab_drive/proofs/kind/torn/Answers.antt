@@ -1,9 +1,7 @@
-use Rattle.std.proofs.Common.{◌≡◌, true, false, List, map, ap, ◌∙◌}
+use Rattle.std.proofs.Common.{true, false, ap, ◌∙◌}
 use Rattle.std.specs.List.{flat_map}
-use Rattle.vlog_tree.specs.declared.item.Assign.{Assign}
-use Rattle.vlog_runs.specs.Blocks.{left_names}
 use Rattle.elab_drive.specs.declared.names.Form.TheVariants as v
-use Rattle.elab_drive.specs.Names.{chosen_names, declared_names}
+use Rattle.elab_drive.specs.Names.{chosen_names}
 use Rattle.elab_drive.proofs.Kinding.{made, torn_by, whole_by, some_then, none_then}
 use Rattle.elab_drive.proofs.kind.torn.Goals as goal
 

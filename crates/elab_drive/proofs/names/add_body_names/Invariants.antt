@@ -1,7 +1,6 @@
 use Rattle.std.proofs.Common.{◌≡◌, ◌++◌, drop, map}
 use Rattle.std.specs.List.{flat_map}
 use Rattle.flat_scopes.specs.Borrowed.{name_meant}
-use Rattle.vlog_runs.specs.Blocks.{left_names}
 use Rattle.elab_drive.specs.Pieces.{piece_meant}
 use Rattle.elab_drive.specs.Names.{deed_names}
 use Rattle.elab_drive.proofs.names.add_body_names.Given as goal

@@ -1,5 +1,4 @@
 use Rattle.std.proofs.Common.{◌≡◌, true, sym, ap, ◌∙◌}
-use Rattle.vlog_runs.specs.Places.{Name}
 use Rattle.vlog_runs.specs.Contents.{is_among}
 use Rattle.elab_drive.proofs.Naming.{among_of, of_among, here, passed, dropped}
 use Rattle.elab_drive.proofs.names.shared.Goals as goal
