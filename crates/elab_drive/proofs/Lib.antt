@@ -9,3 +9,6 @@ pub mod Naming
 pub mod Kinding
 pub mod Marking
 pub mod Twice
+pub mod BitsRead
+pub mod Texts
+pub mod LackingBits

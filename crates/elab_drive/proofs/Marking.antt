@@ -76,7 +76,7 @@ module _ (ms : List ℕ) (c : Claim) (lt : c.place < length ms) (i b : ℕ) wher
 pub within_next : (ms : List ℕ) (i v : ℕ) (cs : List Claim) → AreWithin (length ms) cs → AreWithin (length (slice_set ms i v)) cs
 within_next ms i v cs h = subst (λ n. AreWithin n cs) (sym (length-set ms i v)) h
 
-first_claim : (c : Claim) (cs : List Claim) (i b : ℕ) → IsClaimed (c ∷ cs) i b → ((c.place ≡ i) × (bit_at c.bits b ≡ 1)) ⊎ IsClaimed cs i b
+pub first_claim : (c : Claim) (cs : List Claim) (i b : ℕ) → IsClaimed (c ∷ cs) i b → ((c.place ≡ i) × (bit_at c.bits b ≡ 1)) ⊎ IsClaimed cs i b
 first_claim c cs i b h = by_place h.claim h.among h.at h.set
   where
     by_place : (d : Claim) → Among (c ∷ cs) d → d.place ≡ i → bit_at d.bits b ≡ 1 → ((c.place ≡ i) × (bit_at c.bits b ≡ 1)) ⊎ IsClaimed cs i b

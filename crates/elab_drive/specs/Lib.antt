@@ -6,3 +6,4 @@ pub mod Spots
 pub mod Names
 pub mod Kinds
 pub mod Driving
+pub mod Wanting

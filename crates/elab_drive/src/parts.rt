@@ -75,7 +75,7 @@ pub fn parts_of(alloc: Global, left: &Lval) -> Result<Vec<Part<'_>>, AllocError>
 }
 
 #[cycle(reads)]
-fn add_reads<'a>(all: &mut Vec<Part<'a>>, expr: &'a Expr) -> Result<(), AllocError>
+pub fn add_reads<'a>(all: &mut Vec<Part<'a>>, expr: &'a Expr) -> Result<(), AllocError>
     ensures { OnOk result (map part_meant all.new.items ≡ map part_meant all.old.items ++ reads_of expr.now) }
 {
     match expr {
