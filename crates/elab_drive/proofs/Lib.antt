@@ -1,0 +1,14 @@
+pub mod Growing
+pub mod Forms
+pub mod Reading
+pub mod Constants
+pub mod Bits
+pub mod Spots
+pub mod Parting
+pub mod Naming
+pub mod Kinding
+pub mod Marking
+pub mod Twice
+pub mod BitsRead
+pub mod Texts
+pub mod LackingBits

@@ -1,0 +1,25 @@
+-- The wrong forms of an assignment, apart.
+use Rattle.std.specs.Prelude.{◌≡◌, ◌⊎◌, true, false}
+use Rattle.vlog_tree.specs.declared.item.Assign.{Assign}
+use Rattle.vlog_runs.specs.declared.flat.Always.{Always}
+use Rattle.vlog_runs.specs.declared.flat.Flat.{Flat}
+use Rattle.vlog_runs.specs.Places.{Name, Among}
+use Rattle.vlog_runs.specs.Blocks.{lefts, left_names}
+use Rattle.elab_faults.specs.Stands.{Names, IsReg, IsWire, blocking_lefts, nonblocking_lefts}
+
+-- a continuous assignment assigns to a `reg`, or a block to a signal that isn't one
+abbrev pub IsMisdeclared : Flat → Name → Type 0
+IsMisdeclared m x =
+    ((a : Assign) × Among m.assigns a × Among (left_names a.left) x × IsReg m x)
+    ⊎ ((k : Always) × Among m.blocks k × Names (lefts k.body) x × IsWire m x)
+
+-- a clocked block assigns by `=`, or a combinational one by `<=`
+abbrev pub IsMisformed : Flat → Name → Type 0
+IsMisformed m x =
+    ((k : Always) × Among m.blocks k × (k.clocked ≡ true) × Names (blocking_lefts k.body) x)
+    ⊎ ((k : Always) × Among m.blocks k × (k.clocked ≡ false) × Names (nonblocking_lefts k.body) x)
+
+-- a clocked and a combinational block both assign
+abbrev pub IsTorn : Flat → Name → Type 0
+IsTorn m x =
+    (k j : Always) × Among m.blocks k × Among m.blocks j × (k.clocked ≡ true) × (j.clocked ≡ false) × Names (lefts k.body) x × Names (lefts j.body) x

@@ -1,0 +1,9 @@
+pub mod Parts
+pub mod Pieces
+pub mod Claims
+pub mod Masks
+pub mod Spots
+pub mod Names
+pub mod Kinds
+pub mod Driving
+pub mod Wanting

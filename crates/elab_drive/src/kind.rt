@@ -1,0 +1,96 @@
+// Wrong forms of assignments (IEEE 1364-2005, sections 6.1 and 9.2).
+
+ghost use Rattle.std.specs.Prelude.{◌≡◌, [], map, IfOk, IfSome, IfNone, Some};
+ghost use Rattle.vlog_runs.specs.Places.{Name, Among};
+ghost use Rattle.flat_scopes.specs.Borrowed.{name_meant};
+ghost use Rattle.elab_faults.specs.Stands.{Stands};
+ghost use Rattle.elab_faults.specs.declared.fault.ElabFault.TheVariants as f;
+ghost use Rattle.elab_drive.specs.Kinds.{IsMisdeclared, IsMisformed, IsTorn};
+
+use crate::names::{Form, assign_names, block_names, declared_names, shared};
+use flat_scopes::Names;
+use outside::Text;
+use std::alloc::{AllocError, Global};
+use vlog_runs::Flat;
+
+// A name that a continuous assignment assigns though it is declared by `reg`, or a block though it isn't.
+fn misdeclared(alloc: Global, flat: &Flat) -> Result<Option<&Text>, AllocError>
+    ensures some { IfOk result (λ o. IfSome o (λ x. IsMisdeclared flat.now x.now)) }
+    ensures none { IfOk result (λ o. IfNone o ((x : Name) → IsMisdeclared flat.now x → ⊥)) }
+{
+    let signals = flat.signals.as_slice();
+    let assigns = flat.assigns.as_slice();
+    let blocks = flat.blocks.as_slice();
+    let regs = declared_names(alloc, signals, true)?;
+    let assigned = assign_names(alloc, assigns)?;
+    if let Some(name) = shared(&assigned, &regs) {
+        return Ok(Some(name));
+    }
+    let wires = declared_names(alloc, signals, false)?;
+    let clocked = block_names(alloc, blocks, true, Form::Any)?;
+    if let Some(name) = shared(&clocked, &wires) {
+        return Ok(Some(name));
+    }
+    let combinational = block_names(alloc, blocks, false, Form::Any)?;
+    Ok(shared(&combinational, &wires))
+}
+
+fn first<'a>(names: &[&'a Text]) -> Option<&'a Text>
+    ensures some { IfSome result (λ x. Among (map name_meant names.now) x.now) }
+    ensures none { IfNone result (names.now ≡ []) }
+{
+    if names.is_empty() {
+        return None;
+    }
+    Some(names[0])
+}
+
+// A name that a clocked block assigns by `=`, or a combinational one by `<=`.
+fn misformed(alloc: Global, flat: &Flat) -> Result<Option<&Text>, AllocError>
+    ensures some { IfOk result (λ o. IfSome o (λ x. IsMisformed flat.now x.now)) }
+    ensures none { IfOk result (λ o. IfNone o ((x : Name) → IsMisformed flat.now x → ⊥)) }
+{
+    let blocks = flat.blocks.as_slice();
+    let blocking = block_names(alloc, blocks, true, Form::Blocking)?;
+    if let Some(name) = first(&blocking) {
+        return Ok(Some(name));
+    }
+    let nonblocking = block_names(alloc, blocks, false, Form::Nonblocking)?;
+    Ok(first(&nonblocking))
+}
+
+// A name that a clocked and a combinational block assign.
+fn torn(alloc: Global, flat: &Flat) -> Result<Option<&Text>, AllocError>
+    ensures some { IfOk result (λ o. IfSome o (λ x. IsTorn flat.now x.now)) }
+    ensures none { IfOk result (λ o. IfNone o ((x : Name) → IsTorn flat.now x → ⊥)) }
+{
+    let blocks = flat.blocks.as_slice();
+    let clocked = block_names(alloc, blocks, true, Form::Any)?;
+    let combinational = block_names(alloc, blocks, false, Form::Any)?;
+    let others = Names::of(alloc, combinational)?;
+    Ok(shared(&clocked, &others))
+}
+
+fn kept(alloc: Global, name: &Text) -> Result<Option<Text>, AllocError>
+    ensures { IfOk result (λ o. o ≡ Some name.now) }
+{
+    Ok(Some(Text::copy(alloc, name.bytes())?))
+}
+
+/// A signal with the wrong form of assignment: by a continuous assignment though it is declared by `reg`, or by a block though it
+/// isn't; by `=` in a clocked block, or by `<=` in a combinational one; or by both kinds of blocks. Refused only for want of memory.
+pub fn wrongly_assigned(alloc: Global, flat: &Flat) -> Result<Option<Text>, AllocError>
+    ensures some { IfOk result (λ o. IfSome o (λ x. Stands flat.now (f.Kind x))) }
+    ensures none { IfOk result (λ o. IfNone o ((x : Name) → Stands flat.now (f.Kind x) → ⊥)) }
+{
+    if let Some(name) = misdeclared(alloc, flat)? {
+        return kept(alloc, name);
+    }
+    if let Some(name) = misformed(alloc, flat)? {
+        return kept(alloc, name);
+    }
+    if let Some(name) = torn(alloc, flat)? {
+        return kept(alloc, name);
+    }
+    Ok(None)
+}

@@ -1,0 +1,23 @@
+//! What drives the bits of a module without instances, and which of its assignments have the wrong form.
+#![tactic(auto)]
+
+mod claims;
+mod declared;
+mod drivers;
+mod kind;
+mod lacking;
+mod masks;
+mod names;
+mod parts;
+mod pieces;
+mod wanted;
+
+pub use claims::{Claim, Spot};
+pub use declared::Declared;
+pub use drivers::{Driver, driven_twice};
+pub use kind::wrongly_assigned;
+pub use lacking::{covers, driven, missing, named};
+pub use masks::Bit;
+pub use parts::{Part, parts_of, reads_of};
+pub use pieces::{Piece, pieces_of};
+pub use wanted::wanted_parts;
