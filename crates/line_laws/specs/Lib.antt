@@ -2,3 +2,4 @@ pub mod Windows
 pub mod Lines
 pub mod Tests
 pub mod Laws
+pub mod Names

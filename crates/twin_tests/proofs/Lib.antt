@@ -5,3 +5,7 @@ pub mod Readings
 pub mod Ends
 pub mod Undivided
 pub mod Naming
+pub mod Framed
+pub mod Reported
+pub mod Handing
+pub mod Spoken

@@ -91,3 +91,14 @@ shown_fit names start rows f count most e shows is = is ∙ ap (λ (n : ℕ). n 
 -- a node of an equal test
 pub same_count : (nodes : List Node) (i k n : ℕ) (p : Naming → ℕ → Bool) → ((e : Naming) → k ≡ n) → Tests nodes i (λ e. all_below k (p e)) → Tests nodes i (λ e. all_below n (p e))
 same_count nodes i k n p is t = same_test nodes i (λ e. all_below k (p e)) (λ e. all_below n (p e)) (λ e. below_same k n (p e) (is e)) t
+
+-- what is built so far of tests of the values
+pub record Joined (start nodes : List Node) (node : ℕ) (t : Naming → Bool) : Type 0 where
+  pub keeps : Keeps start nodes
+  pub tests : Tests nodes node t
+
+pub joined_step : (start a b c : List Node) (old one new : ℕ) (t u v : Naming → Bool) → ((e : Naming) → (t e || u e) ≡ v e) → Joined start a old t → Keeps a b → Keeps b c → Tests b one u → ((f g : Naming → Bool) → Tests b old f → Tests b one g → Tests c new (λ e. f e || g e)) → Joined start c new v
+joined_step start a b c old one new t u v same before ab bc made joined = record {
+  keeps = keeps_both start b c (keeps_both start a b before.keeps ab) bc;
+  tests = same_test c new (λ e. t e || u e) v same (joined t u (tests_later a b old t ab before.tests) made);
+}

@@ -96,7 +96,7 @@ pub readable_more : (set : Set) (j k : ℕ) (e : Expr) → j ≤ k → IsReadabl
 readable_more set j k e le r = record { formed = r.formed; fits = omega (arith, r.fits, le) }
 
 -- the property at a position past the first one
-same_at : (xs : List Property) (i : ℕ) (d x : Property) → i < length xs → get_or xs i d ≡ get_or xs i x
+pub same_at : (xs : List Property) (i : ℕ) (d x : Property) → i < length xs → get_or xs i d ≡ get_or xs i x
 same_at [] i d x lt = absurd (omega arith)
 same_at (y ∷ ys) zero d x lt = refl
 same_at (y ∷ ys) (suc i) d x lt = same_at ys i d x (omega arith)
@@ -165,3 +165,8 @@ pub commitments_read : (set : Set) (p k : ℕ) (x : Property) (es : List Expr) �
 commitments_read set p k x es s follows is at =
     let same : es ≡ (property_at set p).commit = is ∙ ap (λ (y : Property). y.commit) at in
     subst (All (IsReadable set k)) (sym same) (more_readable set (window_of set p + 1) k (property_at set p).commit (omega (arith, follows.1)) (reads_window set p s follows.0).commitments)
+
+pub hands_read : (set : Set) (p k : ℕ) (x : Property) (es : List Expr) → HasStructure set → FollowsWithin set k p → es ≡ x.hand → x ≡ property_at set p → All (IsReadable set k) es
+hands_read set p k x es s follows is at =
+    let same : es ≡ (property_at set p).hand = is ∙ ap (λ (y : Property). y.hand) at in
+    subst (All (IsReadable set k)) (sym same) (more_readable set (window_of set p + 1) k (property_at set p).hand (omega (arith, follows.1)) (reads_window set p s follows.0).hands)

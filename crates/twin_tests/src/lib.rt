@@ -3,9 +3,18 @@
 
 mod ending;
 mod formula;
+mod frame;
+mod hands;
+mod line;
+mod lines;
 mod obligation;
+mod obs;
+mod pair;
+mod part;
 mod property;
 mod window;
 mod words;
 
+pub use lines::lines_of;
 pub use obligation::obligation_of;
+pub use obs::twin_obs;

@@ -1,6 +1,6 @@
 // Where properties start in rows of nodes.
 ghost use Rattle.std.specs.Prelude.{◌≡◌, ◌<◌, List, length, IfOk};
-ghost use Rattle.line_laws.specs.Tests.{opens, starts};
+ghost use Rattle.line_laws.specs.Tests.{starts};
 ghost use Rattle.set_tree.specs.Formulas.{meaning_of};
 ghost use Rattle.set_tree.specs.Meaning.{Row};
 ghost use Rattle.set_tree.specs.Parts.{IsPosition, assumed, property_at};
@@ -9,7 +9,7 @@ ghost use Rattle.twin_tests.specs.Reading.{FollowsWithin, HasStructure};
 ghost use Rattle.word_dag.specs.Adding.{Keeps};
 ghost use Rattle.word_dag.specs.Nodes.{Naming};
 
-use crate::formula::{all_node, constraints_node};
+use crate::formula::all_node;
 use crate::window::NodeRow;
 use crate::words::{both, constant};
 use set_tree::{Property, Set};
@@ -71,26 +71,5 @@ pub fn starts_node(
     let formulas = property_of(set, at).commit.as_slice();
     let committed = all_node(alloc, dag, set, rows, formulas)?;
     let node = both(dag, assumed, committed)?;
-    Ok(node)
-}
-
-/// Whether the constraints hold in the rows, and a property starts in the first one.
-pub fn opens_node(
-    alloc: Global,
-    dag: &mut Dag,
-    set: &Set,
-    at: usize,
-    rows: &[NodeRow],
-) -> Result<u64, AllocError>
-    requires structure { HasStructure set.now }
-    requires follows { FollowsWithin set.now (length rows.now) at }
-    requires leaves { AreLeaves set.now.names dag.old rows.now }
-    ensures keeps { IfOk result (λ _. Keeps dag.old dag.new) }
-    ensures width { IfOk result (λ i. HasWidth dag.new i 1) }
-    ensures node { IfOk result (λ i. (f : Naming → List Row) → Shows set.now.names dag.old rows.now f → Tests dag.new i (λ e. opens (meaning_of set.now) set.now at (f e))) }
-{
-    let constrained = constraints_node(alloc, dag, set, rows)?;
-    let starts = starts_node(alloc, dag, set, at, rows)?;
-    let node = both(dag, constrained, starts)?;
     Ok(node)
 }

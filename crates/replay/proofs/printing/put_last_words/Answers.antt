@@ -1,0 +1,13 @@
+use Rattle.std.proofs.Common.{[], ◌∷◌}
+use Rattle.word_dag.specs.Text.{spaced}
+use Rattle.replay.proofs.Putting.{head_refused, tail_refused, tail_put}
+use Rattle.replay.proofs.printing.put_last_words.Goals as goal
+
+pub returns-in_err-put_words-clause-err : goal.returns-in_err-put_words-clause-err
+returns-in_err-put_words-clause-err g c = head_refused c.from_residual.result _ _ _ _ c.in_err-put_words.field-0.0 (spaced c.args.words.now) (10 ∷ []) c.from_residual.ensures.1 c.in_err-put_words.ensures.err
+
+pub returns-clause-ok : goal.returns-clause-ok
+returns-clause-ok g c = tail_put c.put.result _ _ _ _ _ _ (spaced c.args.words.now) (10 ∷ []) c.in_ok-put_words.ensures.ok c.put.ensures.ok
+
+pub returns-clause-err : goal.returns-clause-err
+returns-clause-err g c = tail_refused c.put.result _ _ _ _ _ _ (spaced c.args.words.now) (10 ∷ []) c.in_ok-put_words.ensures.ok c.put.ensures.err

@@ -1,0 +1,9 @@
+//! Counterexamples: what is shown of a line that is refuted, and its text.
+#![tactic(auto, using(crate::proofs::Putting::putting))]
+
+mod printing;
+mod put;
+mod shown;
+
+pub use printing::print_trace;
+pub use shown::{Shown, Start, Trace};

@@ -1,0 +1,13 @@
+-- The obligations of a set's lines.
+use Rattle.std.specs.Prelude.{◌≡◌}
+use Rattle.set_tree.specs.declared.line.Line.{Line}
+use Rattle.set_tree.specs.declared.set.Set.{Set}
+use Rattle.set_tree.specs.Formulas.{meaning_of}
+use Rattle.word_dag.specs.declared.ob.Named.{Named}
+use Rattle.line_laws.specs.Lines.{IsOf}
+use Rattle.line_laws.specs.Names.{line_name}
+
+-- an obligation of the line under the line's name
+pub record IsNamedOf (set : Set) (line : Line) (named : Named) : Type 0 where
+  pub name : named.name ≡ line_name set line
+  pub of_line : IsOf (meaning_of set) set line named.ob.nodes named.ob.root

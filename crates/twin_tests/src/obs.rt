@@ -1,0 +1,56 @@
+// The obligations of a set's lines.
+ghost use Rattle.std.specs.Prelude.{◌≡◌, IfOk};
+ghost use Rattle.std.specs.List.{AllZip};
+ghost use Rattle.set_tree.specs.Report.{set_lines};
+ghost use Rattle.twin_tests.specs.Framing.{AreFrames, SpeaksOf};
+ghost use Rattle.twin_tests.specs.Named.{IsNamedOf};
+ghost use Rattle.twin_tests.specs.Reading.{HasStructure};
+ghost use Rattle.word_dag.specs.Adding.{Keeps};
+
+use crate::frame::{Frames, frames_of};
+use crate::line::line_node;
+use crate::lines::lines_of;
+use crate::obligation::obligation_of;
+use line_laws::line_name;
+use set_sound::Sound;
+use set_tree::{Line, Set};
+use std::alloc::{AllocError, Global};
+use word_dag::{Dag, Named};
+
+// The obligation of a line, with the line's name.
+fn named_ob(
+    alloc: Global,
+    dag: &mut Dag,
+    set: &Set,
+    line: Line,
+    frames: &Frames,
+) -> Result<Named, AllocError>
+    requires structure { HasStructure set.now }
+    requires line { SpeaksOf set.now line }
+    requires frames { AreFrames set.now dag.old frames.now }
+    ensures keeps { IfOk result (λ _. Keeps dag.old dag.new) }
+    ensures named { IfOk result (λ named. IsNamedOf set.now line named) }
+{
+    let root = line_node(alloc, dag, set, line, frames)?;
+    let ob = obligation_of(alloc, dag, root)?;
+    let name = line_name(alloc, set, line)?;
+    Ok(Named { name, ob })
+}
+
+/// The obligations of the lines of a set, in the order of a report: for each line its name, and nodes whose root is 1 exactly at values whose
+/// windows violate the line. Where the end of a property may lie at several offsets, the windows of each reach as far as that end asks. It is
+/// refused for want of memory alone.
+pub fn twin_obs(alloc: Global, sound: &Sound) -> Result<Vec<Named>, AllocError>
+    ensures { IfOk result (λ obs. AllZip (IsNamedOf sound.now) (set_lines sound.now) obs.items) }
+{
+    let set = sound.set();
+    let lines = lines_of(alloc, set)?;
+    let mut dag = Dag::new(alloc);
+    let frames = frames_of(alloc, &mut dag, set)?;
+    let mut obs = Vec::with_capacity(alloc, lines.len())?;
+    for line in &lines {
+        let named = named_ob(alloc, &mut dag, set, *line, &frames)?;
+        obs.push(named)?;
+    }
+    Ok(obs)
+}
