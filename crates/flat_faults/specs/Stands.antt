@@ -223,16 +223,36 @@ HasMore ms top n =
 abbrev pub AtSome : List Module → Name → (List Name → Scope → Type 0) → Type 0
 AtSome ms top P = (path : List Name) × (s : Scope) × (scope_at ms top path ≡ Some s) × P path s
 
+-- a fault stands at a scope, which has this name where an expression is at fault
+abbrev pub StandsAt : List Module → Name → Scope → FlatFault → Type 0
+StandsAt ms path s (f.Unknown n) = UsesUnknown ms s n ⊎ GivesUnknown ms s n
+StandsAt ms path s (f.Twice n) = ((x : Name) × IsDeclaredTwice s x × (n ≡ full s x)) ⊎ OverridesTwice s n
+StandsAt ms path s (f.Port n) = BreaksPorts ms s n
+StandsAt ms path s (f.Constant n) = BreaksConstant ms path s n
+StandsAt ms path s (f.Width n) = BreaksWidth ms path s n
+StandsAt ms path s f.NoTop = ⊥
+StandsAt ms path s (f.Recursion n) = ⊥
+StandsAt ms path s f.Instances = ⊥
+StandsAt ms path s (f.Clock n) = ⊥
+StandsAt ms path s f.Memory = ⊥
+
+abbrev pub AtSomeScope : List Module → Name → FlatFault → Type 0
+AtSomeScope ms top fault = AtSome ms top (λ path s. StandsAt ms (path_name top path) s fault)
+
 -- a fault stands for a list of modules
 abbrev pub Stands : List Module → Name → FlatFault → Type 0
 Stands ms top f.NoTop = module_at ms top ≡ None
-Stands ms top (f.Unknown n) = AtSome ms top (λ path s. UsesUnknown ms s n ⊎ GivesUnknown ms s n)
-Stands ms top (f.Twice n) =
-    Repeats (map (λ m. m.name) ms) n ⊎ AtSome ms top (λ path s. ((x : Name) × IsDeclaredTwice s x × (n ≡ full s x)) ⊎ OverridesTwice s n)
-Stands ms top (f.Port n) = AtSome ms top (λ path s. BreaksPorts ms s n)
+Stands ms top (f.Unknown n) = AtSomeScope ms top (f.Unknown n)
+Stands ms top (f.Twice n) = Repeats (map (λ m. m.name) ms) n ⊎ AtSomeScope ms top (f.Twice n)
+Stands ms top (f.Port n) = AtSomeScope ms top (f.Port n)
 Stands ms top (f.Recursion n) = (path : List Name) × IsRecursive ms top path × (n ≡ path_name top path)
 Stands ms top f.Instances = ((path : List Name) → IsRecursive ms top path → ⊥) × HasMore ms top 4096
-Stands ms top (f.Constant n) = AtSome ms top (λ path s. BreaksConstant ms (path_name top path) s n)
-Stands ms top (f.Width n) = AtSome ms top (λ path s. BreaksWidth ms (path_name top path) s n)
+Stands ms top (f.Constant n) = AtSomeScope ms top (f.Constant n)
+Stands ms top (f.Width n) = AtSomeScope ms top (f.Width n)
 Stands ms top (f.Clock n) = AtSome ms top (λ path s. BreaksClocks ms top path s n)
 Stands ms top f.Memory = ⊥
+
+-- a refusal's fault stands, want of memory apart
+abbrev pub Refuses : (FlatFault → Type 0) → FlatFault → Type 0
+Refuses IsFault f.Memory = Unit {0}
+Refuses IsFault fault = IsFault fault
