@@ -1,22 +1,22 @@
 -- A cycle in the graph of modules is a module that contains itself.
-use Rattle.std.proofs.Common.{ℕ, suc, ◌≡◌, ◌+◌, ◌-◌, ◌≤◌, ◌<◌, List, [], ◌∷◌, ◌++◌, length, map, take, drop, get_or, Option, Some, None, refl, sym, ap, subst, ◌∙◌, arith, length-drop, add-one}
+use Rattle.std.proofs.Common.{ℕ, suc, ◌≡◌, ◌+◌, ◌<◌, List, [], ◌∷◌, length, map, take, drop, get_or, Option, Some, None, refl, sym, ap, subst, ◌∙◌, arith, length-drop, add-one}
 use Rattle.std.specs.Option.{option_map}
 use Rattle.std.specs.List.{slice_get}
 use Rattle.std.proofs.lemmas.List.{take-append-drop}
-use Rattle.std.proofs.lemmas.Option.{slice_get_within, slice_get_read}
+use Rattle.std.proofs.lemmas.Option.{slice_get_within}
 use Rattle.std.proofs.Math.Seq.{drop-cons}
 use Rattle.vlog_tree.specs.declared.module.Module.{Module}
 use Rattle.vlog_runs.specs.Places.{Name}
 use Rattle.vlog_runs.specs.Contents.{Inner, instances_in}
-use Rattle.vlog_runs.specs.Scopes.{Scope, module_at, scope_from, scope_at, top_scope, inner_prefix, params_of}
+use Rattle.vlog_runs.specs.Scopes.{Scope, scope_from, scope_at, top_scope, inner_prefix, params_of}
 use Rattle.flat_faults.specs.Stands.{IsRecursive, path_name}
 use Rattle.flat_scopes.specs.Finding.{place_in, module_name}
-use Rattle.digraph.specs.Walks.{targets_of, follow, walk_end, IsCycle}
+use Rattle.digraph.specs.Walks.{targets_of, walk_end, IsCycle}
 use Rattle.digraph.proofs.Closing.{walk-append}
 use Rattle.flat_instances.specs.Graph.{inner_name, graph_of}
 use Rattle.flat_instances.specs.Naming.{IsAtNode, LeadsToModule, LeadsHere, prefix_name}
-use Rattle.flat_instances.proofs.Places.{module_placed, nodes, place_within, counted, edge_of_module}
-use Rattle.flat_instances.proofs.Walks.{same_some, nowhere, begins, begins_by, Reaches, walk_leads, node_step}
+use Rattle.flat_instances.proofs.Places.{module_placed, nodes, place_within, counted}
+use Rattle.flat_instances.proofs.Walks.{same_some, nowhere, begins, begins_by, walk_leads, node_step}
 use Rattle.flat_instances.proofs.Names.{named_by_prefix}
 
 module _ (ms : List Module) (top : Name) where
@@ -72,8 +72,7 @@ module _ (ms : List Module) (top : Name) where
       let there = node_by c.node (drop back walk) (some_round start walk back c) (round_of start walk back c) in
       let r = walk_leads ms (drop back walk) at.scope c.node c.node node there (round_of start walk back c) in
       let some : 0 < length r.path = omega (arith, r.long, some_round start walk back c) in
-      let twin : r.scope.module' ≡ at.scope.module' = same_some (slice_get ms c.node) r.scope.module' at.scope.module' r.node node in
-      (
+      let twin : r.scope.module' ≡ at.scope.module' = same_some (slice_get ms c.node) r.scope.module' at.scope.module' r.node node in (
         at.path,
         recursive_by at.path at.scope r.scope r.path at.reached r.reached some twin,
         is ∙ (ap (prefix_name top) (sym at.prefix_is) ∙ named_by_prefix ms top at.path at.scope at.reached),

@@ -1,11 +1,11 @@
 -- The names of instances, and what stands in front of their names.
-use Rattle.std.proofs.Common.{ℕ, suc, ◌≡◌, ◌+◌, ◌-◌, List, [], ◌∷◌, ◌++◌, length, take, codes, Option, Some, None, refl, sym, ap, ◌∙◌, arith, length-append, append-nil}
+use Rattle.std.proofs.Common.{◌≡◌, ◌-◌, List, [], ◌∷◌, ◌++◌, length, take, codes, Option, Some, None, refl, sym, ap, ◌∙◌, arith, length-append, append-nil}
 use Rattle.std.proofs.lemmas.List.{append_assoc}
 use Rattle.std.proofs.Math.Seq.{take-append_seam}
 use Rattle.vlog_tree.specs.declared.module.Module.{Module}
 use Rattle.vlog_runs.specs.Places.{Name}
 use Rattle.vlog_runs.specs.Contents.{Inner, instances_in}
-use Rattle.vlog_runs.specs.Scopes.{Scope, module_at, instance_at, scope_in, child, child_by, step, scope_from, scope_at, top_scope, params_of}
+use Rattle.vlog_runs.specs.Scopes.{Scope, module_at, instance_at, scope_in, child_by, step, scope_from, scope_at, top_scope, params_of}
 use Rattle.flat_laws.proofs.Apart.{none_stays, instance_found}
 use Rattle.flat_faults.specs.Stands.{path_name}
 use Rattle.flat_instances.specs.Naming.{prefix_name}
@@ -30,7 +30,7 @@ module _ (ms : List Module) where
   prefix_by s t x path rest None found (Some u) is end = cc
   prefix_by s t x path rest (Some i) found (Some u) is end =
       rest u end ∙ (ap (λ p. p ++ dotted path) (prefix_in s u i (module_at ms i.of_module) is ∙ ap (λ n. s.prefix ++ n ++ codes ".") (named_found (instances_in s.module') x i found))
-          ∙ (ap (λ p. p ++ dotted path) (append_assoc s.prefix x (codes ".")) ∙ append_assoc s.prefix (x ++ codes ".") (dotted path)))
+      ∙ (ap (λ p. p ++ dotted path) (append_assoc s.prefix x (codes ".")) ∙ append_assoc s.prefix (x ++ codes ".") (dotted path)))
 
   prefix_from : (path : List Name) (s t : Scope) → scope_from ms (Some s) path ≡ Some t → t.prefix ≡ s.prefix ++ dotted path
   prefix_from [] s t e = let same : s ≡ t = cc in ap (λ (z : Scope). z.prefix) (sym same) ∙ sym (append-nil s.prefix)

@@ -1,5 +1,5 @@
 -- The nodes and edges of the graph of modules.
-use Rattle.std.proofs.Common.{ℕ, zero, suc, ◌≡◌, ◌+◌, ◌≤◌, ◌<◌, Bool, true, false, nat_eq, cond, List, [], ◌∷◌, ◌++◌, length, map, get_or, Option, Some, None, ◌⊎◌, inl, inr, ⊎_elim, refl, sym, ap, subst, ◌∙◌, arith, length-append, add-zero, zero-add, if◌then◌else◌}
+use Rattle.std.proofs.Common.{ℕ, zero, suc, ◌≡◌, ◌+◌, ◌≤◌, ◌<◌, List, [], ◌∷◌, ◌++◌, length, map, get_or, Option, Some, None, inl, inr, refl, sym, ap, ◌∙◌, arith, add-zero, zero-add, if◌then◌else◌}
 use Rattle.std.specs.List.{find, slice_get}
 use Rattle.std.specs.Str.{bytes_eq}
 use Rattle.std.proofs.lemmas.Bool.{cases_Bool}
@@ -202,8 +202,7 @@ module _ (ms : List Module) where
   edge_by n m m' x i at found to =
       let p = inner_place (instances_in m) x i found in
       let q = module_place ms i.of_module m' to in
-      let t = target_is mods (instance_names m) p.0 q.0 i p.1 q.1 in
-      (
+      let t = target_is mods (instance_names m) p.0 q.0 i p.1 q.1 in (
         p.0,
         q.0,
         ap (λ ts. slice_get ts p.0) (edges_node (module_targets mods) ms n m at)

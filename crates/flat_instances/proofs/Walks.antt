@@ -1,5 +1,5 @@
 -- Walks in the graph of modules are paths of instances.
-use Rattle.std.proofs.Common.{ℕ, zero, suc, ◌≡◌, ◌+◌, ◌≤◌, ◌<◌, List, [], ◌∷◌, ◌++◌, length, map, take, Option, Some, None, inl, inr, refl, sym, ap, subst, ◌∙◌, arith, length-append}
+use Rattle.std.proofs.Common.{ℕ, suc, ◌≡◌, ◌<◌, List, [], ◌∷◌, ◌++◌, length, map, take, Option, Some, None, refl, sym, ap, subst, ◌∙◌, arith, length-append}
 use Rattle.std.specs.List.{slice_get}
 use Rattle.std.proofs.lemmas.Option.{slice_get_within}
 use Rattle.std.proofs.Math.Seq.{take-append_seam}
@@ -11,7 +11,7 @@ use Rattle.flat_laws.proofs.Listed.{one_more}
 use Rattle.flat_laws.proofs.Apart.{none_stays}
 use Rattle.flat_faults.specs.Stands.{IsRecursive}
 use Rattle.flat_scopes.specs.Finding.{place_in, module_name}
-use Rattle.digraph.specs.Walks.{targets_of, follow, walk_end, IsCycle}
+use Rattle.digraph.specs.Walks.{targets_of, walk_end, IsCycle}
 use Rattle.digraph.proofs.Closing.{walk-append}
 use Rattle.flat_instances.specs.Graph.{graph_of}
 use Rattle.flat_instances.specs.Naming.{IsAtNode}
@@ -21,7 +21,7 @@ use Rattle.flat_instances.proofs.Places.{edge_of_module, known_edge, edge_by, mo
 abbrev pub inside : Scope → Inner → Module → Scope
 inside s i m = record { prefix = inner_prefix s.prefix i.name; module' = m; params = params_of m (overriding m i.overrides) s.params }
 
-child_is : (ms : List Module) (s : Scope) (i : Inner) (m : Module) → module_at ms i.of_module ≡ Some m → child ms s i ≡ Some (inside s i m)
+pub child_is : (ms : List Module) (s : Scope) (i : Inner) (m : Module) → module_at ms i.of_module ≡ Some m → child ms s i ≡ Some (inside s i m)
 child_is ms s i m e = ap (scope_in s i) e
 
 step_is : (ms : List Module) (s : Scope) (i : Inner) (m : Module) → instance_at (instances_in s.module') i.name ≡ Some i → module_at ms i.of_module ≡ Some m →
@@ -89,8 +89,7 @@ module _ (ms : List Module) where
       let k = known_edge ms n e t is lt in
       let s = at.scope in
       let same : k.0 ≡ s.module' = same_some (slice_get ms n) k.0 s.module' k.3 at.node in
-      let found : instance_at (instances_in s.module') k.2.name ≡ Some k.2 = ap (λ m. instance_at (instances_in m) k.2.name) (sym same) ∙ k.5 in
-      (
+      let found : instance_at (instances_in s.module') k.2.name ≡ Some k.2 = ap (λ m. instance_at (instances_in m) k.2.name) (sym same) ∙ k.5 in (
         k.2,
         k.0,
         k.3,
@@ -162,8 +161,7 @@ module _ (ms : List Module) where
       let a = top_by top path r.0 m start e place r.1 in
       let b = path_walks (r.2 ∷ r.3) r.0 r.4 a.last a.has r.5 in
       let z : b.last ≡ a.last = same_some (place_in (map module_name ms) r.4.module'.name) b.last a.last b.has.place (ap (place_in (map module_name ms)) r.6 ∙ a.has.place) in
-      let back : take (length a.walk) (a.walk ++ b.walk) ≡ a.walk = take-append_seam a.walk b.walk in
-      (
+      let back : take (length a.walk) (a.walk ++ b.walk) ≡ a.walk = take-append_seam a.walk b.walk in (
         a.walk ++ b.walk,
         length a.walk,
         record {

@@ -3,7 +3,6 @@ use Rattle.std.specs.Prelude.{ℕ, ◌≡◌, ◌<◌, ◌-◌, List, [], ◌∷
 use Rattle.vlog_tree.specs.declared.module.Module.{Module}
 use Rattle.vlog_runs.specs.Places.{Name}
 use Rattle.vlog_runs.specs.Scopes.{Scope, scope_at}
-use Rattle.flat_faults.specs.declared.fault.FlatFault.{FlatFault}
 use Rattle.flat_faults.specs.declared.fault.FlatFault.TheVariants as f
 use Rattle.flat_faults.specs.Stands.{IsRecursive, Stands}
 use Rattle.digraph.specs.Walks.{walk_end}

@@ -12,10 +12,7 @@ use std::alloc::{AllocError, Global};
 use vlog_tree::Module;
 
 /// The names of instances.
-pub fn instance_names<'a>(
-    alloc: Global,
-    instances: &[Inner<'a>],
-) -> Result<Names<'a>, AllocError>
+pub fn instance_names<'a>(alloc: Global, instances: &[Inner<'a>]) -> Result<Names<'a>, AllocError>
     ensures { IfOk result (λ names. names ≡ map inner_name (map inner_meant instances.now)) }
 {
     let mut names = Vec::new(alloc);
@@ -37,7 +34,13 @@ pub fn module_names<'a>(alloc: Global, modules: &'a [Module]) -> Result<Names<'a
 }
 
 /// The node of the module of the instance at a place, among so many modules.
-fn target(modules: &Names<'_>, count: usize, names: &Names<'_>, at: usize, inner: &Inner<'_>) -> usize
+fn target(
+    modules: &Names<'_>,
+    count: usize,
+    names: &Names<'_>,
+    at: usize,
+    inner: &Inner<'_>,
+) -> usize
     requires { count ≡ length modules.now }
     ensures { result ≡ target_of modules.now names.now at (inner_meant inner.now) }
 {
@@ -90,11 +93,7 @@ fn targets(
 }
 
 /// The graph of modules. Refused only for want of memory.
-pub fn graph_of(
-    alloc: Global,
-    modules: &[Module],
-    names: &Names<'_>,
-) -> Result<Graph, AllocError>
+pub fn graph_of(alloc: Global, modules: &[Module], names: &Names<'_>) -> Result<Graph, AllocError>
     requires { names.now ≡ map module_name modules.now }
     ensures { IfOk result (λ graph. graph ≡ graph_of modules.now) }
 {

@@ -1,4 +1,4 @@
-use Rattle.std.proofs.Common.{◌≡◌, ◌++◌, ℕ, Vec, drop, map}
+use Rattle.std.proofs.Common.{◌≡◌, ◌++◌, drop, map}
 use Rattle.flat_instances.specs.Graph.{module_targets}
 use Rattle.flat_instances.proofs.graph.graph_of.Given as goal
 

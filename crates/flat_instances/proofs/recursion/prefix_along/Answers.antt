@@ -1,4 +1,4 @@
-use Rattle.std.proofs.Common.{◌≡◌, ◌<◌, ◌*◌, ℕ, List, Some, length, get_or, drop, refl, sym, ap, subst, ◌∙◌, arith}
+use Rattle.std.proofs.Common.{◌≡◌, ◌<◌, ℕ, List, Some, length, get_or, refl, sym, ap, subst, ◌∙◌, arith}
 use Rattle.std.specs.List.{slice_get}
 use Rattle.std.proofs.lemmas.List.{get_or_default}
 use Rattle.std.proofs.lemmas.Option.{slice_get_read, slice_get-get_or}
@@ -101,9 +101,8 @@ loop-edge-preserved c =
     let t : ℕ = get_or c.targets.result.now e 0 in
     let to : slice_get (targets_of (graph_of ms) n) e ≡ Some t = ap (λ (ts : List ℕ). slice_get ts e) (sym targets) ∙ slice_get-get_or c.targets.result.now e 0 inside in
     let prefix : c.in_ok-prefix-2.prefix ≡ inner_prefix c.loop-edge.prefix c.in_ok-name.name =
-        c.in_ok-prefix-2.ensures ∙ (ap (λ (p : Name). inner_prefix p c.bytes-in-loop-edge.result.now) c.bytes.ensures ∙ ap (inner_prefix c.loop-edge.prefix) c.bytes-in-loop-edge.ensures) in
+    c.in_ok-prefix-2.ensures ∙ (ap (λ (p : Name). inner_prefix p c.bytes-in-loop-edge.result.now) c.bytes.ensures ∙ ap (inner_prefix c.loop-edge.prefix) c.bytes-in-loop-edge.ensures) in
     record {
       at = next_at ms top c.loop-edge.prefix n at walk i e lt is whole rest way.last way.ends way.there m c.in_ok-name.name c.in_ok-prefix-2.prefix t f c.in_ok-name.ensures prefix to;
       rest = next_rest ms top c.loop-edge.prefix n at walk i e lt is whole rest way.last way.ends way.there t to;
     }
-

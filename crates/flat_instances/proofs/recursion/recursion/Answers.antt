@@ -41,7 +41,7 @@ returns-in-Some c =
     let cycle = found (graph_of ms) c.args.start c.in_ok-cycle.field-0 k (subst (λ (g : List (List ℕ)). IsAnswer g c.args.start c.in_ok-cycle.field-0) c.in_ok-graph.ensures c.in_ok-cycle.ensures) c.in-Some.is in
     let prefix = c.in_ok-prefix-in-Some.prefix in
     let here : LeadsHere ms top c.args.start (take k.back k.walk.items) prefix =
-        subst (λ (walk : List ℕ). LeadsHere ms top c.args.start (take k.back walk) prefix) c.deref.ensures.value c.in_ok-prefix-in-Some.ensures in
+    subst (λ (walk : List ℕ). LeadsHere ms top c.args.start (take k.back walk) prefix) c.deref.ensures.value c.in_ok-prefix-in-Some.ensures in
     cycle_recursion ms top c.args.start k.walk.items k.back prefix c.in_ok-prefix_name-in-Some.field-0 cycle here
     (c.in_ok-prefix_name-in-Some.ensures ∙ ap (prefix_name top) c.bytes.ensures)
 
@@ -52,6 +52,6 @@ returns c path is =
     let place : place_in (map module_name ms) top ≡ Some c.args.start = ap (λ (ns : List Name). place_in ns top) (sym c.requires.names) ∙ c.requires.start in
     let m = module_placed ms top c.args.start place in
     let none : IsAnswer (graph_of ms) c.args.start None =
-        subst (λ (o : Option Cycle). IsAnswer (graph_of ms) c.args.start o) c.in-None.is (subst (λ (g : List (List ℕ)). IsAnswer g c.args.start c.in_ok-cycle.field-0) c.in_ok-graph.ensures c.in_ok-cycle.ensures) in
+    subst (λ (o : Option Cycle). IsAnswer (graph_of ms) c.args.start o) c.in-None.is (subst (λ (g : List (List ℕ)). IsAnswer g c.args.start c.in_ok-cycle.field-0) c.in_ok-graph.ensures c.in_ok-cycle.ensures) in
     let r = recursion_cycles ms top m.0 c.args.start m.3 place path is in
     none r.0 r.1 r.2
