@@ -1,5 +1,5 @@
 -- What has to be constant, and which lengths an expression may have (IEEE 1364-2005, sections 4.3, 4.10, 5.2 and 5.4).
-use Rattle.std.specs.Prelude.{ℕ, ◌≡◌, ◌⊎◌, ◌≤ℤ◌, pos, max, Bool, ◌&&◌, IsTrue, List, ◌∷◌, Option, Some, None, map}
+use Rattle.std.specs.Prelude.{ℕ, ◌≡◌, ◌⊎◌, ◌<◌, ◌≤ℤ◌, pos, max, Bool, IsTrue, List, [], ◌∷◌, Option, Some, None, map}
 use Rattle.vlog_tree.specs.declared.expr.Expr.{Expr, Row_of-Expr, end_of-Expr, more_of-Expr}
 use Rattle.vlog_tree.specs.declared.expr.Expr.TheVariants as e
 use Rattle.vlog_tree.specs.declared.expr.Span.{Span}
@@ -11,18 +11,23 @@ use Rattle.vlog_tree.specs.declared.stmt.Lval.TheVariants as l
 use Rattle.vlog_tree.specs.declared.valuation.Entry.{Entry}
 use Rattle.vlog_tree.specs.Valuation.{IsLength, named}
 use Rattle.vlog_tree.specs.Value.{operand_of, own_defined, own_integer, width_of, sign_of, IsDefined, IsFormed, IsPart, part_of, NamesOnly, HasConstantParts}
-use Rattle.vlog_runs.specs.Places.{Name, Place, read, valuation, pieces, total}
+use Rattle.vlog_runs.specs.Places.{Name, Among, Place, read, valuation, pieces, total}
 use Rattle.vlog_runs.specs.Blocks.{case_width, case_sign}
+use Rattle.vlog_runs.specs.Scopes.{range_width, depth_in}
 use Rattle.flat_faults.specs.Texts.{Compared}
 
 -- what the names of a place stand for, the signals being 0: lengths and constants don't depend on them
 abbrev pub at_rest : Place → List Entry
 at_rest p = valuation p (λ x. 0)
 
+-- no divisor is 0 in an expression by itself, where it is well formed
+abbrev pub IsOwnDefined : List Entry → Expr → Type 0
+IsOwnDefined v a = IsFormed v a → IsTrue (own_defined (operand_of v a))
+
 abbrev pub IsBoundDefined : List Entry → Span → Expr → Expr → Type 0
-IsBoundDefined v w.Fixed a b = IsTrue (own_defined (operand_of v a) && own_defined (operand_of v b))
-IsBoundDefined v w.Up a b = IsTrue (own_defined (operand_of v b))
-IsBoundDefined v w.Down a b = IsTrue (own_defined (operand_of v b))
+IsBoundDefined v w.Fixed a b = IsOwnDefined v a × IsOwnDefined v b
+IsBoundDefined v w.Up a b = IsOwnDefined v b
+IsBoundDefined v w.Down a b = IsOwnDefined v b
 
 -- no divisor is 0 in the bounds, widths and counts of an expression
 abbrev mutual
@@ -37,7 +42,7 @@ abbrev mutual
   BoundsDefined v (e.Cast' cast h (more_of-Expr a end_of-Expr)) = BoundsDefined v a
   BoundsDefined v (e.Paren' h (more_of-Expr a end_of-Expr)) = BoundsDefined v a
   BoundsDefined v (e.Concat' h row) = AllBoundsDefined v row
-  BoundsDefined v (e.Repeat' h (more_of-Expr a end_of-Expr) g row) = BoundsDefined v a × IsTrue (own_defined (operand_of v a)) × AllBoundsDefined v row
+  BoundsDefined v (e.Repeat' h (more_of-Expr a end_of-Expr) g row) = BoundsDefined v a × IsOwnDefined v a × AllBoundsDefined v row
   BoundsDefined v (e.Unary' op h (more_of-Expr a end_of-Expr)) = BoundsDefined v a
   BoundsDefined v (e.Binary' op h (more_of-Expr a end_of-Expr) g (more_of-Expr b end_of-Expr)) = BoundsDefined v a × BoundsDefined v b
   BoundsDefined v (e.Choice' h (more_of-Expr c end_of-Expr) g (more_of-Expr a end_of-Expr) i (more_of-Expr b end_of-Expr)) =
@@ -71,14 +76,25 @@ assigned_to p a = stored (at_rest p) (total (pieces p (λ x. 0) a.left)) a.right
 abbrev pub compared : List Entry → Compared → List Taken
 compared v c = map (λ a. record { value = a; width = case_width v c.value c.labels; signed = case_sign v c.value c.labels }) (c.value ∷ c.labels)
 
+-- no divisor is 0 in the bounds of an expression, nor in itself where it is well formed
+abbrev pub HasNonzeroDivisors : List Entry → Taken → Type 0
+HasNonzeroDivisors v t = BoundsDefined v t.value × (IsFormed v t.value → IsDefined v t.value t.width t.signed)
+
 -- an expression breaks a rule on constants: a part that must be constant isn't, or a divisor is 0
 abbrev pub BreaksConstants : (Name → Bool) → List Entry → Taken → Type 0
-BreaksConstants test v t =
-    (HasConstantParts test t.value → ⊥) ⊎ (HasConstantParts test t.value × ((BoundsDefined v t.value × IsDefined v t.value t.width t.signed) → ⊥))
+BreaksConstants test v t = (HasConstantParts test t.value → ⊥) ⊎ (HasConstantParts test t.value × (HasNonzeroDivisors v t → ⊥))
 
 -- an expression breaks a rule on lengths: one isn't from 1 to 64, or a constant part-select leaves its vector
 abbrev pub BreaksLengths : (Name → Bool) → List Entry → Taken → Type 0
 BreaksLengths test v t = HasConstantParts test t.value × BoundsDefined v t.value × (IsFormed v t.value → ⊥)
+
+-- an expression that must be constant isn't: it names something else than these parameters, or a divisor is 0
+abbrev pub IsInconstant : (Name → Bool) → List Entry → Taken → Type 0
+IsInconstant test v t = (NamesOnly test t.value → ⊥) ⊎ (NamesOnly test t.value × (HasNonzeroDivisors v t → ⊥))
+
+-- a constant breaks a rule on lengths
+abbrev pub IsMissized : (Name → Bool) → List Entry → Taken → Type 0
+IsMissized test v t = NamesOnly test t.value × BoundsDefined v t.value × (IsFormed v t.value → ⊥)
 
 -- ---- left sides
 
@@ -138,20 +154,39 @@ abbrev mutual
 
 -- ---- ranges
 
--- a range `[m:l]` of constants over v has m >= l >= 0
-pub record IsRange (test : Name → Bool) (v : List Entry) (r : Range) : Type 0 where
-  pub high : NamesOnly test r.high × IsTrue (own_defined (operand_of v r.high))
-  pub low : NamesOnly test r.low × IsTrue (own_defined (operand_of v r.low))
-  pub order : own_integer (operand_of v r.low) ≤ℤ own_integer (operand_of v r.high)
-  pub natural : pos 0 ≤ℤ own_integer (operand_of v r.low)
+-- m >= l >= 0 in a range `[m:l]`
+abbrev pub IsOrdered : List Entry → Range → Type 0
+IsOrdered v r = (pos 0 ≤ℤ own_integer (operand_of v r.low)) × (own_integer (operand_of v r.low) ≤ℤ own_integer (operand_of v r.high))
 
 -- a range of words is `[0:n]` with n >= 0
-pub record IsWordRange (test : Name → Bool) (v : List Entry) (r : Range) : Type 0 where
-  pub first : NamesOnly test r.high × IsTrue (own_defined (operand_of v r.high))
-  pub last : NamesOnly test r.low × IsTrue (own_defined (operand_of v r.low))
-  pub from_0 : own_integer (operand_of v r.high) ≡ pos 0
-  pub natural : pos 0 ≤ℤ own_integer (operand_of v r.low)
+abbrev pub IsFromZero : List Entry → Range → Type 0
+IsFromZero v r = (own_integer (operand_of v r.high) ≡ pos 0) × (pos 0 ≤ℤ own_integer (operand_of v r.low))
 
-abbrev pub IfRange : (Range → Type 0) → Option Range → Type 0
-IfRange P None = Unit {0}
-IfRange P (Some r) = P r
+-- the bounds of a range, each by itself
+abbrev pub bounds_of : List Entry → Range → List Taken
+bounds_of v r = alone v r.high ∷ alone v r.low ∷ []
+
+-- both are well formed
+abbrev pub HasFormedBounds : List Entry → Range → Type 0
+HasFormedBounds v r = IsFormed v r.high × IsFormed v r.low
+
+-- a bound isn't constant, or the bounds aren't in their order
+abbrev pub BreaksBounds : (List Entry → Range → Type 0) → (Name → Bool) → List Entry → Range → Type 0
+BreaksBounds InOrder test v r = ((t : Taken) × Among (bounds_of v r) t × IsInconstant test v t) ⊎ (HasFormedBounds v r × (InOrder v r → ⊥))
+
+-- a bound breaks a rule on lengths
+abbrev pub HasMissizedBound : (Name → Bool) → List Entry → Range → Type 0
+HasMissizedBound test v r = (t : Taken) × Among (bounds_of v r) t × IsMissized test v t
+
+-- a range of bits doesn't have from 1 to 64
+abbrev pub BreaksRange : (Name → Bool) → List Entry → Range → Type 0
+BreaksRange test v r = HasMissizedBound test v r ⊎ (HasFormedBounds v r × IsOrdered v r × (IsLength (range_width v r) → ⊥))
+
+-- a range of words has more than 64
+abbrev pub BreaksWords : (Name → Bool) → List Entry → Range → Type 0
+BreaksWords test v r = HasMissizedBound test v r ⊎ (HasFormedBounds v r × IsFromZero v r × (64 < depth_in (Some r) v))
+
+-- a range that is there
+abbrev pub InRange : (Range → Type 0) → Option Range → Type 0
+InRange P None = ⊥
+InRange P (Some r) = P r

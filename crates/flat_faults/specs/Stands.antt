@@ -1,7 +1,6 @@
 -- Which faults stand for a list of modules from its top.
-use Rattle.std.specs.Prelude.{ℕ, ◌≡◌, ◌⊎◌, ◌<◌, Bool, true, false, List, [], ◌∷◌, ◌++◌, length, reverse, take, Option, Some, None, is_some, unwrap_or, slice_get, codes, map, if◌then◌else◌}
+use Rattle.std.specs.Prelude.{ℕ, ◌≡◌, ◌⊎◌, ◌<◌, Bool, true, false, List, [], ◌∷◌, ◌++◌, length, reverse, take, Option, Some, None, is_some, slice_get, codes, map, if◌then◌else◌}
 use Rattle.std.specs.List.{flat_map}
-use Rattle.std.specs.Option.{option_map}
 use Rattle.vlog_tree.specs.declared.expr.Expr.{Expr}
 use Rattle.vlog_tree.specs.declared.expr.Expr.TheVariants as e
 use Rattle.vlog_tree.specs.declared.expr.Name.{Name as Read}
@@ -11,17 +10,16 @@ use Rattle.vlog_tree.specs.declared.stmt.Events.TheVariants as v
 use Rattle.vlog_tree.specs.declared.stmt.Lval.{Lval}
 use Rattle.vlog_tree.specs.declared.valuation.Entry.{Entry}
 use Rattle.vlog_tree.specs.Valuation.{IsLength, entry_at}
-use Rattle.vlog_tree.specs.Value.{NamesOnly}
 use Rattle.vlog_runs.specs.Places.{Name, Among, Place, pieces, total}
 use Rattle.vlog_runs.specs.Blocks.{is_parameter, lefts, left_names}
-use Rattle.vlog_runs.specs.Contents.{Param, params_in, Decl, decls_in, signals_in, port_names, assigns_in, Block, blocks_in, Inner, instances_in}
-use Rattle.vlog_runs.specs.Scopes.{Scope, scope_at, scope_from, place_of, Given, given_to, overriding, left_of, child, decl_at, module_at, signal_of, width_in}
+use Rattle.vlog_runs.specs.Contents.{Param, params_in, is_open, Decl, decls_in, signals_in, port_names, assigns_in, Block, blocks_in, Inner, instances_in}
+use Rattle.vlog_runs.specs.Scopes.{Scope, scope_at, scope_from, place_of, Given, given_at, given_to, overriding, left_of, child, decl_at, module_at, signal_of, width_in}
 use Rattle.flat_laws.specs.Uses.{has_signal, is_declared}
 use Rattle.flat_faults.specs.declared.fault.FlatFault.{FlatFault}
 use Rattle.flat_faults.specs.declared.fault.FlatFault.TheVariants as f
 use Rattle.flat_faults.specs.Texts.{names_in, numbers_in, alone_in, compared_in, stores_in, arg_names, all_exprs, assigned_in, waited_in}
 use Rattle.flat_faults.specs.Declaring.{Repeats, IsDeclaredTwice, LacksDirection, IsUnlisted, MissesPorts, IsAssignable, open_params, Overshoots}
-use Rattle.flat_faults.specs.Constants.{at_rest, Taken, alone, stored, assigned_to, compared, BreaksConstants, BreaksLengths, HasConstantNumbers, HasConstantSpans, AreSpansDefined, IsLeftFormed, IsRange, IsWordRange, IfRange}
+use Rattle.flat_faults.specs.Constants.{at_rest, Taken, alone, stored, assigned_to, compared, BreaksConstants, BreaksLengths, IsInconstant, IsMissized, HasConstantNumbers, HasConstantSpans, AreSpansDefined, IsLeftFormed, IsOrdered, IsFromZero, BreaksBounds, BreaksRange, BreaksWords, InRange}
 use Rattle.flat_faults.specs.Clocks.{Reaches, IsTimed, IsBitInput}
 
 -- where a text stands, as a name: the top's name at the top
@@ -81,10 +79,9 @@ before s k = take k s.params
 abbrev pub is_before : Scope → ℕ → Name → Bool
 is_before s k x = is_some (entry_at (before s k) x 0)
 
--- parameter number k and what it stands for
-pub record IsParam (s : Scope) (k : ℕ) (p : Param) (entry : Entry) : Type 0 where
-  pub declared : slice_get (params_in s.module') k ≡ Some p
-  pub stands_for : slice_get s.params k ≡ Some entry
+-- parameter number k
+abbrev pub IsParam : Scope → ℕ → Param → Type 0
+IsParam s k p = slice_get (params_in s.module') k ≡ Some p
 
 -- a parameter's own value in its place
 abbrev pub param_value : Scope → ℕ → Param → Taken
@@ -128,13 +125,17 @@ fixed_lefts ms s = map (λ a. a.left) (assigns_in s.module') ++ flat_map (λ i. 
 abbrev pub block_lefts : Scope → List Lval
 block_lefts s = flat_map (λ k. lefts k.body) (blocks_in s.module')
 
--- an override in its place, for a parameter of the instance's scope
-pub record IsOverride (ms : List Module) (s : Scope) (i : Inner) (d : Given) (t : Taken) : Type 0 where
+-- an override in the place of parameter number k of the instance's scope
+pub record IsOverride (ms : List Module) (s : Scope) (i : Inner) (p : Param) (t : Taken) : Type 0 where
   pub inner : Among (instances_in s.module') i
   pub scope : Scope
   pub child_is : child ms s i ≡ Some scope
-  pub given : Among (overriding scope.module' i.overrides) d
-  pub taken_is : t ≡ stored s.params (unwrap_or (option_map (λ e. e.width) (entry_at scope.params d.name 0)) 1) d.value
+  pub number : ℕ
+  pub declared : IsParam scope number p
+  pub can : is_open scope.module' p ≡ true
+  pub value : Expr
+  pub given : given_at (overriding scope.module' i.overrides) p.name ≡ Some value
+  pub taken_is : t ≡ stored s.params (width_in p.shape.range 0 (before scope number)) value
 
 abbrev pub AreAllDeclared : Place → Expr → Type 0
 AreAllDeclared p a = (x : Name) → Among (names_in a) x → is_declared p x ≡ true
@@ -143,14 +144,12 @@ abbrev pub BreaksConstant : List Module → Name → Scope → Name → Type 0
 BreaksConstant ms path s n =
     -- the ranges of a declaration
     ((d : Decl) × Among (decls_in s.module') d × (n ≡ full s d.name)
-    × ((IfRange (IsRange (is_parameter (place_of s)) s.params) d.shape.range → ⊥) ⊎ (IfRange (IsWordRange (is_parameter (place_of s)) s.params) d.words → ⊥)))
-    -- the value and the range of a parameter
-    ⊎ (((k : ℕ) × (p : Param) × (entry : Entry) × IsParam s k p entry × (n ≡ full s p.name)
-    × ((NamesOnly (is_before s k) p.value → ⊥)
-    ⊎ ((IfRange (IsRange (is_before s k) (before s k)) p.shape.range → ⊥) ⊎ BreaksConstants (is_before s k) (before s k) (param_value s k p))))
+    × (InRange (BreaksBounds IsOrdered (is_parameter (place_of s)) s.params) d.shape.range ⊎ InRange (BreaksBounds IsFromZero (is_parameter (place_of s)) s.params) d.words))
+    -- the range and the value of a parameter
+    ⊎ (((k : ℕ) × (p : Param) × IsParam s k p × (n ≡ full s p.name)
+    × (InRange (BreaksBounds IsOrdered (is_before s k) (before s k)) p.shape.range ⊎ IsInconstant (is_before s k) (before s k) (param_value s k p)))
     -- an override
-    ⊎ (((i : Inner) × (d : Given) × (t : Taken) × IsOverride ms s i d t × (n ≡ inside s i d.name)
-    × ((NamesOnly (is_parameter (place_of s)) d.value → ⊥) ⊎ BreaksConstants (is_parameter (place_of s)) s.params t))
+    ⊎ (((i : Inner) × (p : Param) × (t : Taken) × IsOverride ms s i p t × (n ≡ inside s i p.name) × IsInconstant (is_parameter (place_of s)) s.params t)
     -- an expression
     ⊎ (((t : Taken) × Among (all_taken ms s) t × BreaksConstants (is_parameter (place_of s)) (at_rest (place_of s)) t × (n ≡ path))
     -- a left side
@@ -160,16 +159,14 @@ BreaksConstant ms path s n =
 
 abbrev pub BreaksWidth : List Module → Name → Scope → Name → Type 0
 BreaksWidth ms path s n =
-    -- a declared length, or the number of words
+    -- the ranges of a declaration
     ((d : Decl) × Among (decls_in s.module') d × (n ≡ full s d.name)
-    × IfRange (IsRange (is_parameter (place_of s)) s.params) d.shape.range × IfRange (IsWordRange (is_parameter (place_of s)) s.params) d.words
-    × ((IsLength (signal_of s.params d).width → ⊥) ⊎ (64 < (signal_of s.params d).depth)))
-    -- a parameter
-    ⊎ (((k : ℕ) × (p : Param) × (entry : Entry) × IsParam s k p entry × (n ≡ full s p.name)
-    × ((IsLength entry.width → ⊥) ⊎ BreaksLengths (is_before s k) (before s k) (param_value s k p)))
+    × (InRange (BreaksRange (is_parameter (place_of s)) s.params) d.shape.range ⊎ InRange (BreaksWords (is_parameter (place_of s)) s.params) d.words))
+    -- the range and the value of a parameter
+    ⊎ (((k : ℕ) × (p : Param) × IsParam s k p × (n ≡ full s p.name)
+    × (InRange (BreaksRange (is_before s k) (before s k)) p.shape.range ⊎ IsMissized (is_before s k) (before s k) (param_value s k p)))
     -- an override
-    ⊎ (((i : Inner) × (d : Given) × (t : Taken) × IsOverride ms s i d t × (n ≡ inside s i d.name)
-    × AreAllDeclared (place_of s) d.value × BreaksLengths (is_parameter (place_of s)) s.params t)
+    ⊎ (((i : Inner) × (p : Param) × (t : Taken) × IsOverride ms s i p t × (n ≡ inside s i p.name) × IsMissized (is_parameter (place_of s)) s.params t)
     -- an expression of declared names
     ⊎ (((t : Taken) × Among (all_taken ms s) t × AreAllDeclared (place_of s) t.value × BreaksLengths (is_parameter (place_of s)) (at_rest (place_of s)) t × (n ≡ path))
     -- a left side of declared names
@@ -226,16 +223,36 @@ HasMore ms top n =
 abbrev pub AtSome : List Module → Name → (List Name → Scope → Type 0) → Type 0
 AtSome ms top P = (path : List Name) × (s : Scope) × (scope_at ms top path ≡ Some s) × P path s
 
+-- a fault stands at a scope, which has this name where an expression is at fault
+abbrev pub StandsAt : List Module → Name → Scope → FlatFault → Type 0
+StandsAt ms path s (f.Unknown n) = UsesUnknown ms s n ⊎ GivesUnknown ms s n
+StandsAt ms path s (f.Twice n) = ((x : Name) × IsDeclaredTwice s x × (n ≡ full s x)) ⊎ OverridesTwice s n
+StandsAt ms path s (f.Port n) = BreaksPorts ms s n
+StandsAt ms path s (f.Constant n) = BreaksConstant ms path s n
+StandsAt ms path s (f.Width n) = BreaksWidth ms path s n
+StandsAt ms path s f.NoTop = ⊥
+StandsAt ms path s (f.Recursion n) = ⊥
+StandsAt ms path s f.Instances = ⊥
+StandsAt ms path s (f.Clock n) = ⊥
+StandsAt ms path s f.Memory = ⊥
+
+abbrev pub AtSomeScope : List Module → Name → FlatFault → Type 0
+AtSomeScope ms top fault = AtSome ms top (λ path s. StandsAt ms (path_name top path) s fault)
+
 -- a fault stands for a list of modules
 abbrev pub Stands : List Module → Name → FlatFault → Type 0
 Stands ms top f.NoTop = module_at ms top ≡ None
-Stands ms top (f.Unknown n) = AtSome ms top (λ path s. UsesUnknown ms s n ⊎ GivesUnknown ms s n)
-Stands ms top (f.Twice n) =
-    Repeats (map (λ m. m.name) ms) n ⊎ AtSome ms top (λ path s. ((x : Name) × IsDeclaredTwice s x × (n ≡ full s x)) ⊎ OverridesTwice s n)
-Stands ms top (f.Port n) = AtSome ms top (λ path s. BreaksPorts ms s n)
+Stands ms top (f.Unknown n) = AtSomeScope ms top (f.Unknown n)
+Stands ms top (f.Twice n) = Repeats (map (λ m. m.name) ms) n ⊎ AtSomeScope ms top (f.Twice n)
+Stands ms top (f.Port n) = AtSomeScope ms top (f.Port n)
 Stands ms top (f.Recursion n) = (path : List Name) × IsRecursive ms top path × (n ≡ path_name top path)
 Stands ms top f.Instances = ((path : List Name) → IsRecursive ms top path → ⊥) × HasMore ms top 4096
-Stands ms top (f.Constant n) = AtSome ms top (λ path s. BreaksConstant ms (path_name top path) s n)
-Stands ms top (f.Width n) = AtSome ms top (λ path s. BreaksWidth ms (path_name top path) s n)
+Stands ms top (f.Constant n) = AtSomeScope ms top (f.Constant n)
+Stands ms top (f.Width n) = AtSomeScope ms top (f.Width n)
 Stands ms top (f.Clock n) = AtSome ms top (λ path s. BreaksClocks ms top path s n)
 Stands ms top f.Memory = ⊥
+
+-- a refusal's fault stands, want of memory apart
+abbrev pub Refuses : (FlatFault → Type 0) → FlatFault → Type 0
+Refuses IsFault f.Memory = Unit {0}
+Refuses IsFault fault = IsFault fault

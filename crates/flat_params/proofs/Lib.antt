@@ -5,3 +5,4 @@ pub mod Spans
 pub mod Values
 pub mod Parameters
 pub mod Signals
+pub mod Divisors

@@ -6,6 +6,7 @@ use Rattle.vlog_tree.specs.declared.valuation.Entry.{Entry}
 use Rattle.vlog_tree.specs.Valuation.{IsLength, entry_at}
 use Rattle.vlog_tree.specs.Value.{operand_of, width_of, sign_of, value_of, own_integer, natural, IsFormed, IsDefined, NamesOnly}
 use Rattle.vlog_runs.specs.Places.{Name}
+use Rattle.flat_faults.specs.Constants.{Taken, HasNonzeroDivisors, IsMissized}
 use Rattle.flat_params.specs.declared.constant.Number.{Number}
 use Rattle.flat_params.specs.declared.range.Vector.{Vector}
 use Rattle.flat_params.specs.declared.unfit.BadRange.{BadRange}
@@ -28,11 +29,15 @@ pub record IsConstant (v : List Entry) (a : Expr) (n : ℕ) : Type 0 where
   pub formed : IsFormed v a
   pub defined : IsDefined v a n (sign_of v a)
 
+-- an expression where it is taken at n bits
+abbrev pub taken_at : List Entry → Expr → ℕ → Taken
+taken_at v a n = record { value = a; width = n; signed = sign_of v a }
+
 -- why it isn't one
 abbrev pub IsUnfit : List Entry → Expr → ℕ → Unfit → Type 0
 IsUnfit v a n u.Name = NamesOnly (is_known v) a → ⊥
-IsUnfit v a n u.Length = NamesOnly (is_known v) a × (IsFormed v a → ⊥)
-IsUnfit v a n u.Divisor = NamesOnly (is_known v) a × IsFormed v a × (IsDefined v a n (sign_of v a) → ⊥)
+IsUnfit v a n u.Length = IsMissized (is_known v) v (taken_at v a n)
+IsUnfit v a n u.Divisor = NamesOnly (is_known v) a × (HasNonzeroDivisors v (taken_at v a n) → ⊥)
 
 -- it is well formed over parameters, and has this length and this sign
 pub record HasKnownShape (v : List Entry) (a : Expr) (n : ℕ) (signed : Bool) : Type 0 where
@@ -90,9 +95,14 @@ pub record IsVector (v : List Entry) (x : Range) (d : Vector) : Type 0 where
   pub low : IsConstant v x.low (width_of v x.low)
   pub spans : Spans (high_of v x) (low_of v x) d
 
+-- both bounds are constants
+pub record HasConstantBounds (v : List Entry) (x : Range) : Type 0 where
+  pub high : IsConstant v x.high (width_of v x.high)
+  pub low : IsConstant v x.low (width_of v x.low)
+
 -- why it declares none
 abbrev pub IsBadRange : List Entry → Range → BadRange → Type 0
 IsBadRange v x (r.High unfit) = IsUnfit v x.high (width_of v x.high) unfit
 IsBadRange v x (r.Low unfit) = IsUnfit v x.low (width_of v x.low) unfit
-IsBadRange v x r.Order = Misspans (high_of v x) (low_of v x) r.Order
-IsBadRange v x r.Long = Misspans (high_of v x) (low_of v x) r.Long
+IsBadRange v x r.Order = HasConstantBounds v x × Misspans (high_of v x) (low_of v x) r.Order
+IsBadRange v x r.Long = HasConstantBounds v x × Misspans (high_of v x) (low_of v x) r.Long

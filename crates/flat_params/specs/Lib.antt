@@ -1,3 +1,4 @@
+pub mod Bounds
 pub mod Constants
 pub mod Values
 pub mod Parameters

@@ -9,7 +9,7 @@ use Rattle.flat_params.specs.declared.unfit.BadSignal.{BadSignal}
 use Rattle.flat_params.specs.declared.unfit.BadSignal.TheVariants as g
 use Rattle.flat_params.specs.declared.unfit.BadWords.{BadWords}
 use Rattle.flat_params.specs.declared.unfit.BadWords.TheVariants as w
-use Rattle.flat_params.specs.Constants.{IsConstant, IsUnfit, IsBadRange, high_of, low_of}
+use Rattle.flat_params.specs.Constants.{IsConstant, IsUnfit, HasConstantBounds, IsBadRange, high_of, low_of}
 use Rattle.flat_params.specs.Values.{HasBits}
 
 -- words are numbered from 0 on
@@ -37,8 +37,8 @@ pub record IsWords (v : List Entry) (x : Range) (n : ℕ) : Type 0 where
 abbrev pub IsBadWords : List Entry → Range → BadWords → Type 0
 IsBadWords v x (w.First cause) = IsUnfit v x.high (width_of v x.high) cause
 IsBadWords v x (w.Last cause) = IsUnfit v x.low (width_of v x.low) cause
-IsBadWords v x w.Order = Miscounts (high_of v x) (low_of v x) w.Order
-IsBadWords v x w.Many = Miscounts (high_of v x) (low_of v x) w.Many
+IsBadWords v x w.Order = HasConstantBounds v x × Miscounts (high_of v x) (low_of v x) w.Order
+IsBadWords v x w.Many = HasConstantBounds v x × Miscounts (high_of v x) (low_of v x) w.Many
 
 -- a name without a range of words is no memory
 abbrev pub HasWords : List Entry → Option Range → ℕ → Type 0

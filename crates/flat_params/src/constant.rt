@@ -4,6 +4,7 @@ ghost use Rattle.std.specs.Prelude.{ℕ, ◌≤◌, max, IfOk, IfErr};
 ghost use Rattle.vlog_tree.specs.Value.{width_of};
 ghost use Rattle.flat_params.specs.Constants.{HasKnownShape, IsNumber, IsUnfit};
 
+use crate::bounds::bounds_defined;
 use crate::stranger::stranger_in;
 use crate::unfit::Unfit;
 use vlog_tree::{Expr, Valuation};
@@ -30,7 +31,13 @@ pub fn known_shape(expr: &Expr, params: &Valuation) -> Result<(u8, bool), Unfit>
     }
     match shape_of(expr, params) {
         Some(shape) => Ok(shape),
-        None => Err(Unfit::Length),
+        None => {
+            if bounds_defined(expr, params) {
+                Err(Unfit::Length)
+            } else {
+                Err(Unfit::Divisor)
+            }
+        }
     }
 }
 

@@ -2,6 +2,7 @@
 #![tactic(auto)]
 
 mod bound;
+mod bounds;
 mod constant;
 mod param;
 mod range;
@@ -11,6 +12,7 @@ mod unfit;
 mod value;
 mod words;
 
+pub use bounds::bounds_defined;
 pub use constant::{Number, number_at};
 pub use param::{ParamFault, params_of};
 pub use range::{Vector, vector_of};

@@ -7,7 +7,7 @@ pub enum Unfit {
     Name,
     /// It isn't well formed: a length in it isn't from 1 to 64 bits, or a part-select leaves its vector.
     Length,
-    /// A divisor is 0.
+    /// A divisor is 0, in it or in one of its bounds, widths and counts.
     Divisor,
 }
 

@@ -1,5 +1,7 @@
 use Rattle.std.proofs.Common.{sym, ◌∙◌}
 use Rattle.flat_params.proofs.Known.{familiar, strange}
+use Rattle.flat_faults.specs.Constants.{BoundsDefined}
+use Rattle.flat_params.proofs.Divisors.{decided_true, decided_false}
 use Rattle.flat_params.proofs.constant.known_shape.Goals as goal
 
 pub returns-then-is_some-clause-err : goal.returns-then-is_some-clause-err
@@ -16,8 +18,15 @@ returns-in-Some-clause-ok c =
       length = shape.length;
     }
 
-pub returns-in-None-clause-err : goal.returns-in-None-clause-err
-returns-in-None-clause-err c = λ n. (
+pub returns-then-bounds_defined-clause-err : goal.returns-then-bounds_defined-clause-err
+returns-then-bounds_defined-clause-err c = λ n. (
   familiar c.args.params.now c.args.expr.now c.stranger_in.result c.stranger_in.ensures (sym c.is_some.ensures ∙ c.if-is_some.false),
+  decided_true (BoundsDefined c.args.params.now c.args.expr.now) c.bounds_defined.result c.bounds_defined.ensures c.if-bounds_defined.true,
   c.in-None.ensures.none,
+)
+
+pub returns-else-bounds_defined-clause-err : goal.returns-else-bounds_defined-clause-err
+returns-else-bounds_defined-clause-err c = λ n. (
+  familiar c.args.params.now c.args.expr.now c.stranger_in.result c.stranger_in.ensures (sym c.is_some.ensures ∙ c.if-is_some.false),
+  λ h. decided_false (BoundsDefined c.args.params.now c.args.expr.now) c.bounds_defined.result c.bounds_defined.ensures c.if-bounds_defined.false h.0,
 )

@@ -1,0 +1,9 @@
+pub mod Places
+pub mod Walks
+pub mod Names
+pub mod Cycles
+pub mod Params
+pub mod Children
+pub mod Worklist
+pub mod Standing
+pub mod Tops

@@ -1,0 +1,3 @@
+pub mod Graph
+pub mod Naming
+pub mod Unfolding

@@ -1,0 +1,11 @@
+//! The instances of a list of modules from its top.
+#![tactic(auto)]
+
+mod child;
+mod graph;
+mod recursion;
+mod scope;
+mod unfold;
+
+pub use scope::Scope;
+pub use unfold::scopes_of;
