@@ -12,3 +12,4 @@ pub mod Twice
 pub mod BitsRead
 pub mod Texts
 pub mod LackingBits
+pub mod Undriven
