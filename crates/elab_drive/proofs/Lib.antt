@@ -13,3 +13,4 @@ pub mod BitsRead
 pub mod Texts
 pub mod LackingBits
 pub mod Undriven
+pub mod WantedBits
