@@ -14,3 +14,4 @@ pub mod Texts
 pub mod LackingBits
 pub mod Undriven
 pub mod WantedBits
+pub mod Lacks
