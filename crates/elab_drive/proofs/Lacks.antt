@@ -13,19 +13,20 @@ use Rattle.flat_laws.proofs.Lists.{among_append, append_left, append_right, amon
 use Rattle.elab_faults.specs.declared.fault.ElabFault.TheVariants as f
 use Rattle.elab_faults.specs.Drivers.{Driver, Input, drivers_of, DrivesIn, HasDriver}
 use Rattle.elab_faults.specs.Stands.{Stands, Names}
+use Rattle.elab_drive.specs.declared.claims.Claim.{Claim}
 use Rattle.elab_drive.specs.declared.claims.Spot.{Spot}
 use Rattle.elab_drive.specs.declared.names.Form.TheVariants as v
 use Rattle.elab_drive.specs.Names.{chosen_names}
 use Rattle.elab_drive.specs.Claims.{IsClaimed, IsPartReady, part_claims, part_name, spot_in}
-use Rattle.elab_drive.specs.Masks.{IsSet}
-use Rattle.elab_drive.specs.Driving.{AreNarrow, driver_claims}
+use Rattle.elab_drive.specs.Masks.{IsSet, AreWithin, marked}
+use Rattle.elab_drive.specs.Driving.{AreNarrow, driver_claims, IsDriverReady, IsBitAt, Numbers}
 use Rattle.elab_drive.specs.Wanting.{CanTell, wanted_parts, covers, driven_table}
-use Rattle.elab_drive.proofs.Marking.{none_set}
+use Rattle.elab_drive.proofs.Marking.{none_set, marked_length}
 use Rattle.elab_drive.proofs.Parting.{IsPiece}
 use Rattle.elab_drive.proofs.Spots.{bare, shown, one_name, width_is, low_is, has_spot}
 use Rattle.elab_drive.proofs.Kinding.{blocked_is, is_blocked}
-use Rattle.elab_drive.proofs.Twice.{claimed_flat, flat_claimed, part_told, told_part, driver_told, told_driver, single, zeros_long}
-use Rattle.elab_drive.proofs.Undriven.{driven_set, set_driven}
+use Rattle.elab_drive.proofs.Twice.{claimed_flat, flat_claimed, part_told, told_part, driver_told, told_driver, single, zeros_long, flat_within, part_within}
+use Rattle.elab_drive.proofs.DrivenBits.{driven_set, set_driven}
 use Rattle.elab_drive.proofs.WantedBits.{parts_wanted, wanted_in_parts}
 
 ready_piece : (q : Lval) → IsPartReady q → IsPiece q
@@ -132,3 +133,44 @@ module _ (m : Flat) (can : CanTell m) where
         | inl k ↦ none_set (length m.signals) s.place b k
         | inr k ↦ told s e k.0 k.1 k.2
       ]
+
+-- ---- what the code finds
+
+driven_length : (gs : List Signal) (ms : List ℕ) (ds : List Driver) → length (driven_table gs ms ds) ≡ length ms
+driven_length gs ms [] = refl
+driven_length gs ms (d ∷ ds) = driven_length gs (marked ms (driver_claims gs d)) ds ∙ marked_length ms (driver_claims gs d)
+
+module _ (m : Flat) (can : CanTell m) where
+  pub covers_ready : (ds : List Driver) → ds ≡ covers m → (d : Driver) → Among ds d → IsDriverReady d
+  covers_ready ds e d h = elim (among_append (drivers_of m) (map Input (registers m)) d (subst (λ z. Among z d) e h)) [
+    | inl k ↦ can.drives.ready d k
+    | inr k ↦ (let y = among_map Input (registers m) d k in subst IsDriverReady y.2 tt)
+  ]
+
+  module _ (table : List ℕ) (claims : List Claim) (te : table ≡ driven_table m.signals (replicate (length m.signals) 0) (covers m)) (ce : claims ≡ flat_map (part_claims m.signals) (wanted_parts m)) where
+    pub within_by : AreWithin (length table) claims
+    within_by =
+        subst (λ n. AreWithin n claims) (sym (ap length te ∙ (driven_length m.signals (replicate (length m.signals) 0) (covers m) ∙ zeros_long (length m.signals))))
+        (subst (AreWithin (length m.signals)) (sym ce) (flat_within m.signals (part_claims m.signals) (wanted_parts m) (part_within m.signals)))
+
+    pub lacking_by : (i b : ℕ) → IsClaimed claims i b → (IsSet table i b → ⊥) → IsLacking m i b
+    lacking_by i b h u = lacking_stands m can i b (subst (λ z. IsClaimed z i b) ce h) (λ s. u (subst (λ z. IsSet z i b) (sym te) s))
+
+    pub none_by : ((i b : ℕ) → IsClaimed claims i b → (IsSet table i b → ⊥) → ⊥) → (x : Name) (n : ℕ) → Stands m (f.Undriven x n) → ⊥
+    none_by h x n s =
+        let r = stands_lacking m can x n s in
+        h r.0 r.1 (subst (λ z. IsClaimed z r.0 r.1) (sym ce) r.2) (λ t. r.3 (subst (λ z. IsSet z r.0 r.1) te t))
+
+  pub bit_by : (gs : List Signal) → gs ≡ m.signals → (i b : ℕ) → IsLacking m i b → IsBitAt gs i b
+  bit_by gs e i b t = subst (λ z. IsBitAt z i b) (sym e) (record { signal = t.signal; there = t.there; within = t.within; numbers = (can.drives.narrow t.signal t.among).numbers })
+
+  pub stand_by : (gs : List Signal) → gs ≡ m.signals → (i b : ℕ) (x : Name) (n : ℕ) → IsLacking m i b → Numbers gs i b x n → Stands m (f.Undriven x n)
+  stand_by gs e i b x n t num =
+      let r = num t.signal (ap (λ z. slice_get z i) e ∙ t.there) in
+      subst (λ z. Stands m (f.Undriven z n)) (sym r.0) (subst (λ z. Stands m (f.Undriven t.signal.name z)) (sym r.1) t.stands)
+
+pub same_table : {gs hs : List Signal} {ds es : List Driver} → gs ≡ hs → ds ≡ es → driven_table gs (replicate (length gs) 0) ds ≡ driven_table hs (replicate (length hs) 0) es
+same_table e g = λ i. driven_table (e i) (replicate (length (e i)) 0) (g i)
+
+pub same_claims : {gs hs : List Signal} {ps qs : List Lval} → gs ≡ hs → ps ≡ qs → flat_map (part_claims gs) ps ≡ flat_map (part_claims hs) qs
+same_claims e g = λ i. flat_map (part_claims (e i)) (g i)

@@ -12,6 +12,6 @@ pub mod Twice
 pub mod BitsRead
 pub mod Texts
 pub mod LackingBits
-pub mod Undriven
+pub mod DrivenBits
 pub mod WantedBits
 pub mod Lacks

@@ -104,7 +104,7 @@ module _ (gs : List Signal) where
       below (h ∷ hs) zero g k p e = omega arith
       below (h ∷ hs) (suc j) g k p e = let z : j < length hs = below hs j g j (omega arith) e in omega arith
 
-  part_within : (q : Lval) → AreWithin (length gs) (part_claims gs q)
+  pub part_within : (q : Lval) → AreWithin (length gs) (part_claims gs q)
   part_within q = by_spot (spot_in gs (part_name q)) refl
     where
       by_spot : (o : Option Spot) → spot_in gs (part_name q) ≡ o → AreWithin (length gs) (claims_at o (part_run q))
@@ -115,7 +115,7 @@ module _ (gs : List Signal) where
   both_within n [] ys f g = g
   both_within n (x ∷ xs) ys f g = (f.0, both_within n xs ys f.1 g)
 
-  flat_within : {A : Type 0} (h : A → List Claim) (xs : List A) → ((x : A) → AreWithin (length gs) (h x)) → AreWithin (length gs) (flat_map h xs)
+  pub flat_within : {A : Type 0} (h : A → List Claim) (xs : List A) → ((x : A) → AreWithin (length gs) (h x)) → AreWithin (length gs) (flat_map h xs)
   flat_within h [] each = tt
   flat_within h (x ∷ xs) each = both_within (length gs) (h x) (flat_map h xs) (each x) (flat_within h xs each)
 

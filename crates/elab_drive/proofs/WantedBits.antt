@@ -25,7 +25,7 @@ use Rattle.elab_drive.proofs.Parting.{AnyPart}
 use Rattle.elab_drive.proofs.Spots.{bare}
 use Rattle.elab_drive.proofs.Kinding.{in_chosen, chosen_in, blocked_is, is_blocked}
 use Rattle.elab_drive.proofs.Texts.{deed_exprs, deeds_stand, stand_deeds}
-use Rattle.elab_drive.proofs.Undriven.{store_reads, reads_store, deed_told, told_deed}
+use Rattle.elab_drive.proofs.DrivenBits.{store_reads, reads_store, deed_told, told_deed}
 
 module _ (m : Flat) (x : Name) (b : ℕ) where
   abbrev Any : List Lval → Type 0
