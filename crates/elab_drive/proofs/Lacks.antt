@@ -1,5 +1,5 @@
 -- Bits that are wanted and not driven are undriven ones.
-use Rattle.std.proofs.Common.{◌≡◌, ℕ, ◌+◌, ◌<◌, ◌⊎◌, inl, inr, true, List, [], ◌∷◌, ◌++◌, length, replicate, map, Some, arith, refl, sym, ap, ◌∙◌, subst}
+use Rattle.std.proofs.Common.{◌≡◌, ℕ, ◌+◌, ◌<◌, inl, inr, true, List, [], ◌∷◌, ◌++◌, length, replicate, map, Some, arith, refl, sym, ap, ◌∙◌, subst}
 use Rattle.std.specs.Prelude.{nat_eq, if◌then◌else◌}
 use Rattle.std.specs.List.{flat_map, slice_get}
 use Rattle.vlog_tree.specs.declared.stmt.Lval.{Lval}
@@ -7,7 +7,7 @@ use Rattle.vlog_tree.specs.declared.stmt.Lval.TheVariants as l
 use Rattle.vlog_runs.specs.declared.flat.Flat.{Flat}
 use Rattle.vlog_runs.specs.declared.flat.Signal.{Signal}
 use Rattle.vlog_runs.specs.Places.{Name, Among, words_from, holders}
-use Rattle.vlog_runs.specs.Blocks.{lefts, left_names}
+use Rattle.vlog_runs.specs.Blocks.{lefts}
 use Rattle.vlog_runs.specs.Cycles.{IsRegister}
 use Rattle.flat_laws.proofs.Lists.{among_append, append_left, append_right, among_map, map_among}
 use Rattle.elab_faults.specs.declared.fault.ElabFault.TheVariants as f

@@ -1,29 +1,23 @@
 -- Bits that are wanted and not driven stand as a fault.
-use Rattle.std.proofs.Common.{◌≡◌, ℕ, ◌+◌, ◌<◌, ◌⊎◌, inl, inr, Bool, true, false, cond, List, [], ◌∷◌, ◌++◌, length, replicate, map, arith, refl, sym, ap, ◌∙◌, subst}
-use Rattle.std.specs.Prelude.{nat_eq, if◌then◌else◌}
-use Rattle.std.specs.List.{flat_map, slice_get}
-use Rattle.vlog_tree.specs.declared.expr.Expr.{Expr, Row_of-Expr, end_of-Expr, more_of-Expr}
-use Rattle.vlog_tree.specs.declared.expr.Expr.TheVariants as e
+use Rattle.std.proofs.Common.{◌≡◌, ℕ, ◌⊎◌, inl, inr, true, List, [], ◌∷◌, ◌++◌, map, refl, sym, subst}
+use Rattle.std.specs.List.{flat_map}
+use Rattle.vlog_tree.specs.declared.expr.Expr.{Expr}
 use Rattle.vlog_tree.specs.declared.item.Assign.{Assign}
 use Rattle.vlog_tree.specs.declared.stmt.Lval.{Lval}
 use Rattle.vlog_tree.specs.declared.stmt.Lval.TheVariants as l
 use Rattle.vlog_runs.specs.declared.flat.Always.{Always}
 use Rattle.vlog_runs.specs.declared.flat.Flat.{Flat}
-use Rattle.vlog_runs.specs.declared.flat.Signal.{Signal}
 use Rattle.vlog_runs.specs.declared.flat.TopPort.{TopPort}
-use Rattle.vlog_runs.specs.Places.{Name, Among, words_from, holders}
-use Rattle.vlog_runs.specs.Blocks.{Drives, lefts, left_names}
-use Rattle.vlog_runs.specs.Cycles.{IsRegister}
+use Rattle.vlog_runs.specs.Places.{Name, Among}
+use Rattle.vlog_runs.specs.Blocks.{Drives}
 use Rattle.flat_laws.proofs.Lists.{among_append, append_left, append_right, among_flat, flat_among}
-use Rattle.flat_faults.specs.Texts.{numbers_in, assign_exprs, alone_in, compared_in, stores_in, compared_exprs}
-use Rattle.elab_faults.specs.Drivers.{ReadsBit, exprs_of, block_exprs, IsWanted}
-use Rattle.elab_drive.specs.declared.names.Form.TheVariants as v
+use Rattle.flat_faults.specs.Texts.{assign_exprs, alone_in, compared_in, stores_in, compared_exprs}
+use Rattle.elab_faults.specs.Drivers.{ReadsBit, block_exprs, IsWanted}
 use Rattle.elab_drive.specs.Pieces.{deeds}
-use Rattle.elab_drive.specs.Names.{chosen_names}
 use Rattle.elab_drive.specs.Wanting.{deed_reads, assign_reads, block_reads, output_parts, wanted_parts}
 use Rattle.elab_drive.proofs.Parting.{AnyPart}
 use Rattle.elab_drive.proofs.Spots.{bare}
-use Rattle.elab_drive.proofs.Kinding.{in_chosen, chosen_in, blocked_is, is_blocked}
+use Rattle.elab_drive.proofs.Kinding.{in_chosen, chosen_in}
 use Rattle.elab_drive.proofs.Texts.{deed_exprs, deeds_stand, stand_deeds}
 use Rattle.elab_drive.proofs.DrivenBits.{store_reads, reads_store, deed_told, told_deed}
 

@@ -1,7 +1,6 @@
 use Rattle.std.proofs.Common.{map, ap, ◌∙◌}
 use Rattle.elab_drive.specs.Parts.{part_meant}
 use Rattle.elab_drive.specs.Driving.{driver_meant}
-use Rattle.elab_drive.proofs.Kinding.{none_at}
 use Rattle.elab_drive.proofs.Lacks.{covers_ready, within_by, lacking_by, none_by, bit_by, stand_by, same_table, same_claims}
 use Rattle.elab_drive.proofs.lacking.undriven.Goals as goal
 
