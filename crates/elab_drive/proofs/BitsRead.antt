@@ -1,10 +1,10 @@
 -- An expression reads the bits of its parts.
-use Rattle.std.proofs.Common.{◌≡◌, ℕ, ◌⊎◌, inl, inr, List, [], ◌∷◌, ◌++◌, refl, sym, ap, ◌∙◌, subst}
+use Rattle.std.proofs.Common.{ℕ, ◌⊎◌, inl, inr, List, [], ◌∷◌, ◌++◌, refl, sym, subst}
 use Rattle.vlog_tree.specs.declared.expr.Expr.{Expr, Row_of-Expr, end_of-Expr, more_of-Expr}
 use Rattle.vlog_tree.specs.declared.expr.Expr.TheVariants as e
 use Rattle.vlog_tree.specs.declared.stmt.Lval.{Lval}
 use Rattle.vlog_tree.specs.declared.stmt.Lval.TheVariants as l
-use Rattle.vlog_runs.specs.Places.{Name, Place, Among}
+use Rattle.vlog_runs.specs.Places.{Name, Place}
 use Rattle.vlog_runs.specs.Blocks.{Drives}
 use Rattle.flat_laws.proofs.Lists.{among_append, append_left, append_right}
 use Rattle.elab_faults.specs.Drivers.{ReadsBit, AnyReadsBit}

@@ -26,11 +26,11 @@ is_self true b e = e
 is_self false b e = ap not e
 
 module _ {X : Type 0} (xs : List X) (x : X) where
-  in_chosen : (t : Bool) → Among (cond t xs []) x → (t ≡ true) × Among xs x
+  pub in_chosen : (t : Bool) → Among (cond t xs []) x → (t ≡ true) × Among xs x
   in_chosen true h = (refl, h)
   in_chosen false h = absurd h
 
-  chosen_in : (t : Bool) → t ≡ true → Among xs x → Among (cond t xs []) x
+  pub chosen_in : (t : Bool) → t ≡ true → Among xs x → Among (cond t xs []) x
   chosen_in t e h = subst (λ b. Among (cond b xs []) x) (sym e) h
 
 module _ (m : Flat) (x : Name) where
@@ -59,16 +59,16 @@ module _ (m : Flat) (x : Name) where
   is_declared : (reg : Bool) → IsDeclared reg → Among (declared reg) x
   is_declared reg (g, a, e, f) = flat_among (declared_names reg) m.signals g x a (chosen_in (g.name ∷ []) x (is_same reg g.reg) (is_self reg g.reg f) (inl e))
 
-  abbrev IsBlocked : Bool → Form → Type 0
+  abbrev pub IsBlocked : Bool → Form → Type 0
   IsBlocked clocked form = (k : Always) × Among m.blocks k × (k.clocked ≡ clocked) × Names (form_lefts form k.body) x
 
-  blocked_is : (clocked : Bool) (form : Form) → Among (blocked clocked form) x → IsBlocked clocked form
+  pub blocked_is : (clocked : Bool) (form : Form) → Among (blocked clocked form) x → IsBlocked clocked form
   blocked_is clocked form h =
       let r = among_flat (chosen_names clocked form) m.blocks x h in
       let q = in_chosen (flat_map left_names (form_lefts form r.0.body)) x (is_same clocked r.0.clocked) r.2 in
       (r.0, r.1, same_is clocked r.0.clocked q.0, q.1)
 
-  is_blocked : (clocked : Bool) (form : Form) → IsBlocked clocked form → Among (blocked clocked form) x
+  pub is_blocked : (clocked : Bool) (form : Form) → IsBlocked clocked form → Among (blocked clocked form) x
   is_blocked clocked form (k, a, e, h) =
       flat_among (chosen_names clocked form) m.blocks k x a (chosen_in (flat_map left_names (form_lefts form k.body)) x (is_same clocked k.clocked) (is_self clocked k.clocked e) h)
 

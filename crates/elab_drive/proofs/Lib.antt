@@ -12,3 +12,6 @@ pub mod Twice
 pub mod BitsRead
 pub mod Texts
 pub mod LackingBits
+pub mod DrivenBits
+pub mod WantedBits
+pub mod Lacks

@@ -27,10 +27,10 @@ use Rattle.elab_drive.proofs.Spots.{bare, shown, one_name, width_is, low_is, has
 
 -- ---- claims of lists
 
-claimed_flat : {A : Type 0} (g : A → List Claim) (xs : List A) (i b : ℕ) → IsClaimed (flat_map g xs) i b → (x : A) × Among xs x × IsClaimed (g x) i b
+pub claimed_flat : {A : Type 0} (g : A → List Claim) (xs : List A) (i b : ℕ) → IsClaimed (flat_map g xs) i b → (x : A) × Among xs x × IsClaimed (g x) i b
 claimed_flat g xs i b h = let r = among_flat g xs h.claim h.among in (r.0, r.1, record { claim = h.claim; among = r.2; at = h.at; set = h.set })
 
-flat_claimed : {A : Type 0} (g : A → List Claim) (xs : List A) (x : A) (i b : ℕ) → Among xs x → IsClaimed (g x) i b → IsClaimed (flat_map g xs) i b
+pub flat_claimed : {A : Type 0} (g : A → List Claim) (xs : List A) (x : A) (i b : ℕ) → Among xs x → IsClaimed (g x) i b → IsClaimed (flat_map g xs) i b
 flat_claimed g xs x i b a h = record { claim = h.claim; among = flat_among g xs x h.claim a h.among; at = h.at; set = h.set }
 
 claim_place : (s : Spot) (r : Option Run) → (claim_at s r).place ≡ s.place
@@ -40,7 +40,7 @@ claim_place s (Some r) = refl
 module _ (gs : List Signal) where
   -- ---- parts
 
-  part_told : (q : Lval) → IsPiece q → (i b : ℕ) → IsClaimed (part_claims gs q) i b →
+  pub part_told : (q : Lval) → IsPiece q → (i b : ℕ) → IsClaimed (part_claims gs q) i b →
       (s : Spot) × (spot_in gs (part_name q) ≡ Some s) × (s.place ≡ i) × (b < s.width) × Drives (bare gs) q (part_name q) b
   part_told q t i b h = by_spot (spot_in gs (part_name q)) refl h
     where
@@ -56,7 +56,7 @@ module _ (gs : List Signal) where
       by_spot None e h = absurd h.among
       by_spot (Some s) e h = only s e h.claim h.among h.at h.set
 
-  told_part : (q : Lval) (x : Name) (s : Spot) (b : ℕ) → IsPiece q → spot_in gs x ≡ Some s → b < s.width → Drives (bare gs) q x b → IsClaimed (part_claims gs q) s.place b
+  pub told_part : (q : Lval) (x : Name) (s : Spot) (b : ℕ) → IsPiece q → spot_in gs x ≡ Some s → b < s.width → Drives (bare gs) q x b → IsClaimed (part_claims gs q) s.place b
   told_part q x s b t e lt d =
       let r = claims gs s b q x t e lt d in
       let k : spot_in gs (part_name q) ≡ Some s = ap (spot_in gs) r.0 ∙ e in
@@ -104,7 +104,7 @@ module _ (gs : List Signal) where
       below (h ∷ hs) zero g k p e = omega arith
       below (h ∷ hs) (suc j) g k p e = let z : j < length hs = below hs j g j (omega arith) e in omega arith
 
-  part_within : (q : Lval) → AreWithin (length gs) (part_claims gs q)
+  pub part_within : (q : Lval) → AreWithin (length gs) (part_claims gs q)
   part_within q = by_spot (spot_in gs (part_name q)) refl
     where
       by_spot : (o : Option Spot) → spot_in gs (part_name q) ≡ o → AreWithin (length gs) (claims_at o (part_run q))
@@ -115,7 +115,7 @@ module _ (gs : List Signal) where
   both_within n [] ys f g = g
   both_within n (x ∷ xs) ys f g = (f.0, both_within n xs ys f.1 g)
 
-  flat_within : {A : Type 0} (h : A → List Claim) (xs : List A) → ((x : A) → AreWithin (length gs) (h x)) → AreWithin (length gs) (flat_map h xs)
+  pub flat_within : {A : Type 0} (h : A → List Claim) (xs : List A) → ((x : A) → AreWithin (length gs) (h x)) → AreWithin (length gs) (flat_map h xs)
   flat_within h [] each = tt
   flat_within h (x ∷ xs) each = both_within (length gs) (h x) (flat_map h xs) (each x) (flat_within h xs each)
 

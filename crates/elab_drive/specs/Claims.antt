@@ -39,7 +39,7 @@ abbrev pub IsPartReady : Lval → Type 0
 IsPartReady (l.Name x) = Unit {0}
 IsPartReady (l.Select x a) = IsEvaluable a
 IsPartReady (l.Part x span a b) = IsEvaluable a × IsEvaluable b
-IsPartReady (l.Concat' h row) = Unit {0}
+IsPartReady (l.Concat' h row) = ⊥
 
 abbrev pub bit_run : Option ℤ → Option Run
 bit_run None = None

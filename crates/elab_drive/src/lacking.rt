@@ -3,21 +3,24 @@
 ghost use Rattle.std.specs.Prelude.{◌≡◌, ◌++◌, ℕ, OnOk, IfOk, IfSome, IfNone, map, length, replicate};
 ghost use Rattle.std.specs.List.{flat_map};
 ghost use Rattle.vlog_tree.specs.declared.stmt.Lval.{Lval as Left};
-ghost use Rattle.vlog_runs.specs.Places.{Among};
+ghost use Rattle.vlog_runs.specs.Places.{Name, Among};
 ghost use Rattle.flat_scopes.specs.Borrowed.{name_meant};
+ghost use Rattle.elab_faults.specs.declared.fault.ElabFault.TheVariants as f;
 ghost use Rattle.elab_faults.specs.Drivers.{Input as InputOf};
+ghost use Rattle.elab_faults.specs.Stands.{Stands};
 ghost use Rattle.elab_drive.specs.Parts.{part_meant};
 ghost use Rattle.elab_drive.specs.Claims.{IsPartReady, IsClaimed, part_claims};
 ghost use Rattle.elab_drive.specs.Masks.{AreWithin, IsSet};
 ghost use Rattle.elab_drive.specs.Driving.{AreNarrow, AreDriversReady, driver_meant};
-ghost use Rattle.elab_drive.specs.Wanting.{covers, driven_table};
+ghost use Rattle.elab_drive.specs.Wanting.{covers, driven_table, CanTell};
 
 use crate::claims::Claim;
 use crate::declared::Declared;
-use crate::drivers::{Driver, add_claim, driver_claims, drivers_of};
+use crate::drivers::{Driver, add_claim, driver_claims, drivers_of, numbered};
 use crate::masks::{Bit, lowest, mark, no_bits};
 use crate::names::{Form, block_names};
 use crate::parts::Part;
+use crate::wanted::wanted_parts;
 use outside::Text;
 use sqlite_items::Items;
 use std::alloc::{AllocError, Global};
@@ -95,4 +98,25 @@ pub fn missing(table: &[u64], claims: &[Claim]) -> Option<Bit>
         }
     }
     None
+}
+
+/// A bit that is read, or that is of an output of the top, and that has no driver and is of no register, by the name of its signal
+/// and its declared number. Refused only for want of memory.
+pub fn undriven(alloc: Global, flat: &Flat) -> Result<Option<(Text, u64)>, AllocError>
+    requires { CanTell flat.now }
+    ensures some { IfOk result (λ o. IfSome o (λ r. Stands flat.now (f.Undriven r.0 r.1))) }
+    ensures none { IfOk result (λ o. IfNone o ((x : Name) (n : ℕ) → Stands flat.now (f.Undriven x n) → ⊥)) }
+{
+    let signals = Declared::of(alloc, flat.signals.as_slice())?;
+    let covers = covers(alloc, flat)?;
+    let table = driven(alloc, &covers, &signals)?;
+    let parts = wanted_parts(alloc, flat)?;
+    let claims = named(alloc, &parts, &signals)?;
+    match missing(&table, &claims) {
+        Some(bit) => {
+            let number = numbered(alloc, bit, &signals)?;
+            Ok(Some(number))
+        }
+        None => Ok(None),
+    }
 }

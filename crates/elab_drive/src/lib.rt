@@ -12,12 +12,8 @@ mod parts;
 mod pieces;
 mod wanted;
 
-pub use claims::{Claim, Spot};
-pub use declared::Declared;
-pub use drivers::{Driver, driven_twice};
+pub use drivers::driven_twice;
 pub use kind::wrongly_assigned;
-pub use lacking::{covers, driven, missing, named};
-pub use masks::Bit;
+pub use lacking::undriven;
 pub use parts::{Part, parts_of, reads_of};
 pub use pieces::{Piece, pieces_of};
-pub use wanted::wanted_parts;
