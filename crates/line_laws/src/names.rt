@@ -62,10 +62,20 @@ pub fn line_name(alloc: Global, set: &Set, line: Line) -> Result<Text, AllocErro
         Line::Split(p) => joined(alloc, b"split ", property_name(set, p)),
         Line::SameEnd(p) => joined(alloc, b"same-end ", property_name(set, p)),
         Line::Choose(p, q) => {
-            joined_edge(alloc, b"choose ", property_name(set, p), property_name(set, q))
+            joined_edge(
+                alloc,
+                b"choose ",
+                property_name(set, p),
+                property_name(set, q),
+            )
         }
         Line::Hand(p, q) => {
-            joined_edge(alloc, b"hand ", property_name(set, p), property_name(set, q))
+            joined_edge(
+                alloc,
+                b"hand ",
+                property_name(set, p),
+                property_name(set, q),
+            )
         }
         Line::Determine(p) => joined(alloc, b"determine ", property_name(set, p)),
     }
