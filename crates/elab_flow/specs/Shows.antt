@@ -1,0 +1,38 @@
+-- When tables say what a flow says.
+use Rattle.std.specs.Prelude.{ℕ, zero, suc, ◌≡◌, ◌+◌, ◌*◌, ◌<◌, ◌↔◌, Bool, List, [], ◌∷◌, length, slice_index}
+use Rattle.std.specs.Int.{bit_at}
+use Rattle.std.specs.List.{flat_map}
+use Rattle.vlog_tree.specs.declared.expr.Expr.{Expr}
+use Rattle.vlog_runs.specs.declared.flat.Signal.{Signal}
+use Rattle.vlog_runs.specs.Places.{Name, Among, Place}
+use Rattle.flat_faults.specs.Texts.{names_in}
+use Rattle.elab_faults.specs.Paths.{width_in}
+use Rattle.flow_laws.specs.Flows.{Flow}
+use Rattle.flow_laws.specs.Laws.{place_over}
+use Rattle.elab_flow.specs.declared.flow.BlockFlow.{BlockFlow}
+use Rattle.elab_flow.specs.Sets.{Has}
+
+-- the signal at place i has the name x
+abbrev pub IsAt : List Signal → ℕ → Name → Type 0
+IsAt [] i x = ⊥
+IsAt (g ∷ gs) zero x = g.name ≡ x
+IsAt (g ∷ gs) (suc i) x = IsAt gs i x
+
+-- bit b of the word at place i is 1
+abbrev pub HasBit : List ℕ → ℕ → ℕ → Type 0
+HasBit words i b = bit_at (slice_index words i) b ≡ 1
+
+-- a set of places has those of the names that are so
+abbrev pub Marks : List Signal → List Bool → (Name → Type 0) → Type 0
+Marks gs set P = (i : ℕ) (x : Name) → IsAt gs i x → Has set i ↔ P x
+
+-- the tables of a block say what a flow says
+pub record Shows (gs : List Signal) (s : BlockFlow) (w : Flow) : Type 0 where
+  pub unset : (i b : ℕ) (x : Name) → IsAt gs i x → b < width_in (place_over gs) x → HasBit s.unset.items i b ↔ w.unset x b
+  pub clear : (i b : ℕ) (x : Name) → IsAt gs i x → HasBit s.unset.items i b → b < width_in (place_over gs) x
+  pub through : (i j : ℕ) (y z : Name) → IsAt gs i y → IsAt gs j z → Has s.through.items (i * length gs + j) ↔ w.through y z
+  pub outside : (i : ℕ) (x : Name) → IsAt gs i x → Has s.outside.items i ↔ w.outside x
+
+-- each name in expressions is that of a signal
+abbrev pub AreDeclared : List Signal → List Expr → Type 0
+AreDeclared gs as' = (x : Name) → Among (flat_map names_in as') x → (i : ℕ) × IsAt gs i x

@@ -1,0 +1,7 @@
+//! What the bits of a combinational block depend on, over all its paths, in one pass through its text.
+#![tactic(auto)]
+
+mod flow;
+mod sets;
+
+pub use flow::BlockFlow;
