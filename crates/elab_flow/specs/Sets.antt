@@ -1,5 +1,6 @@
--- Sets of places.
-use Rattle.std.specs.Prelude.{ℕ, ◌≡◌, ◌+◌, ◌*◌, ◌<◌, ◌⊎◌, Bool, true, false, not, nat_eq, List, slice_index, slice_index_or}
+-- Sets of places, and tables of what paths do.
+use Rattle.std.specs.Prelude.{ℕ, ◌≡◌, ◌+◌, ◌*◌, ◌<◌, ◌⊎◌, Bool, true, false, not, nat_eq, List, length, slice_index, slice_index_or}
+use Rattle.elab_flow.specs.declared.flow.BlockFlow.{BlockFlow}
 
 -- what a table of truth values has at a place
 abbrev pub at : List Bool → ℕ → Bool
@@ -17,3 +18,18 @@ is_open word = not (nat_eq word 0)
 abbrev pub CountsIn : ℕ → List Bool → List ℕ → List Bool → ℕ → Type 0
 CountsIn n read unset through z =
     ((at read z ≡ true) × (is_open (slice_index unset z) ≡ true)) ⊎ ((y : ℕ) × (y < n) × (at read y ≡ true) × (at through (y * n + z) ≡ true))
+
+-- what some path does, by the places of n signals: for each a 1 for each bit that it leaves unset, a row of what assignments to it depend on,
+-- and whether it is read before all of it is set
+pub record Tables : Type 0 where
+  pub unset : List ℕ
+  pub through : List Bool
+  pub outside : List Bool
+
+abbrev pub tables : BlockFlow → Tables
+tables f = record { unset = f.unset.items; through = f.through.items; outside = f.outside.items }
+
+pub record IsSized (n : ℕ) (s : Tables) : Type 0 where
+  pub unset : length s.unset ≡ n
+  pub through : length s.through ≡ n * n
+  pub outside : length s.outside ≡ n
