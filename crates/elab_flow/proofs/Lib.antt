@@ -1,2 +1,4 @@
 pub mod Bits
+pub mod Rows
 pub mod Showing
+pub mod Marking

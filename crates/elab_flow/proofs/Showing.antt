@@ -14,8 +14,8 @@ use Rattle.flat_faults.specs.Texts.{names_in, numbers_in}
 use Rattle.elab_faults.specs.Paths.{Sets, width_in}
 use Rattle.flow_laws.specs.Flows.{Flow, either, IsUnset, Uses, after_reads, after_assignment, within, flow, row_flow}
 use Rattle.flow_laws.specs.Laws.{place_over}
-use Rattle.elab_flow.specs.Sets.{Tables, at, is_open, Has, CountsIn}
-use Rattle.elab_flow.specs.Shows.{IsAt, HasBit, Marks, Shows, AreDeclared, AreAllDeclared, RowDeclared}
+use Rattle.elab_flow.specs.Sets.{Tables, HasBit, at, is_open, Has, CountsIn}
+use Rattle.elab_flow.specs.Shows.{IsAt, Marks, Shows, AreDeclared, AreAllDeclared, RowDeclared}
 use Rattle.elab_flow.specs.Passes.{ReadsAt, ReadsTo, CountTo, JoinTo, SetTo, EnterTo, AssignTo, Passes, RowPasses}
 use Rattle.elab_flow.proofs.Bits.{or_is, and_is, or_bits, open_from, bit_of_open}
 
@@ -39,9 +39,10 @@ module _ (gs : List Signal) where
   module _ (s : Tables) (w : Flow) (h : Shows gs s w) where
     -- an open word is that of a name with an unset bit
     pub open_is : (i : ℕ) (x : Name) → IsAt gs i x → (is_open (get_or s.unset i 0) ≡ true) ↔ IsUnset p w x
-    open_is i x a =
-        (λ o. let r = bit_of_open (get_or s.unset i 0) o in let lt = h.clear i r.0 x a r.1 in (r.0, lt, (h.unset i r.0 x a lt).0 r.1),
-        λ u. open_from (get_or s.unset i 0) u.0 ((h.unset i u.0 x a u.1).1 u.2))
+    open_is i x a = (
+      λ o. let r = bit_of_open (get_or s.unset i 0) o in let lt = h.clear i r.0 x a r.1 in (r.0, lt, (h.unset i r.0 x a lt).0 r.1),
+      λ u. open_from (get_or s.unset i 0) u.0 ((h.unset i u.0 x a u.1).1 u.2),
+    )
 
     -- what places count as
     pub uses_are : (as' : List Expr) (read : List Bool) → AreDeclared gs as' → ReadsAt gs as' read → (j : ℕ) (z : Name) → IsAt gs j z →
@@ -84,9 +85,10 @@ module _ (gs : List Signal) where
     -- the conditions around a branch
     pub within_marks : (as' : List Expr) (read around inner : List Bool) (P : Name → Type 0) → AreDeclared gs as' → ReadsAt gs as' read → Marks gs around P → CountTo (length gs) around read s inner →
         Marks gs inner (within p P w as')
-    within_marks as' read around inner P d m c t j z a =
-        (λ k. elim ((t j (at_lt gs j z a)).0 k) [ inl f ↦ inl ((uses_are as' read d m j z a).0 f) | inr f ↦ inr ((c j z a).0 f) ],
-        λ k. (t j (at_lt gs j z a)).1 (back k))
+    within_marks as' read around inner P d m c t j z a = (
+      λ k. elim ((t j (at_lt gs j z a)).0 k) [ inl f ↦ inl ((uses_are as' read d m j z a).0 f) | inr f ↦ inr ((c j z a).0 f) ],
+      λ k. (t j (at_lt gs j z a)).1 (back k),
+    )
       where
         back : within p P w as' z → CountsIn n read s.unset s.through j ⊎ Has around j
         back (inl f) = inl ((uses_are as' read d m j z a).1 f)
@@ -102,9 +104,10 @@ module _ (gs : List Signal) where
   }
     where
       sides : {A B C D E : Type 0} → A ↔ (B ⊎ C) → B ↔ D → C ↔ E → A ↔ (D ⊎ E)
-      sides f g i =
-          (λ a. elim (f.0 a) [ inl b ↦ inl (g.0 b) | inr c ↦ inr (i.0 c) ],
-          λ q. f.1 (elim q [ inl d ↦ inl (g.1 d) | inr e ↦ inr (i.1 e) ]))
+      sides f g i = (
+        λ a. elim (f.0 a) [ inl b ↦ inl (g.0 b) | inr c ↦ inr (i.0 c) ],
+        λ q. f.1 (elim q [ inl d ↦ inl (g.1 d) | inr e ↦ inr (i.1 e) ]),
+      )
 
       bits : (i b : ℕ) (x : Name) → IsAt gs i x → HasBit u.unset i b ↔ (HasBit s.unset i b ⊎ HasBit t.unset i b)
       bits i b x a =
@@ -119,9 +122,10 @@ module _ (gs : List Signal) where
   set_shows left sources s t v S h m k = record {
     unset = λ i b x a lt. (λ o. let r = (k.unset i b x a lt).0 o in ((h.unset i b x a lt).0 r.0, r.1), λ o. (k.unset i b x a lt).1 ((h.unset i b x a lt).1 o.0, o.1));
     clear = λ i b x a o. h.clear i b x a (k.clear i b x a o);
-    through = λ i j y z a c.
-        (λ o. elim ((k.through i j y z a c).0 o) [ inl f ↦ inl (f.0, (m j z c).0 f.1) | inr f ↦ inr ((h.through i j y z a c).0 f) ],
-        λ o. (k.through i j y z a c).1 (elim o [ inl f ↦ inl (f.0, (m j z c).1 f.1) | inr f ↦ inr ((h.through i j y z a c).1 f) ]));
+    through = λ i j y z a c. (
+      λ o. elim ((k.through i j y z a c).0 o) [ inl f ↦ inl (f.0, (m j z c).0 f.1) | inr f ↦ inr ((h.through i j y z a c).0 f) ],
+      λ o. (k.through i j y z a c).1 (elim o [ inl f ↦ inl (f.0, (m j z c).1 f.1) | inr f ↦ inr ((h.through i j y z a c).1 f) ]),
+    );
     outside = λ i x a. subst (λ bs. Has bs i ↔ v.outside x) (sym k.outside) (h.outside i x a);
   }
 

@@ -1,3 +1,4 @@
 pub mod Sets
 pub mod Shows
 pub mod Passes
+pub mod Marks

@@ -12,8 +12,8 @@ use Rattle.vlog_runs.specs.Blocks.{labels_in, left_names}
 use Rattle.flat_faults.specs.Texts.{names_in, numbers_in}
 use Rattle.elab_faults.specs.Paths.{Sets, IsFull, HasDefault, width_in}
 use Rattle.flow_laws.specs.Laws.{place_over}
-use Rattle.elab_flow.specs.Sets.{Tables, at, is_open, Has, CountsIn}
-use Rattle.elab_flow.specs.Shows.{IsAt, HasBit, Marks, AreDeclared}
+use Rattle.elab_flow.specs.Sets.{Tables, HasBit, at, is_open, Has, CountsIn}
+use Rattle.elab_flow.specs.Shows.{IsAt, Marks, AreDeclared}
 
 -- the places of the names in expressions
 abbrev pub ReadsAt : List Signal → List Expr → List Bool → Type 0

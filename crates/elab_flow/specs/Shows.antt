@@ -1,6 +1,5 @@
 -- When tables say what a flow says.
 use Rattle.std.specs.Prelude.{ℕ, zero, suc, ◌≡◌, ◌+◌, ◌*◌, ◌<◌, ◌↔◌, Bool, List, [], ◌∷◌, length, slice_index}
-use Rattle.std.specs.Int.{bit_at}
 use Rattle.std.specs.List.{flat_map}
 use Rattle.vlog_tree.specs.declared.expr.Expr.{Expr}
 use Rattle.vlog_tree.specs.declared.stmt.Stmt.{Stmt, Row_of-Stmt, end_of-Stmt, more_of-Stmt}
@@ -11,17 +10,13 @@ use Rattle.flat_faults.specs.Texts.{names_in, numbers_in}
 use Rattle.elab_faults.specs.Paths.{width_in}
 use Rattle.flow_laws.specs.Flows.{Flow}
 use Rattle.flow_laws.specs.Laws.{place_over}
-use Rattle.elab_flow.specs.Sets.{Tables, Has}
+use Rattle.elab_flow.specs.Sets.{Tables, Has, HasBit}
 
 -- the signal at place i has the name x
 abbrev pub IsAt : List Signal → ℕ → Name → Type 0
 IsAt [] i x = ⊥
 IsAt (g ∷ gs) zero x = g.name ≡ x
 IsAt (g ∷ gs) (suc i) x = IsAt gs i x
-
--- bit b of the word at place i is 1
-abbrev pub HasBit : List ℕ → ℕ → ℕ → Type 0
-HasBit words i b = bit_at (slice_index words i) b ≡ 1
 
 -- a set of places has those of the names that are so
 abbrev pub Marks : List Signal → List Bool → (Name → Type 0) → Type 0

@@ -1,7 +1,10 @@
 // What the paths up to a place in a block do, by the places of signals.
 
-ghost use Rattle.std.specs.Prelude.{◌≡◌, IfOk};
+ghost use Rattle.std.specs.Prelude.{◌≡◌, ℕ, length, IfOk, OnOk};
+ghost use Rattle.elab_flow.specs.Sets.{tables, IsSized};
+ghost use Rattle.elab_flow.specs.Passes.{ReadsTo, CountTo, JoinTo};
 
+use crate::sets::{add_bits, add_counts, add_open, add_row};
 use std::alloc::{AllocError, Global};
 
 /// What some path up to a place in a block does. Signals go by their places in a list of n signals.
@@ -13,4 +16,49 @@ pub struct BlockFlow {
     pub through: Vec<bool>,
     /// Whether a signal is read before all of it is set.
     pub outside: Vec<bool>,
+}
+
+impl BlockFlow {
+    /// The same tables once more. Refused only for want of memory.
+    pub fn copy(&self, alloc: Global) -> Result<BlockFlow, AllocError>
+        ensures { IfOk result (λ r. tables r ≡ tables self.now) }
+    {
+        Ok(BlockFlow {
+            unset: self.unset.as_slice().to_vec(alloc)?,
+            through: self.through.as_slice().to_vec(alloc)?,
+            outside: self.outside.as_slice().to_vec(alloc)?,
+        })
+    }
+
+    /// Adds what other paths do.
+    pub fn join(&mut self, other: &BlockFlow)
+        requires sized { IsSized (length self.old.unset.items) (tables self.old) }
+        requires other { IsSized (length self.old.unset.items) (tables other.now) }
+        ensures joined { JoinTo (length self.old.unset.items) (tables self.old) (tables other.now) (tables self.new) }
+        ensures sized { IsSized (length self.old.unset.items) (tables self.new) }
+    {
+        add_bits(&mut self.unset, &other.unset);
+        add_row(&mut self.through, &other.through, 0);
+        add_row(&mut self.outside, &other.outside, 0);
+    }
+
+    /// Reads places; what they count as, with the places that the conditions around count as. Refused only for want of memory.
+    pub fn enter(
+        &mut self,
+        alloc: Global,
+        read: &[bool],
+        around: &[bool],
+    ) -> Result<Vec<bool>, AllocError>
+        requires sized { IsSized (length around.now) (tables self.old) }
+        requires read { length read.now ≡ length around.now }
+        ensures reads { OnOk result (ReadsTo (length around.now) read.now (tables self.old) (tables self.new)) }
+        ensures counts { IfOk result (λ inner. CountTo (length around.now) around.now read.now (tables self.old) inner.items) }
+        ensures inner { IfOk result (λ inner. length inner.items ≡ length around.now) }
+        ensures sized { OnOk result (IsSized (length around.now) (tables self.new)) }
+    {
+        let mut inner = around.to_vec(alloc)?;
+        add_counts(&mut inner, read, &self.unset, &self.through);
+        add_open(&mut self.outside, read, &self.unset);
+        Ok(inner)
+    }
 }

@@ -2,6 +2,7 @@
 #![tactic(auto)]
 
 mod flow;
+mod marks;
 mod sets;
 
 pub use flow::BlockFlow;
