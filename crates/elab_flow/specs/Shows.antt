@@ -48,3 +48,7 @@ abbrev mutual
   pub RowDeclared : {m : _} → List Signal → Row_of-Stmt m → Type 0
   RowDeclared gs end_of-Stmt = Unit {0}
   RowDeclared gs (more_of-Stmt a rest) = AreAllDeclared gs a × RowDeclared gs rest
+
+-- no two signals have the same name
+abbrev pub AreDistinct : List Signal → Type 0
+AreDistinct gs = (i j : ℕ) (x : Name) → IsAt gs i x → IsAt gs j x → i ≡ j

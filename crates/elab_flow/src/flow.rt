@@ -1,10 +1,10 @@
 // What the paths up to a place in a block do, by the places of signals.
 
-ghost use Rattle.std.specs.Prelude.{◌≡◌, ℕ, length, IfOk, OnOk};
-ghost use Rattle.elab_flow.specs.Sets.{tables, IsSized};
+ghost use Rattle.std.specs.Prelude.{◌≡◌, ℕ, ◌+◌, ◌*◌, ◌<◌, ◌⊎◌, ◌↔◌, length, IfOk, OnOk};
+ghost use Rattle.elab_flow.specs.Sets.{Has, HasBit, tables, IsSized};
 ghost use Rattle.elab_flow.specs.Passes.{ReadsTo, CountTo, JoinTo};
 
-use crate::sets::{add_bits, add_counts, add_open, add_row};
+use crate::sets::{add_bits, add_counts, add_open, add_row, add_to_rows, clear_bits};
 use std::alloc::{AllocError, Global};
 
 /// What some path up to a place in a block does. Signals go by their places in a list of n signals.
@@ -60,5 +60,20 @@ impl BlockFlow {
         add_counts(&mut inner, read, &self.unset, &self.through);
         add_open(&mut self.outside, read, &self.unset);
         Ok(inner)
+    }
+
+    /// Sets the bits of words, in the rows of places, which depend on the places of a set.
+    pub fn assign(&mut self, words: &[u64], rows: &[bool], sources: &[bool])
+        requires sized { IsSized (length sources.now) (tables self.old) }
+        requires words { length words.now ≡ length sources.now }
+        requires rows { length rows.now ≡ length sources.now }
+        ensures cleared { (i b : ℕ) → i < length sources.now → b < 64 → HasBit self.new.unset.items i b ↔ (HasBit self.old.unset.items i b × (HasBit words.now i b → ⊥)) }
+        ensures through { (i j : ℕ) → i < length sources.now → j < length sources.now → Has self.new.through.items (i * length sources.now + j)
+            ↔ ((Has rows.now i × Has sources.now j) ⊎ Has self.old.through.items (i * length sources.now + j)) }
+        ensures outside { self.new.outside.items ≡ self.old.outside.items }
+        ensures sized { IsSized (length sources.now) (tables self.new) }
+    {
+        clear_bits(&mut self.unset, words);
+        add_to_rows(&mut self.through, rows, sources);
     }
 }

@@ -4,5 +4,6 @@
 mod flow;
 mod marks;
 mod sets;
+mod words;
 
 pub use flow::BlockFlow;

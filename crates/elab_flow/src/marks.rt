@@ -27,7 +27,8 @@ pub fn names_of<'a>(alloc: Global, signals: &'a [Signal]) -> Result<Vec<&'a Text
     Ok(names)
 }
 
-fn name_of(part: Part<'_>) -> &Text
+/// The name of the signal of a part.
+pub fn name_of(part: Part<'_>) -> &Text
     ensures { result.now ≡ part_name (part_meant part.entry) }
 {
     match part {
