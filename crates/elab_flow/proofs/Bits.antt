@@ -62,3 +62,9 @@ without_is x y b fits lt =
 
     back : (m n : ℕ) → n < 2 → m ≡ 1 → (n ≡ 1 → ⊥) → min m (1 - n) ≡ 1
     back m n g e f = let z : n ≢ 1 = f in let k : n ≡ 0 = omega arith in omega arith
+
+pub without_kept : (x y b : ℕ) → bit_at (bit_and x (bit_not w64 y)) b ≡ 1 → bit_at x b ≡ 1
+without_kept x y b h = least (bit_at x b) (bit_at (bit_not w64 y) b) (bit_at-lt x b) (bit_at-lt (bit_not w64 y) b) (sym (bit_at_and x (bit_not w64 y) b) ∙ h)
+  where
+    least : (m n : ℕ) → m < 2 → n < 2 → min m n ≡ 1 → m ≡ 1
+    least m n f g h = omega arith

@@ -4,3 +4,4 @@ pub mod Showing
 pub mod Marking
 pub mod Setting
 pub mod Placing
+pub mod Assigning

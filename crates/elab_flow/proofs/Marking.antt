@@ -1,5 +1,5 @@
 -- Places of names, one name after another.
-use Rattle.std.proofs.Common.{◌≡◌, ◌≢◌, ℕ, zero, suc, ◌+◌, ◌≤◌, ◌<◌, ◌⊎◌, ◌↔◌, inl, inr, Bool, true, false, List, [], ◌∷◌, ◌++◌, append_assoc, map, length, get_or, set, drop, drop-cons, add-one, Option, Some, None, get_or-set_same, get_or-set_other, arith, refl, sym, ap, ◌∙◌, subst}
+use Rattle.std.proofs.Common.{◌≡◌, ◌≢◌, ℕ, zero, suc, ◌+◌, ◌≤◌, ◌<◌, ◌⊎◌, ◌↔◌, inl, inr, Bool, true, false, List, [], ◌∷◌, ◌++◌, append_assoc, map, length, replicate, get_or, set, drop, drop-cons, add-one, Option, Some, None, get_or-set_same, get_or-set_other, arith, refl, sym, ap, ◌∙◌, subst}
 use Rattle.std.specs.List.{flat_map}
 use Rattle.std.specs.Str.{bytes_eq}
 use Rattle.std.proofs.lemmas.Bool.{cases_Bool, cases_eq}
@@ -182,3 +182,8 @@ mutual
 pub numbers_cut : (x : Lval) (xs : List Lval) →
     flat_map names_in (flat_map numbers_in (x ∷ xs)) ≡ flat_map names_in (numbers_in x) ++ flat_map names_in (flat_map numbers_in xs)
 numbers_cut x xs = flat_append names_in (numbers_in x) (flat_map numbers_in xs)
+
+pub none_in : (n i : ℕ) → Has (replicate n false) i → ⊥
+none_in zero i h = let z : false ≡ true = h in cc
+none_in (suc n) zero h = let z : false ≡ true = h in cc
+none_in (suc n) (suc i) h = none_in n i h

@@ -22,7 +22,7 @@ use Rattle.elab_flow.specs.Sets.{Has}
 use Rattle.elab_flow.specs.Shows.{IsAt, Marks, AreDistinct}
 use Rattle.elab_flow.specs.Marks.{signal_name, IsPlaceOf, Adds}
 use Rattle.elab_flow.specs.Words.{IsSignalAt, IsSetAt, AnySetAt, set_word}
-use Rattle.elab_flow.proofs.Setting.{word_sets, one_signal}
+use Rattle.elab_flow.proofs.Setting.{word_sets, one_signal, among_signals}
 
 same_bytes : (x y : Name) → bytes_eq x y ≡ true → x ≡ y
 same_bytes x y e = (bytes_eq-Decides x y).0 e
@@ -155,3 +155,8 @@ module _ (gs : List Signal) where
         λ h. set_parts left h.0 h.1 ((part_sets h.0 (parts_are left h.0 h.1)).0 h.2),
         λ h. let r = parts_set left h in (r.0, r.1, (part_sets r.0 (parts_are left r.0 r.1)).1 r.2),
       )
+
+-- the first signal of a name
+pub named_signal : (gs : List Signal) → AreDistinct gs → (x : Name) (i : ℕ) → IsAt gs i x → (g : Signal) × Among gs g × (signal_at gs x ≡ Some g)
+named_signal gs d x i a =
+    let g = signal_of gs i x a in (g.0, among_signals gs i g.0 g.1, shape_of gs x i g.0 (place_of_name gs d x i a) g.1)

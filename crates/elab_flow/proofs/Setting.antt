@@ -3,6 +3,7 @@ use Rattle.std.proofs.Common.{◌≡◌, ℕ, zero, suc, map, length, get_or, se
 use Rattle.std.specs.Prelude.{bit_or, ℤ, pos, ◌≤ℤ◌, ◌<ℤ◌, ◌-ℤ◌, ◌+ℤ◌}
 use Rattle.std.specs.Int.{bit_at}
 use Rattle.std.proofs.lemmas.Bool.{cases_eq}
+use Rattle.std.proofs.Math.Seq.{take-append_seam}
 use Rattle.std.proofs.lemmas.Int.{ints}
 use Rattle.std.proofs.lemmas.Nat.Bits.{bit_at-zero}
 use Rattle.vlog_tree.specs.declared.expr.Expr.{Expr}
@@ -205,12 +206,8 @@ no_bits n i b h = none_set b (ap (λ m. bit_at m b) (sym (zeros n i)) ∙ h)
     zeros (suc n) (suc i) = zeros n i
 
 -- what a call leaves of a whole list
-pub written_back : (n : ℕ) (new items : List ℕ) → n ≡ length new → take n (new ++ items) ≡ new
-written_back n new items e = subst (λ m. take m (new ++ items) ≡ new) (sym e) (front new)
-  where
-    front : (xs : List ℕ) → take (length xs) (xs ++ items) ≡ xs
-    front [] = refl
-    front (x ∷ xs) = ap (λ ys. x ∷ ys) (front xs)
+pub written_back : {A : Type 0} (n : ℕ) (new items : List A) → n ≡ length new → take n (new ++ items) ≡ new
+written_back n new items e = ap (λ m. take m (new ++ items)) e ∙ take-append_seam new items
 
 pub set_is : (gs : List Signal) (qs rs : List Lval) (old now : List ℕ) (n : ℕ) → old ≡ replicate n 0 → rs ≡ qs → ((i b : ℕ) → HasBit now i b ↔ (HasBit old i b ⊎ AnySetAt gs rs i b)) →
     (i b : ℕ) → HasBit now i b ↔ AnySetAt gs qs i b

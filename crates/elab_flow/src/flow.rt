@@ -68,6 +68,7 @@ impl BlockFlow {
         requires words { length words.now ≡ length sources.now }
         requires rows { length rows.now ≡ length sources.now }
         ensures cleared { (i b : ℕ) → i < length sources.now → b < 64 → HasBit self.new.unset.items i b ↔ (HasBit self.old.unset.items i b × (HasBit words.now i b → ⊥)) }
+        ensures kept { (i b : ℕ) → HasBit self.new.unset.items i b → HasBit self.old.unset.items i b }
         ensures through { (i j : ℕ) → i < length sources.now → j < length sources.now → Has self.new.through.items (i * length sources.now + j)
             ↔ ((Has rows.now i × Has sources.now j) ⊎ Has self.old.through.items (i * length sources.now + j)) }
         ensures outside { self.new.outside.items ≡ self.old.outside.items }

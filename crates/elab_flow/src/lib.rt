@@ -3,6 +3,8 @@
 
 mod flow;
 mod marks;
+mod pass;
+mod places;
 mod sets;
 mod words;
 

@@ -121,3 +121,18 @@ pub fn mark_numbers(
     }
     Ok(())
 }
+
+/// Adds the places of the names that an assignment reads. Refused only for want of memory.
+pub fn mark_assignment(
+    set: &mut [bool],
+    alloc: Global,
+    names: &Names<'_>,
+    left: &Lval,
+    right: &Expr,
+) -> Result<(), AllocError>
+    requires { length set.old ≡ length names.now }
+    ensures { OnOk result (Adds names.now (flat_map names_in (right.now ∷ numbers_in left.now)) set.old set.new) }
+{
+    mark_reads(set, alloc, names, right)?;
+    mark_numbers(set, alloc, names, left)
+}

@@ -90,7 +90,8 @@ pub fn add_to_rows(table: &mut [bool], rows: &[bool], set: &[bool])
 }
 
 fn without(word: u64, bits: u64) -> u64
-    ensures { (b : ℕ) → b < 64 → (bit_at result b ≡ 1) ↔ ((bit_at word b ≡ 1) × (bit_at bits b ≡ 1 → ⊥)) }
+    ensures cleared { (b : ℕ) → b < 64 → (bit_at result b ≡ 1) ↔ ((bit_at word b ≡ 1) × (bit_at bits b ≡ 1 → ⊥)) }
+    ensures kept { (b : ℕ) → bit_at result b ≡ 1 → bit_at word b ≡ 1 }
 {
     word & !bits
 }
@@ -98,7 +99,8 @@ fn without(word: u64, bits: u64) -> u64
 /// Clears the bits of other words.
 pub fn clear_bits(words: &mut [u64], others: &[u64])
     requires { length words.old ≡ length others.now }
-    ensures { (i b : ℕ) → i < length words.old → b < 64 → HasBit words.new i b ↔ (HasBit words.old i b × (HasBit others.now i b → ⊥)) }
+    ensures cleared { (i b : ℕ) → i < length words.old → b < 64 → HasBit words.new i b ↔ (HasBit words.old i b × (HasBit others.now i b → ⊥)) }
+    ensures kept { (i b : ℕ) → HasBit words.new i b → HasBit words.old i b }
 {
     for i in 0..words.len() {
         words[i] = without(words[i], others[i]);
