@@ -1,12 +1,12 @@
 -- An assignment, by what its steps do to tables.
-use Rattle.std.proofs.Common.{◌≡◌, ℕ, zero, suc, ◌+◌, ◌*◌, ◌≤◌, ◌<◌, ◌⊎◌, ◌↔◌, inl, inr, Bool, List, [], ◌∷◌, length, arith, refl, sym, ap, ◌∙◌, subst}
-use Rattle.std.specs.Prelude.{Some, unwrap_or}
+use Rattle.std.proofs.Common.{◌≡◌, ℕ, ◌+◌, ◌*◌, ◌≤◌, ◌<◌, ◌⊎◌, ◌↔◌, inl, inr, Bool, List, ◌∷◌, length, arith, sym, ap, subst}
+use Rattle.std.specs.Prelude.{unwrap_or}
 use Rattle.std.specs.Option.{option_map}
 use Rattle.vlog_tree.specs.declared.expr.Expr.{Expr}
 use Rattle.vlog_tree.specs.declared.stmt.Lval.{Lval}
 use Rattle.vlog_runs.specs.declared.flat.Signal.{Signal}
 use Rattle.vlog_runs.specs.Places.{Name, Among}
-use Rattle.vlog_runs.specs.Blocks.{left_names, signal_at}
+use Rattle.vlog_runs.specs.Blocks.{left_names}
 use Rattle.flat_faults.specs.Texts.{numbers_in}
 use Rattle.elab_faults.specs.Paths.{width_in}
 use Rattle.elab_faults.specs.Drivers.{parts_of}
@@ -14,7 +14,7 @@ use Rattle.flow_laws.specs.Laws.{place_over}
 use Rattle.elab_flow.specs.Sets.{Tables, Has, HasBit}
 use Rattle.elab_flow.specs.Shows.{IsAt, Marks, AreDistinct}
 use Rattle.elab_flow.specs.Words.{AreNarrow, AnySetAt}
-use Rattle.elab_flow.specs.Passes.{ReadsAt, ReadsTo, CountTo, SetTo, AssignTo}
+use Rattle.elab_flow.specs.Passes.{ReadsAt, ReadsTo, CountTo, AssignTo}
 use Rattle.elab_flow.proofs.Placing.{words_set, named_signal}
 use Rattle.elab_flow.proofs.Showing.{at_lt}
 

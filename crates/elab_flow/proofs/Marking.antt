@@ -1,16 +1,14 @@
 -- Places of names, one name after another.
-use Rattle.std.proofs.Common.{◌≡◌, ◌≢◌, ℕ, zero, suc, ◌+◌, ◌≤◌, ◌<◌, ◌⊎◌, ◌↔◌, inl, inr, Bool, true, false, List, [], ◌∷◌, ◌++◌, append_assoc, map, length, replicate, get_or, set, drop, drop-cons, add-one, Option, Some, None, get_or-set_same, get_or-set_other, arith, refl, sym, ap, ◌∙◌, subst}
+use Rattle.std.proofs.Common.{◌≡◌, ℕ, zero, suc, ◌+◌, ◌≤◌, ◌<◌, ◌⊎◌, ◌↔◌, inl, inr, Bool, true, false, List, [], ◌∷◌, ◌++◌, append_assoc, map, length, replicate, get_or, set, drop, drop-cons, add-one, Some, None, get_or-set_same, get_or-set_other, arith, refl, sym, ap, ◌∙◌, subst}
 use Rattle.std.specs.List.{flat_map}
 use Rattle.std.specs.Str.{bytes_eq}
 use Rattle.std.proofs.lemmas.Bool.{cases_Bool, cases_eq}
 use Rattle.std.proofs.lemmas.List.{map-append}
-use Rattle.std.proofs.lemmas.Slice.Eq.{bytes_eq-Decides}
 use Rattle.vlog_tree.specs.declared.expr.Expr.{Expr, Row_of-Expr, end_of-Expr, more_of-Expr}
 use Rattle.vlog_tree.specs.declared.expr.Expr.TheVariants as e
 use Rattle.vlog_tree.specs.declared.stmt.Lval.{Lval, Row_of-Lval, end_of-Lval, more_of-Lval}
 use Rattle.vlog_tree.specs.declared.stmt.Lval.TheVariants as l
-use Rattle.vlog_runs.specs.declared.flat.Signal.{Signal}
-use Rattle.vlog_runs.specs.Places.{Name, Among}
+use Rattle.vlog_runs.specs.Places.{Name}
 use Rattle.vlog_runs.specs.Blocks.{left_names, row_names}
 use Rattle.flat_faults.specs.Texts.{names_in, row_names_in, numbers_in, row_numbers_in}
 use Rattle.flat_laws.proofs.Lists.{flat_append, among_append, append_left, append_right}
@@ -19,8 +17,7 @@ use Rattle.elab_faults.specs.Drivers.{parts_of, row_parts_of}
 use Rattle.elab_drive.specs.Parts.{reads_of, row_reads}
 use Rattle.elab_drive.specs.Claims.{part_name}
 use Rattle.elab_flow.specs.Sets.{at, Has}
-use Rattle.elab_flow.specs.Shows.{IsAt, Marks}
-use Rattle.elab_flow.specs.Marks.{signal_name, IsPlaceOf, Adds}
+use Rattle.elab_flow.specs.Marks.{IsPlaceOf, Adds}
 
 some_is : {A : Type 0} (x y : A) → Some x ≡ Some y → x ≡ y
 some_is x y e = cc

@@ -1,5 +1,5 @@
 -- Names of distinct signals, and their places.
-use Rattle.std.proofs.Common.{◌≡◌, ◌≢◌, ℕ, zero, suc, ◌+◌, ◌≤◌, ◌<◌, ◌⊎◌, ◌↔◌, inl, inr, Bool, true, false, List, [], ◌∷◌, ◌++◌, map, Option, Some, None, arith, refl, sym, ap, ◌∙◌, subst}
+use Rattle.std.proofs.Common.{◌≡◌, ℕ, zero, suc, ◌+◌, ◌<◌, ◌↔◌, inl, inr, Bool, true, List, [], ◌∷◌, map, Some, arith, refl, sym, ap, ◌∙◌, subst}
 use Rattle.std.specs.Prelude.{unwrap_or}
 use Rattle.std.specs.Option.{option_map}
 use Rattle.std.specs.Str.{bytes_eq}
@@ -10,7 +10,7 @@ use Rattle.vlog_tree.specs.declared.stmt.Lval.{Lval, Row_of-Lval, end_of-Lval, m
 use Rattle.vlog_tree.specs.declared.stmt.Lval.TheVariants as l
 use Rattle.vlog_runs.specs.declared.flat.Signal.{Signal}
 use Rattle.vlog_runs.specs.Places.{Name, Among, Place}
-use Rattle.vlog_runs.specs.Blocks.{signal_at, low_in}
+use Rattle.vlog_runs.specs.Blocks.{signal_at}
 use Rattle.flat_laws.proofs.Lists.{among_append, append_left, append_right}
 use Rattle.flat_scopes.specs.Finding.{place_from, place_in}
 use Rattle.elab_faults.specs.Paths.{Sets, AnySets, width_in}
@@ -20,9 +20,9 @@ use Rattle.elab_drive.specs.Claims.{part_name}
 use Rattle.elab_drive.proofs.Parting.{IsPiece, parts_are}
 use Rattle.elab_flow.specs.Sets.{Has}
 use Rattle.elab_flow.specs.Shows.{IsAt, Marks, AreDistinct}
-use Rattle.elab_flow.specs.Marks.{signal_name, IsPlaceOf, Adds}
+use Rattle.elab_flow.specs.Marks.{signal_name, Adds}
 use Rattle.elab_flow.specs.Words.{IsSignalAt, IsSetAt, AnySetAt, set_word}
-use Rattle.elab_flow.proofs.Setting.{word_sets, one_signal, among_signals}
+use Rattle.elab_flow.proofs.Setting.{word_sets, among_signals}
 
 same_bytes : (x y : Name) → bytes_eq x y ≡ true → x ≡ y
 same_bytes x y e = (bytes_eq-Decides x y).0 e

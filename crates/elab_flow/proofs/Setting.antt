@@ -1,5 +1,5 @@
 -- The bits of words are those that parts surely set.
-use Rattle.std.proofs.Common.{◌≡◌, ℕ, zero, suc, map, length, get_or, set, replicate, take, ◌++◌, get_or-set_same, get_or-set_other, ◌+◌, ◌≤◌, ◌<◌, ◌⊎◌, ◌↔◌, min, inl, inr, List, [], ◌∷◌, Option, Some, None, arith, refl, sym, ap, ◌∙◌, subst}
+use Rattle.std.proofs.Common.{◌≡◌, ℕ, zero, suc, map, length, get_or, set, replicate, take, ◌++◌, get_or-set_same, get_or-set_other, ◌<◌, ◌⊎◌, ◌↔◌, min, inl, inr, List, [], ◌∷◌, Some, None, arith, refl, sym, ap, ◌∙◌, subst}
 use Rattle.std.specs.Prelude.{bit_or, ℤ, pos, ◌≤ℤ◌, ◌<ℤ◌, ◌-ℤ◌, ◌+ℤ◌}
 use Rattle.std.specs.Int.{bit_at}
 use Rattle.std.proofs.lemmas.Bool.{cases_eq}
@@ -11,14 +11,14 @@ use Rattle.vlog_tree.specs.declared.stmt.Lval.{Lval}
 use Rattle.vlog_tree.specs.declared.stmt.Lval.TheVariants as l
 use Rattle.vlog_tree.specs.Value.{operand_of, own_integer, natural, part_low, part_width, NamesOnly}
 use Rattle.vlog_runs.specs.declared.flat.Signal.{Signal}
-use Rattle.vlog_runs.specs.Places.{Name, Place, Among}
+use Rattle.vlog_runs.specs.Places.{Place, Among}
 use Rattle.vlog_runs.specs.Blocks.{IsWithin, low_in}
 use Rattle.elab_faults.specs.Paths.{Sets}
 use Rattle.flow_laws.specs.Laws.{place_over}
 use Rattle.flat_scopes.specs.Finding.{place_in}
 use Rattle.elab_drive.specs.declared.parts.Part.{Part}
 use Rattle.elab_drive.specs.Parts.{reads_of, part_meant}
-use Rattle.elab_drive.specs.Claims.{nothing, ones, known, known_if, part_name}
+use Rattle.elab_drive.specs.Claims.{nothing, known, known_if, part_name}
 use Rattle.elab_drive.proofs.Bits.{ones_set, set_ones, run_set, set_run}
 use Rattle.elab_drive.proofs.Constants.{no_names, no_reads}
 use Rattle.elab_drive.proofs.Parting.{IsPiece}

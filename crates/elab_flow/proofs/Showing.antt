@@ -1,22 +1,21 @@
 -- Tables that say what flows say, one step after another.
-use Rattle.std.proofs.Common.{◌≡◌, ℕ, zero, suc, ◌+◌, ◌*◌, ◌≤◌, ◌<◌, ◌⊎◌, ◌↔◌, ◌||◌, ◌&&◌, inl, inr, ⊎_elim, Bool, true, false, List, [], ◌∷◌, length, get_or, arith, refl, sym, ap, ◌∙◌, subst}
-use Rattle.std.specs.Prelude.{slice_index, bit_or}
+use Rattle.std.proofs.Common.{◌≡◌, ℕ, zero, suc, ◌+◌, ◌*◌, ◌<◌, ◌⊎◌, ◌↔◌, ◌||◌, ◌&&◌, inl, inr, Bool, true, List, [], ◌∷◌, length, get_or, arith, refl, sym, ◌∙◌, subst}
 use Rattle.std.specs.Int.{bit_at}
 use Rattle.std.specs.List.{flat_map}
 use Rattle.vlog_tree.specs.declared.expr.Expr.{Expr}
 use Rattle.vlog_tree.specs.declared.stmt.Lval.{Lval}
-use Rattle.vlog_tree.specs.declared.stmt.Stmt.{Stmt, Row_of-Stmt, end_of-Stmt, more_of-Stmt, Row_of-CaseItem, end_of-CaseItem, more_of-CaseItem}
+use Rattle.vlog_tree.specs.declared.stmt.Stmt.{Stmt, Row_of-Stmt, end_of-Stmt, more_of-Stmt}
 use Rattle.vlog_tree.specs.declared.stmt.Stmt.TheVariants as s
 use Rattle.vlog_runs.specs.declared.flat.Signal.{Signal}
 use Rattle.vlog_runs.specs.Places.{Name, Among, Place}
 use Rattle.vlog_runs.specs.Blocks.{left_names}
 use Rattle.flat_faults.specs.Texts.{names_in, numbers_in}
-use Rattle.elab_faults.specs.Paths.{Sets, width_in}
+use Rattle.elab_faults.specs.Paths.{Sets}
 use Rattle.flow_laws.specs.Flows.{Flow, either, IsUnset, Uses, after_reads, after_assignment, within, flow, row_flow}
 use Rattle.flow_laws.specs.Laws.{place_over}
 use Rattle.elab_flow.specs.Sets.{Tables, HasBit, at, is_open, Has, CountsIn}
 use Rattle.elab_flow.specs.Shows.{IsAt, Marks, Shows, AreDeclared, AreAllDeclared, RowDeclared}
-use Rattle.elab_flow.specs.Passes.{ReadsAt, ReadsTo, CountTo, JoinTo, SetTo, EnterTo, AssignTo, Passes, RowPasses}
+use Rattle.elab_flow.specs.Passes.{ReadsAt, ReadsTo, CountTo, JoinTo, SetTo, AssignTo, Passes, RowPasses}
 use Rattle.elab_flow.proofs.Bits.{or_is, and_is, or_bits, open_from, bit_of_open}
 
 pub at_lt : (gs : List Signal) (i : ℕ) (x : Name) → IsAt gs i x → i < length gs

@@ -3,17 +3,16 @@ use Rattle.std.specs.Prelude.{ℕ, ◌≡◌, ◌+◌, ◌*◌, ◌<◌, ◌⊎�
 use Rattle.std.specs.List.{flat_map}
 use Rattle.vlog_tree.specs.declared.expr.Expr.{Expr}
 use Rattle.vlog_tree.specs.declared.stmt.Lval.{Lval}
-use Rattle.vlog_tree.specs.declared.stmt.Stmt.{Stmt, Row_of-Stmt, end_of-Stmt, more_of-Stmt, Row_of-CaseItem, end_of-CaseItem, more_of-CaseItem}
+use Rattle.vlog_tree.specs.declared.stmt.Stmt.{Stmt, Row_of-Stmt, end_of-Stmt, more_of-Stmt}
 use Rattle.vlog_tree.specs.declared.stmt.Stmt.TheVariants as s
-use Rattle.vlog_tree.specs.declared.stmt.CaseKind.{CaseKind}
 use Rattle.vlog_runs.specs.declared.flat.Signal.{Signal}
 use Rattle.vlog_runs.specs.Places.{Name, Among}
-use Rattle.vlog_runs.specs.Blocks.{labels_in, left_names}
+use Rattle.vlog_runs.specs.Blocks.{left_names}
 use Rattle.flat_faults.specs.Texts.{names_in, numbers_in}
-use Rattle.elab_faults.specs.Paths.{Sets, IsFull, HasDefault, width_in}
+use Rattle.elab_faults.specs.Paths.{Sets, width_in}
 use Rattle.flow_laws.specs.Laws.{place_over}
 use Rattle.elab_flow.specs.Sets.{Tables, HasBit, at, is_open, Has, CountsIn}
-use Rattle.elab_flow.specs.Shows.{IsAt, Marks, AreDeclared}
+use Rattle.elab_flow.specs.Shows.{IsAt, Marks}
 
 -- the places of the names in expressions
 abbrev pub ReadsAt : List Signal → List Expr → List Bool → Type 0

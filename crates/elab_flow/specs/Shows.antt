@@ -1,11 +1,11 @@
 -- When tables say what a flow says.
-use Rattle.std.specs.Prelude.{ℕ, zero, suc, ◌≡◌, ◌+◌, ◌*◌, ◌<◌, ◌↔◌, Bool, List, [], ◌∷◌, length, slice_index}
+use Rattle.std.specs.Prelude.{ℕ, zero, suc, ◌≡◌, ◌+◌, ◌*◌, ◌<◌, ◌↔◌, Bool, List, [], ◌∷◌, length}
 use Rattle.std.specs.List.{flat_map}
 use Rattle.vlog_tree.specs.declared.expr.Expr.{Expr}
 use Rattle.vlog_tree.specs.declared.stmt.Stmt.{Stmt, Row_of-Stmt, end_of-Stmt, more_of-Stmt}
 use Rattle.vlog_tree.specs.declared.stmt.Stmt.TheVariants as s
 use Rattle.vlog_runs.specs.declared.flat.Signal.{Signal}
-use Rattle.vlog_runs.specs.Places.{Name, Among, Place}
+use Rattle.vlog_runs.specs.Places.{Name, Among}
 use Rattle.flat_faults.specs.Texts.{names_in, numbers_in}
 use Rattle.elab_faults.specs.Paths.{width_in}
 use Rattle.flow_laws.specs.Flows.{Flow}

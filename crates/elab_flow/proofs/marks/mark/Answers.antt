@@ -1,4 +1,4 @@
-use Rattle.std.proofs.Common.{◌≡◌, ◌+◌, ◌<◌, length, Some, sym, ap, ◌∙◌, arith}
+use Rattle.std.proofs.Common.{◌≡◌, ◌+◌, ◌<◌, length, sym, ap, ◌∙◌, arith}
 use Rattle.flat_scopes.specs.Finding.{place_in}
 use Rattle.elab_flow.proofs.Marking.{place_below, adds_found}
 use Rattle.elab_flow.proofs.marks.mark.Goals as goal

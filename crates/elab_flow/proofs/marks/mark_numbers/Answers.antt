@@ -1,4 +1,4 @@
-use Rattle.std.proofs.Common.{◌+◌, map, drop, subst, sym, ap, ◌∙◌}
+use Rattle.std.proofs.Common.{◌+◌, map, drop, subst, ap, ◌∙◌}
 use Rattle.std.specs.List.{flat_map}
 use Rattle.flat_faults.specs.Texts.{names_in, numbers_in}
 use Rattle.elab_drive.specs.Parts.{part_meant}

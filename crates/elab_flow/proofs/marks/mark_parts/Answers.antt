@@ -1,4 +1,4 @@
-use Rattle.std.proofs.Common.{◌+◌, [], ◌∷◌, map, drop, subst, sym, ap, ◌∙◌}
+use Rattle.std.proofs.Common.{◌+◌, [], ◌∷◌, map, drop, subst}
 use Rattle.elab_drive.specs.Parts.{part_meant}
 use Rattle.elab_drive.specs.Claims.{part_name}
 use Rattle.elab_flow.specs.Marks.{Adds}

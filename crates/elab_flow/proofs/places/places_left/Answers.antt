@@ -1,12 +1,10 @@
-use Rattle.std.proofs.Common.{◌≡◌, ℕ, List, [], ◌∷◌, ◌++◌, length, drop, subst, sym, ◌∙◌, arith}
-use Rattle.std.specs.List.{flat_map}
+use Rattle.std.proofs.Common.{◌≡◌, ℕ, List, length, drop, subst, sym, ◌∙◌, arith}
 use Rattle.vlog_runs.specs.Places.{Name, Among}
 use Rattle.vlog_runs.specs.Blocks.{left_names}
-use Rattle.flat_faults.specs.Texts.{names_in, numbers_in}
 use Rattle.elab_flow.specs.Sets.{Has}
 use Rattle.elab_flow.specs.Marks.{Adds}
 use Rattle.elab_flow.specs.Shows.{Marks}
-use Rattle.elab_flow.proofs.Marking.{none_in, adds_append, adds_nothing}
+use Rattle.elab_flow.proofs.Marking.{none_in}
 use Rattle.elab_flow.proofs.Setting.{written_back}
 use Rattle.elab_flow.proofs.Placing.{adds_marks}
 use Rattle.elab_flow.proofs.places.places_left.Goals as goal

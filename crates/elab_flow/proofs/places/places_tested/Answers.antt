@@ -1,8 +1,7 @@
-use Rattle.std.proofs.Common.{◌≡◌, ℕ, List, [], ◌∷◌, ◌++◌, length, drop, subst, sym, ◌∙◌, arith}
+use Rattle.std.proofs.Common.{◌≡◌, ℕ, List, [], ◌∷◌, length, drop, subst, sym, ◌∙◌, arith}
 use Rattle.std.specs.List.{flat_map}
 use Rattle.vlog_runs.specs.Places.{Name, Among}
-use Rattle.vlog_runs.specs.Blocks.{left_names}
-use Rattle.flat_faults.specs.Texts.{names_in, numbers_in}
+use Rattle.flat_faults.specs.Texts.{names_in}
 use Rattle.elab_flow.specs.Sets.{Has}
 use Rattle.elab_flow.specs.Marks.{Adds}
 use Rattle.elab_flow.specs.Shows.{Marks}

@@ -1,4 +1,4 @@
-use Rattle.std.proofs.Common.{◌≡◌, ℕ, ◌<◌, ◌⊎◌, ◌↔◌, length}
+use Rattle.std.proofs.Common.{ℕ, ◌<◌, ◌⊎◌, ◌↔◌}
 use Rattle.elab_flow.specs.Sets.{Has, RowsHave}
 use Rattle.elab_flow.proofs.sets.add_rows.Given as goal
 

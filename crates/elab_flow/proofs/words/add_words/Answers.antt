@@ -1,7 +1,7 @@
 use Rattle.std.proofs.Common.{◌+◌, map, drop, subst}
 use Rattle.elab_drive.specs.Parts.{part_meant}
-use Rattle.elab_flow.proofs.Marking.{cut, drop_past}
-use Rattle.elab_flow.proofs.Setting.{WordsWith, word_step, words_ended, among_map}
+use Rattle.elab_flow.proofs.Marking.{cut}
+use Rattle.elab_flow.proofs.Setting.{WordsWith, word_step, among_map}
 use Rattle.elab_flow.proofs.words.add_words.Goals as goal
 
 pub add_word-requires-clause-ready : goal.add_word-requires-clause-ready

@@ -1,4 +1,4 @@
-use Rattle.std.proofs.Common.{◌≡◌, ℕ, List, [], ◌∷◌, map, length, sym, ap, ◌∙◌, subst}
+use Rattle.std.proofs.Common.{◌≡◌, List, [], ◌∷◌, map, length, sym, ap, ◌∙◌, subst}
 use Rattle.std.specs.Prelude.{nat_eq, true}
 use Rattle.std.proofs.Math.Dec.{eqb-suc-zero}
 use Rattle.vlog_tree.specs.declared.stmt.Lval.{Lval}

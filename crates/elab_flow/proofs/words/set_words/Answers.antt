@@ -1,4 +1,4 @@
-use Rattle.std.proofs.Common.{◌≡◌, ◌⊎◌, ◌↔◌, ℕ, length, drop, map, subst, sym, ap, ◌∙◌, arith}
+use Rattle.std.proofs.Common.{◌≡◌, ◌↔◌, length, drop, map, subst, sym, ap, ◌∙◌, arith}
 use Rattle.elab_faults.specs.Drivers.{parts_of}
 use Rattle.elab_drive.specs.Parts.{part_meant}
 use Rattle.elab_flow.specs.Sets.{HasBit}
