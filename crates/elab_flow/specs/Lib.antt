@@ -1,0 +1,5 @@
+pub mod Sets
+pub mod Shows
+pub mod Passes
+pub mod Marks
+pub mod Words
