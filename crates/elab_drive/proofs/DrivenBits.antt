@@ -10,15 +10,15 @@ use Rattle.flat_laws.proofs.Lists.{among_append, append_left, append_right, flat
 use Rattle.flat_faults.specs.Texts.{numbers_in, row_numbers_in}
 use Rattle.elab_faults.specs.Drivers.{Driver, parts_of, row_parts_of, ReadsBit}
 use Rattle.elab_drive.specs.Parts.{reads_of}
-use Rattle.elab_drive.specs.Pieces.{Deed, Tests, Assigns, Schedules}
+use Rattle.elab_drive.specs.Pieces.{Action, Tests, Assigns, Schedules}
 use Rattle.elab_drive.specs.Claims.{IsClaimed}
 use Rattle.elab_drive.specs.Masks.{IsSet, marked, AreWithin}
 use Rattle.elab_drive.specs.Driving.{driver_claims}
-use Rattle.elab_drive.specs.Wanting.{part_reads, left_reads, deed_reads, driven_table}
+use Rattle.elab_drive.specs.Wanting.{part_reads, left_reads, action_reads, driven_table}
 use Rattle.elab_drive.proofs.Marking.{marked_is, stays_marked, is_marked, marked_length}
 use Rattle.elab_drive.proofs.Parting.{AnyPart, IsPiece}
 use Rattle.elab_drive.proofs.BitsRead.{reads_parts, parts_read, in_left, in_right, in_either}
-use Rattle.elab_drive.proofs.Texts.{deed_exprs}
+use Rattle.elab_drive.proofs.Texts.{action_exprs}
 use Rattle.elab_drive.proofs.Twice.{driver_within}
 
 -- ---- what is driven
@@ -128,13 +128,13 @@ module _ (p : Place) (x : Name) (b : ℕ) where
       of_right (inl e) = reads_parts p x b right (subst (λ z. ReadsBit p z x b) (sym e) r)
       of_right (inr h) = absurd h
 
-  pub deed_told : (d : Deed) → Any (deed_reads d) → Read (deed_exprs d)
-  deed_told (Tests a) h = (a, inl refl, parts_read p x b a h)
-  deed_told (Assigns left right) h = store_reads left right h
-  deed_told (Schedules left right) h = store_reads left right h
+  pub action_told : (d : Action) → Any (action_reads d) → Read (action_exprs d)
+  action_told (Tests a) h = (a, inl refl, parts_read p x b a h)
+  action_told (Assigns left right) h = store_reads left right h
+  action_told (Schedules left right) h = store_reads left right h
 
-  pub told_deed : (d : Deed) → Read (deed_exprs d) → Any (deed_reads d)
-  told_deed (Tests a) (c, inl e, r) = reads_parts p x b a (subst (λ z. ReadsBit p z x b) (sym e) r)
-  told_deed (Tests a) (c, inr h, r) = absurd h
-  told_deed (Assigns left right) h = reads_store left right h
-  told_deed (Schedules left right) h = reads_store left right h
+  pub told_action : (d : Action) → Read (action_exprs d) → Any (action_reads d)
+  told_action (Tests a) (c, inl e, r) = reads_parts p x b a (subst (λ z. ReadsBit p z x b) (sym e) r)
+  told_action (Tests a) (c, inr h, r) = absurd h
+  told_action (Assigns left right) h = reads_store left right h
+  told_action (Schedules left right) h = reads_store left right h

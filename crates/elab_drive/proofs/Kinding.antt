@@ -14,7 +14,7 @@ use Rattle.elab_faults.specs.Stands.{Names, IsWronglyAssigned}
 use Rattle.elab_drive.specs.declared.names.Form.{Form}
 use Rattle.elab_drive.specs.declared.names.Form.TheVariants as v
 use Rattle.elab_drive.specs.Names.{is_same, form_lefts, chosen_names, declared_names}
-use Rattle.elab_drive.specs.Kinds.{IsMisdeclared, IsMisformed, IsTorn}
+use Rattle.elab_drive.specs.Kinds.{IsMisdeclared, IsMisformed, IsMixed}
 
 same_is : (a b : Bool) → is_same a b ≡ true → b ≡ a
 same_is true b e = e
@@ -92,13 +92,13 @@ module _ (m : Flat) (x : Name) where
   well_formed f g (inl h) = f (is_blocked true v.Blocking h)
   well_formed f g (inr h) = g (is_blocked false v.Nonblocking h)
 
-  pub torn : Among (blocked true v.Any) x → Among (blocked false v.Any) x → IsTorn m x
-  torn f g = let r = blocked_is true v.Any f in let q = blocked_is false v.Any g in (r.0, q.0, r.1, q.1, r.2, q.2, r.3, q.3)
+  pub mixed : Among (blocked true v.Any) x → Among (blocked false v.Any) x → IsMixed m x
+  mixed f g = let r = blocked_is true v.Any f in let q = blocked_is false v.Any g in (r.0, q.0, r.1, q.1, r.2, q.2, r.3, q.3)
 
-  pub whole : (Among (blocked true v.Any) x → Among (blocked false v.Any) x → ⊥) → IsTorn m x → ⊥
+  pub whole : (Among (blocked true v.Any) x → Among (blocked false v.Any) x → ⊥) → IsMixed m x → ⊥
   whole f (k, j, a, b, e, g, n, o) = f (is_blocked true v.Any (k, a, e, n)) (is_blocked false v.Any (j, b, g, o))
 
-  pub rightly : (IsMisdeclared m x → ⊥) → (IsMisformed m x → ⊥) → (IsTorn m x → ⊥) → IsWronglyAssigned m x → ⊥
+  pub rightly : (IsMisdeclared m x → ⊥) → (IsMisformed m x → ⊥) → (IsMixed m x → ⊥) → IsWronglyAssigned m x → ⊥
   rightly f g h (inl d) = f (inl d)
   rightly f g h (inr (inl d)) = f (inr d)
   rightly f g h (inr (inr (inl d))) = g (inl d)
@@ -113,7 +113,7 @@ module _ (m : Flat) (x : Name) where
   wrongly_formed (inl d) = inr (inr (inl d))
   wrongly_formed (inr d) = inr (inr (inr (inl d)))
 
-  pub wrongly_torn : IsTorn m x → IsWronglyAssigned m x
+  pub wrongly_torn : IsMixed m x → IsWronglyAssigned m x
   wrongly_torn d = inr (inr (inr (inr d)))
 
 -- a list of names that the code made
@@ -154,10 +154,10 @@ module _ (m : Flat) where
   pub formed_by : (xs ys : List Name) → Blocked true v.Blocking xs → Blocked false v.Nonblocking ys → xs ≡ [] → ys ≡ [] → (x : Name) → IsMisformed m x → ⊥
   formed_by xs ys e f g h x = well_formed m x (λ i. subst (λ z. Among z x) (sym e ∙ g) i) (λ i. subst (λ z. Among z x) (sym f ∙ h) i)
 
-  pub torn_by : (xs ys : List Name) → Blocked true v.Any xs → Blocked false v.Any ys → (x : Name) → Among xs x × Among ys x → IsTorn m x
-  torn_by xs ys e f x h = torn m x (subst (λ z. Among z x) e h.0) (subst (λ z. Among z x) f h.1)
+  pub mixed_by : (xs ys : List Name) → Blocked true v.Any xs → Blocked false v.Any ys → (x : Name) → Among xs x × Among ys x → IsMixed m x
+  mixed_by xs ys e f x h = mixed m x (subst (λ z. Among z x) e h.0) (subst (λ z. Among z x) f h.1)
 
-  pub whole_by : (xs ys : List Name) → Blocked true v.Any xs → Blocked false v.Any ys → ((x : Name) → Among xs x → Among ys x → ⊥) → (x : Name) → IsTorn m x → ⊥
+  pub whole_by : (xs ys : List Name) → Blocked true v.Any xs → Blocked false v.Any ys → ((x : Name) → Among xs x → Among ys x → ⊥) → (x : Name) → IsMixed m x → ⊥
   whole_by xs ys e f g x = whole m x (λ i j. g x (subst (λ z. Among z x) (sym e) i) (subst (λ z. Among z x) (sym f) j))
 
 pub empty : (slice : List (Bor Name)) → slice ≡ [] → map name_meant slice ≡ []

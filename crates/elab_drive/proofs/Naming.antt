@@ -19,8 +19,8 @@ use Rattle.elab_faults.specs.Stands.{blocking_lefts, row_blocking_lefts, case_bl
 use Rattle.flat_scopes.specs.Borrowed.{name_meant}
 use Rattle.elab_drive.specs.declared.names.Form.{Form}
 use Rattle.elab_drive.specs.declared.names.Form.TheVariants as m
-use Rattle.elab_drive.specs.Pieces.{Deed, Tests, deeds, row_deeds, case_deeds}
-use Rattle.elab_drive.specs.Names.{deed_lefts, deed_names, form_lefts}
+use Rattle.elab_drive.specs.Pieces.{Action, Tests, actions, row_actions, case_actions}
+use Rattle.elab_drive.specs.Names.{action_lefts, action_names, form_lefts}
 
 -- ---- parts
 
@@ -38,84 +38,84 @@ mutual
 
 -- ---- assignments of a form
 
-tests_none : (form : Form) (as' : List Expr) → flat_map (deed_lefts form) (map Tests as') ≡ []
+tests_none : (form : Form) (as' : List Expr) → flat_map (action_lefts form) (map Tests as') ≡ []
 tests_none form [] = refl
 tests_none form (a ∷ as') = tests_none form as'
 
-two : (form : Form) (xs ys : List Deed) (us vs : List Lval) → flat_map (deed_lefts form) xs ≡ us → flat_map (deed_lefts form) ys ≡ vs → flat_map (deed_lefts form) (xs ++ ys) ≡ us ++ vs
-two form xs ys us vs e f = flat_append (deed_lefts form) xs ys ∙ (λ i. e i ++ f i)
+two : (form : Form) (xs ys : List Action) (us vs : List Lval) → flat_map (action_lefts form) xs ≡ us → flat_map (action_lefts form) ys ≡ vs → flat_map (action_lefts form) (xs ++ ys) ≡ us ++ vs
+two form xs ys us vs e f = flat_append (action_lefts form) xs ys ∙ (λ i. e i ++ f i)
 
-item : (form : Form) (as' : List Expr) (xs ys : List Deed) (us vs : List Lval) → flat_map (deed_lefts form) xs ≡ us → flat_map (deed_lefts form) ys ≡ vs → flat_map (deed_lefts form) ((map Tests as' ++ xs) ++ ys) ≡ us ++ vs
+item : (form : Form) (as' : List Expr) (xs ys : List Action) (us vs : List Lval) → flat_map (action_lefts form) xs ≡ us → flat_map (action_lefts form) ys ≡ vs → flat_map (action_lefts form) ((map Tests as' ++ xs) ++ ys) ≡ us ++ vs
 item form as' xs ys us vs e f = two form (map Tests as' ++ xs) ys us vs (two form (map Tests as') xs [] us (tests_none form as') e) f
 
 mutual
-  any_lefts : (t : Stmt) → flat_map (deed_lefts m.Any) (deeds t) ≡ lefts t
+  any_lefts : (t : Stmt) → flat_map (action_lefts m.Any) (actions t) ≡ lefts t
   any_lefts s.Empty = refl
   any_lefts (s.Block' n h row) = any_rows row
   any_lefts (s.If' a h (more_of-Stmt x end_of-Stmt)) = any_lefts x
-  any_lefts (s.IfElse' a h (more_of-Stmt x end_of-Stmt) g (more_of-Stmt y end_of-Stmt)) = two m.Any (deeds x) (deeds y) (lefts x) (lefts y) (any_lefts x) (any_lefts y)
+  any_lefts (s.IfElse' a h (more_of-Stmt x end_of-Stmt) g (more_of-Stmt y end_of-Stmt)) = two m.Any (actions x) (actions y) (lefts x) (lefts y) (any_lefts x) (any_lefts y)
   any_lefts (s.Case' kind a h row) = any_items row
   any_lefts (s.Blocking left right) = refl
   any_lefts (s.Nonblocking left right) = refl
 
-  any_rows : {n : _} (row : Row_of-Stmt n) → flat_map (deed_lefts m.Any) (row_deeds row) ≡ row_lefts row
+  any_rows : {n : _} (row : Row_of-Stmt n) → flat_map (action_lefts m.Any) (row_actions row) ≡ row_lefts row
   any_rows end_of-Stmt = refl
-  any_rows (more_of-Stmt a rest) = two m.Any (deeds a) (row_deeds rest) (lefts a) (row_lefts rest) (any_lefts a) (any_rows rest)
+  any_rows (more_of-Stmt a rest) = two m.Any (actions a) (row_actions rest) (lefts a) (row_lefts rest) (any_lefts a) (any_rows rest)
 
-  any_items : {n : _} (row : Row_of-CaseItem n) → flat_map (deed_lefts m.Any) (case_deeds row) ≡ case_lefts row
+  any_items : {n : _} (row : Row_of-CaseItem n) → flat_map (action_lefts m.Any) (case_actions row) ≡ case_lefts row
   any_items end_of-CaseItem = refl
-  any_items (more_of-CaseItem labels body rest) = item m.Any (exprs_in labels) (deeds body) (case_deeds rest) (lefts body) (case_lefts rest) (any_lefts body) (any_items rest)
+  any_items (more_of-CaseItem labels body rest) = item m.Any (exprs_in labels) (actions body) (case_actions rest) (lefts body) (case_lefts rest) (any_lefts body) (any_items rest)
 
 mutual
-  blocking : (t : Stmt) → flat_map (deed_lefts m.Blocking) (deeds t) ≡ blocking_lefts t
+  blocking : (t : Stmt) → flat_map (action_lefts m.Blocking) (actions t) ≡ blocking_lefts t
   blocking s.Empty = refl
   blocking (s.Block' n h row) = blocking_rows row
   blocking (s.If' a h (more_of-Stmt x end_of-Stmt)) = blocking x
-  blocking (s.IfElse' a h (more_of-Stmt x end_of-Stmt) g (more_of-Stmt y end_of-Stmt)) = two m.Blocking (deeds x) (deeds y) (blocking_lefts x) (blocking_lefts y) (blocking x) (blocking y)
+  blocking (s.IfElse' a h (more_of-Stmt x end_of-Stmt) g (more_of-Stmt y end_of-Stmt)) = two m.Blocking (actions x) (actions y) (blocking_lefts x) (blocking_lefts y) (blocking x) (blocking y)
   blocking (s.Case' kind a h row) = blocking_items row
   blocking (s.Blocking left right) = refl
   blocking (s.Nonblocking left right) = refl
 
-  blocking_rows : {n : _} (row : Row_of-Stmt n) → flat_map (deed_lefts m.Blocking) (row_deeds row) ≡ row_blocking_lefts row
+  blocking_rows : {n : _} (row : Row_of-Stmt n) → flat_map (action_lefts m.Blocking) (row_actions row) ≡ row_blocking_lefts row
   blocking_rows end_of-Stmt = refl
-  blocking_rows (more_of-Stmt a rest) = two m.Blocking (deeds a) (row_deeds rest) (blocking_lefts a) (row_blocking_lefts rest) (blocking a) (blocking_rows rest)
+  blocking_rows (more_of-Stmt a rest) = two m.Blocking (actions a) (row_actions rest) (blocking_lefts a) (row_blocking_lefts rest) (blocking a) (blocking_rows rest)
 
-  blocking_items : {n : _} (row : Row_of-CaseItem n) → flat_map (deed_lefts m.Blocking) (case_deeds row) ≡ case_blocking_lefts row
+  blocking_items : {n : _} (row : Row_of-CaseItem n) → flat_map (action_lefts m.Blocking) (case_actions row) ≡ case_blocking_lefts row
   blocking_items end_of-CaseItem = refl
   blocking_items (more_of-CaseItem labels body rest) =
-      item m.Blocking (exprs_in labels) (deeds body) (case_deeds rest) (blocking_lefts body) (case_blocking_lefts rest) (blocking body) (blocking_items rest)
+      item m.Blocking (exprs_in labels) (actions body) (case_actions rest) (blocking_lefts body) (case_blocking_lefts rest) (blocking body) (blocking_items rest)
 
 mutual
-  nonblocking : (t : Stmt) → flat_map (deed_lefts m.Nonblocking) (deeds t) ≡ nonblocking_lefts t
+  nonblocking : (t : Stmt) → flat_map (action_lefts m.Nonblocking) (actions t) ≡ nonblocking_lefts t
   nonblocking s.Empty = refl
   nonblocking (s.Block' n h row) = nonblocking_rows row
   nonblocking (s.If' a h (more_of-Stmt x end_of-Stmt)) = nonblocking x
   nonblocking (s.IfElse' a h (more_of-Stmt x end_of-Stmt) g (more_of-Stmt y end_of-Stmt)) =
-      two m.Nonblocking (deeds x) (deeds y) (nonblocking_lefts x) (nonblocking_lefts y) (nonblocking x) (nonblocking y)
+      two m.Nonblocking (actions x) (actions y) (nonblocking_lefts x) (nonblocking_lefts y) (nonblocking x) (nonblocking y)
   nonblocking (s.Case' kind a h row) = nonblocking_items row
   nonblocking (s.Blocking left right) = refl
   nonblocking (s.Nonblocking left right) = refl
 
-  nonblocking_rows : {n : _} (row : Row_of-Stmt n) → flat_map (deed_lefts m.Nonblocking) (row_deeds row) ≡ row_nonblocking_lefts row
+  nonblocking_rows : {n : _} (row : Row_of-Stmt n) → flat_map (action_lefts m.Nonblocking) (row_actions row) ≡ row_nonblocking_lefts row
   nonblocking_rows end_of-Stmt = refl
-  nonblocking_rows (more_of-Stmt a rest) = two m.Nonblocking (deeds a) (row_deeds rest) (nonblocking_lefts a) (row_nonblocking_lefts rest) (nonblocking a) (nonblocking_rows rest)
+  nonblocking_rows (more_of-Stmt a rest) = two m.Nonblocking (actions a) (row_actions rest) (nonblocking_lefts a) (row_nonblocking_lefts rest) (nonblocking a) (nonblocking_rows rest)
 
-  nonblocking_items : {n : _} (row : Row_of-CaseItem n) → flat_map (deed_lefts m.Nonblocking) (case_deeds row) ≡ case_nonblocking_lefts row
+  nonblocking_items : {n : _} (row : Row_of-CaseItem n) → flat_map (action_lefts m.Nonblocking) (case_actions row) ≡ case_nonblocking_lefts row
   nonblocking_items end_of-CaseItem = refl
   nonblocking_items (more_of-CaseItem labels body rest) =
-      item m.Nonblocking (exprs_in labels) (deeds body) (case_deeds rest) (nonblocking_lefts body) (case_nonblocking_lefts rest) (nonblocking body) (nonblocking_items rest)
+      item m.Nonblocking (exprs_in labels) (actions body) (case_actions rest) (nonblocking_lefts body) (case_nonblocking_lefts rest) (nonblocking body) (nonblocking_items rest)
 
-pub deeds_lefts : (form : Form) (t : Stmt) → flat_map (deed_lefts form) (deeds t) ≡ form_lefts form t
-deeds_lefts m.Any t = any_lefts t
-deeds_lefts m.Blocking t = blocking t
-deeds_lefts m.Nonblocking t = nonblocking t
+pub actions_lefts : (form : Form) (t : Stmt) → flat_map (action_lefts form) (actions t) ≡ form_lefts form t
+actions_lefts m.Any t = any_lefts t
+actions_lefts m.Blocking t = blocking t
+actions_lefts m.Nonblocking t = nonblocking t
 
-nested : (form : Form) (ds : List Deed) → flat_map (deed_names form) ds ≡ flat_map left_names (flat_map (deed_lefts form) ds)
+nested : (form : Form) (ds : List Action) → flat_map (action_names form) ds ≡ flat_map left_names (flat_map (action_lefts form) ds)
 nested form [] = refl
-nested form (d ∷ ds) = ap (λ z. deed_names form d ++ z) (nested form ds) ∙ sym (flat_append left_names (deed_lefts form d) (flat_map (deed_lefts form) ds))
+nested form (d ∷ ds) = ap (λ z. action_names form d ++ z) (nested form ds) ∙ sym (flat_append left_names (action_lefts form d) (flat_map (action_lefts form) ds))
 
-pub deeds_names : (form : Form) (t : Stmt) → flat_map (deed_names form) (deeds t) ≡ flat_map left_names (form_lefts form t)
-deeds_names form t = nested form (deeds t) ∙ ap (flat_map left_names) (deeds_lefts form t)
+pub actions_names : (form : Form) (t : Stmt) → flat_map (action_names form) (actions t) ≡ flat_map left_names (form_lefts form t)
+actions_names form t = nested form (actions t) ∙ ap (flat_map left_names) (actions_lefts form t)
 
 -- ---- names among others
 
@@ -159,9 +159,9 @@ meant_at f xs items whole i x lt is e g = subst (λ z. Among z (f x)) g (subst (
     at (y ∷ ys) zero x lt is = inl (sym is)
     at (y ∷ ys) (suc i) x lt is = inr (at ys i x (omega arith) is)
 
-pub deed_left : (ds : List Deed) (d : Deed) (left : Lval) (t : Stmt) → Among ds d → ds ≡ deeds t → deed_lefts m.Any d ≡ left ∷ [] → Among (lefts t) left
-deed_left ds d left t a e g =
-    subst (λ z. Among z left) (ap (flat_map (deed_lefts m.Any)) e ∙ any_lefts t) (flat_among (deed_lefts m.Any) ds d left a (subst (λ z. Among z left) (sym g) (inl refl)))
+pub action_left : (ds : List Action) (d : Action) (left : Lval) (t : Stmt) → Among ds d → ds ≡ actions t → action_lefts m.Any d ≡ left ∷ [] → Among (lefts t) left
+action_left ds d left t a e g =
+    subst (λ z. Among z left) (ap (flat_map (action_lefts m.Any)) e ∙ any_lefts t) (flat_among (action_lefts m.Any) ds d left a (subst (λ z. Among z left) (sym g) (inl refl)))
 
 pub only_left : (o : Option (Bor Lval)) (left : Bor Lval) (xs : List Lval) → option_to_list (option_copied o) ≡ xs → o ≡ Some left → xs ≡ left.now ∷ []
 only_left o left xs e g = sym e ∙ ap (λ z. option_to_list (option_copied z)) g

@@ -10,12 +10,12 @@ use Rattle.vlog_runs.specs.Places.{Among}
 use Rattle.vlog_runs.specs.Blocks.{exprs_in}
 use Rattle.flat_laws.proofs.Lists.{among_append, append_left, append_right, flat_append, map_append}
 use Rattle.flat_faults.specs.Texts.{Compared, numbers_in, alone_in, row_alone_in, case_alone_in, compared_in, row_compared_in, case_compared_in, all_labels_in, stores_in, row_stores_in, case_stores_in, compared_exprs}
-use Rattle.elab_drive.specs.Pieces.{Deed, Tests, Assigns, Schedules, deeds, row_deeds, case_deeds}
+use Rattle.elab_drive.specs.Pieces.{Action, Tests, Assigns, Schedules, actions, row_actions, case_actions}
 
-abbrev pub deed_exprs : Deed → List Expr
-deed_exprs (Tests a) = a ∷ []
-deed_exprs (Assigns left right) = numbers_in left ++ right ∷ []
-deed_exprs (Schedules left right) = numbers_in left ++ right ∷ []
+abbrev pub action_exprs : Action → List Expr
+action_exprs (Tests a) = a ∷ []
+action_exprs (Assigns left right) = numbers_in left ++ right ∷ []
+action_exprs (Schedules left right) = numbers_in left ++ right ∷ []
 
 right_of : Assign → Expr
 right_of a = a.right
@@ -44,17 +44,17 @@ module _ (c : Expr) where
   stands_either as' bs cs ds ws vs (inr (inr h)) =
       elim (among_append (map (λ (a : Assign). a.right) ws) (map (λ (a : Assign). a.right) vs) c (subst (λ z. Among z c) (map_append (λ (a : Assign). a.right) ws vs) h)) [ inl k ↦ inl (inr (inr k)) | inr k ↦ inr (inr (inr k)) ]
 
-  abbrev InDeeds : List Deed → Type 0
-  InDeeds ds = Among (flat_map deed_exprs ds) c
+  abbrev InDeeds : List Action → Type 0
+  InDeeds ds = Among (flat_map action_exprs ds) c
 
-  deeds_either : (xs ys : List Deed) → InDeeds (xs ++ ys) → InDeeds xs ⊎ InDeeds ys
-  deeds_either xs ys h = among_append (flat_map deed_exprs xs) (flat_map deed_exprs ys) c (subst (λ z. Among z c) (flat_append deed_exprs xs ys) h)
+  actions_either : (xs ys : List Action) → InDeeds (xs ++ ys) → InDeeds xs ⊎ InDeeds ys
+  actions_either xs ys h = among_append (flat_map action_exprs xs) (flat_map action_exprs ys) c (subst (λ z. Among z c) (flat_append action_exprs xs ys) h)
 
-  deeds_left : (xs ys : List Deed) → InDeeds xs → InDeeds (xs ++ ys)
-  deeds_left xs ys h = subst (λ z. Among z c) (sym (flat_append deed_exprs xs ys)) (append_left (flat_map deed_exprs xs) (flat_map deed_exprs ys) c h)
+  actions_left : (xs ys : List Action) → InDeeds xs → InDeeds (xs ++ ys)
+  actions_left xs ys h = subst (λ z. Among z c) (sym (flat_append action_exprs xs ys)) (append_left (flat_map action_exprs xs) (flat_map action_exprs ys) c h)
 
-  deeds_right : (xs ys : List Deed) → InDeeds ys → InDeeds (xs ++ ys)
-  deeds_right xs ys h = subst (λ z. Among z c) (sym (flat_append deed_exprs xs ys)) (append_right (flat_map deed_exprs xs) (flat_map deed_exprs ys) c h)
+  actions_right : (xs ys : List Action) → InDeeds ys → InDeeds (xs ++ ys)
+  actions_right xs ys h = subst (λ z. Among z c) (sym (flat_append action_exprs xs ys)) (append_right (flat_map action_exprs xs) (flat_map action_exprs ys) c h)
 
   tests_are : (as' : List Expr) → InDeeds (map Tests as') → Among as' c
   tests_are [] h = h
@@ -116,69 +116,69 @@ module _ (c : Expr) where
   join (inr h) f g = g h
 
   mutual
-    pub deeds_stand : (t : Stmt) → InDeeds (deeds t) → StandsIn t
-    deeds_stand s.Empty h = absurd h
-    deeds_stand (s.Block' n g row) h = rows_stand row h
-    deeds_stand (s.If' a g (more_of-Stmt x end_of-Stmt)) h = first_too a (alone_in x) (compared_in x) (stores_in x) (either h (λ k. k) (deeds_stand x))
-    deeds_stand (s.IfElse' a g (more_of-Stmt x end_of-Stmt) i (more_of-Stmt y end_of-Stmt)) h =
+    pub actions_stand : (t : Stmt) → InDeeds (actions t) → StandsIn t
+    actions_stand s.Empty h = absurd h
+    actions_stand (s.Block' n g row) h = rows_stand row h
+    actions_stand (s.If' a g (more_of-Stmt x end_of-Stmt)) h = first_too a (alone_in x) (compared_in x) (stores_in x) (either h (λ k. k) (actions_stand x))
+    actions_stand (s.IfElse' a g (more_of-Stmt x end_of-Stmt) i (more_of-Stmt y end_of-Stmt)) h =
         first_too a (alone_in x ++ alone_in y) (compared_in x ++ compared_in y) (stores_in x ++ stores_in y)
-        (either h (λ k. k) (λ k. join (deeds_either (deeds x) (deeds y) k)
-        (λ r. stands_left (alone_in x) (alone_in y) (compared_in x) (compared_in y) (stores_in x) (stores_in y) (deeds_stand x r))
-        (λ r. stands_right (alone_in x) (alone_in y) (compared_in x) (compared_in y) (stores_in x) (stores_in y) (deeds_stand y r))))
-    deeds_stand (s.Case' kind a g row) h = case_too a (all_labels_in row) (case_alone_in row) (case_compared_in row) (case_stores_in row) (either h (λ k. k) (items_stand row))
-    deeds_stand (s.Blocking left right) h = store_told left right [] h
-    deeds_stand (s.Nonblocking left right) h = store_told left right [] h
+        (either h (λ k. k) (λ k. join (actions_either (actions x) (actions y) k)
+        (λ r. stands_left (alone_in x) (alone_in y) (compared_in x) (compared_in y) (stores_in x) (stores_in y) (actions_stand x r))
+        (λ r. stands_right (alone_in x) (alone_in y) (compared_in x) (compared_in y) (stores_in x) (stores_in y) (actions_stand y r))))
+    actions_stand (s.Case' kind a g row) h = case_too a (all_labels_in row) (case_alone_in row) (case_compared_in row) (case_stores_in row) (either h (λ k. k) (items_stand row))
+    actions_stand (s.Blocking left right) h = store_told left right [] h
+    actions_stand (s.Nonblocking left right) h = store_told left right [] h
 
-    rows_stand : {m : _} (row : Row_of-Stmt m) → InDeeds (row_deeds row) → Stands (row_alone_in row) (row_compared_in row) (row_stores_in row) c
+    rows_stand : {m : _} (row : Row_of-Stmt m) → InDeeds (row_actions row) → Stands (row_alone_in row) (row_compared_in row) (row_stores_in row) c
     rows_stand end_of-Stmt h = absurd h
     rows_stand (more_of-Stmt a rest) h =
-        join (deeds_either (deeds a) (row_deeds rest) h)
-        (λ r. stands_left (alone_in a) (row_alone_in rest) (compared_in a) (row_compared_in rest) (stores_in a) (row_stores_in rest) (deeds_stand a r))
+        join (actions_either (actions a) (row_actions rest) h)
+        (λ r. stands_left (alone_in a) (row_alone_in rest) (compared_in a) (row_compared_in rest) (stores_in a) (row_stores_in rest) (actions_stand a r))
         (λ r. stands_right (alone_in a) (row_alone_in rest) (compared_in a) (row_compared_in rest) (stores_in a) (row_stores_in rest) (rows_stand rest r))
 
-    items_stand : {m : _} (row : Row_of-CaseItem m) → InDeeds (case_deeds row) → StandsInItems row
+    items_stand : {m : _} (row : Row_of-CaseItem m) → InDeeds (case_actions row) → StandsInItems row
     items_stand end_of-CaseItem h = absurd h
     items_stand (more_of-CaseItem labels body rest) h =
-        join (deeds_either (map Tests (exprs_in labels) ++ deeds body) (case_deeds rest) h)
-        (λ r. join (deeds_either (map Tests (exprs_in labels)) (deeds body) r)
+        join (actions_either (map Tests (exprs_in labels) ++ actions body) (case_actions rest) h)
+        (λ r. join (actions_either (map Tests (exprs_in labels)) (actions body) r)
         (λ q. inl (append_left (exprs_in labels) (all_labels_in rest) c (tests_are (exprs_in labels) q)))
-        (λ q. inr (stands_left (alone_in body) (case_alone_in rest) (compared_in body) (case_compared_in rest) (stores_in body) (case_stores_in rest) (deeds_stand body q))))
+        (λ q. inr (stands_left (alone_in body) (case_alone_in rest) (compared_in body) (case_compared_in rest) (stores_in body) (case_stores_in rest) (actions_stand body q))))
         (λ r. either (items_stand rest r) (append_right (exprs_in labels) (all_labels_in rest) c)
         (stands_right (alone_in body) (case_alone_in rest) (compared_in body) (case_compared_in rest) (stores_in body) (case_stores_in rest)))
 
   mutual
-    pub stand_deeds : (t : Stmt) → StandsIn t → InDeeds (deeds t)
-    stand_deeds s.Empty (inl h) = absurd h
-    stand_deeds s.Empty (inr (inl h)) = absurd h
-    stand_deeds s.Empty (inr (inr h)) = absurd h
-    stand_deeds (s.Block' n g row) h = stand_rows row h
-    stand_deeds (s.If' a g (more_of-Stmt x end_of-Stmt)) h = either (or_first a (alone_in x) (compared_in x) (stores_in x) h) (λ k. k) (stand_deeds x)
-    stand_deeds (s.IfElse' a g (more_of-Stmt x end_of-Stmt) i (more_of-Stmt y end_of-Stmt)) h =
+    pub stand_actions : (t : Stmt) → StandsIn t → InDeeds (actions t)
+    stand_actions s.Empty (inl h) = absurd h
+    stand_actions s.Empty (inr (inl h)) = absurd h
+    stand_actions s.Empty (inr (inr h)) = absurd h
+    stand_actions (s.Block' n g row) h = stand_rows row h
+    stand_actions (s.If' a g (more_of-Stmt x end_of-Stmt)) h = either (or_first a (alone_in x) (compared_in x) (stores_in x) h) (λ k. k) (stand_actions x)
+    stand_actions (s.IfElse' a g (more_of-Stmt x end_of-Stmt) i (more_of-Stmt y end_of-Stmt)) h =
         either (or_first a (alone_in x ++ alone_in y) (compared_in x ++ compared_in y) (stores_in x ++ stores_in y) h) (λ k. k)
         (λ k. join (stands_either (alone_in x) (alone_in y) (compared_in x) (compared_in y) (stores_in x) (stores_in y) k)
-        (λ r. deeds_left (deeds x) (deeds y) (stand_deeds x r)) (λ r. deeds_right (deeds x) (deeds y) (stand_deeds y r)))
-    stand_deeds (s.Case' kind a g row) h = either (or_case a (all_labels_in row) (case_alone_in row) (case_compared_in row) (case_stores_in row) h) (λ k. k) (stand_items row)
-    stand_deeds (s.Blocking left right) h = told_store left right h
-    stand_deeds (s.Nonblocking left right) h = told_store left right h
+        (λ r. actions_left (actions x) (actions y) (stand_actions x r)) (λ r. actions_right (actions x) (actions y) (stand_actions y r)))
+    stand_actions (s.Case' kind a g row) h = either (or_case a (all_labels_in row) (case_alone_in row) (case_compared_in row) (case_stores_in row) h) (λ k. k) (stand_items row)
+    stand_actions (s.Blocking left right) h = told_store left right h
+    stand_actions (s.Nonblocking left right) h = told_store left right h
 
-    stand_rows : {m : _} (row : Row_of-Stmt m) → Stands (row_alone_in row) (row_compared_in row) (row_stores_in row) c → InDeeds (row_deeds row)
+    stand_rows : {m : _} (row : Row_of-Stmt m) → Stands (row_alone_in row) (row_compared_in row) (row_stores_in row) c → InDeeds (row_actions row)
     stand_rows end_of-Stmt (inl h) = absurd h
     stand_rows end_of-Stmt (inr (inl h)) = absurd h
     stand_rows end_of-Stmt (inr (inr h)) = absurd h
     stand_rows (more_of-Stmt a rest) h =
         join (stands_either (alone_in a) (row_alone_in rest) (compared_in a) (row_compared_in rest) (stores_in a) (row_stores_in rest) h)
-        (λ r. deeds_left (deeds a) (row_deeds rest) (stand_deeds a r)) (λ r. deeds_right (deeds a) (row_deeds rest) (stand_rows rest r))
+        (λ r. actions_left (actions a) (row_actions rest) (stand_actions a r)) (λ r. actions_right (actions a) (row_actions rest) (stand_rows rest r))
 
-    stand_items : {m : _} (row : Row_of-CaseItem m) → StandsInItems row → InDeeds (case_deeds row)
+    stand_items : {m : _} (row : Row_of-CaseItem m) → StandsInItems row → InDeeds (case_actions row)
     stand_items end_of-CaseItem (inl h) = absurd h
     stand_items end_of-CaseItem (inr (inl h)) = absurd h
     stand_items end_of-CaseItem (inr (inr (inl h))) = absurd h
     stand_items end_of-CaseItem (inr (inr (inr h))) = absurd h
     stand_items (more_of-CaseItem labels body rest) (inl h) =
         join (among_append (exprs_in labels) (all_labels_in rest) c h)
-        (λ k. deeds_left (map Tests (exprs_in labels) ++ deeds body) (case_deeds rest) (deeds_left (map Tests (exprs_in labels)) (deeds body) (are_tests (exprs_in labels) k)))
-        (λ k. deeds_right (map Tests (exprs_in labels) ++ deeds body) (case_deeds rest) (stand_items rest (inl k)))
+        (λ k. actions_left (map Tests (exprs_in labels) ++ actions body) (case_actions rest) (actions_left (map Tests (exprs_in labels)) (actions body) (are_tests (exprs_in labels) k)))
+        (λ k. actions_right (map Tests (exprs_in labels) ++ actions body) (case_actions rest) (stand_items rest (inl k)))
     stand_items (more_of-CaseItem labels body rest) (inr h) =
         join (stands_either (alone_in body) (case_alone_in rest) (compared_in body) (case_compared_in rest) (stores_in body) (case_stores_in rest) h)
-        (λ k. deeds_left (map Tests (exprs_in labels) ++ deeds body) (case_deeds rest) (deeds_right (map Tests (exprs_in labels)) (deeds body) (stand_deeds body k)))
-        (λ k. deeds_right (map Tests (exprs_in labels) ++ deeds body) (case_deeds rest) (stand_items rest (inr k)))
+        (λ k. actions_left (map Tests (exprs_in labels) ++ actions body) (case_actions rest) (actions_right (map Tests (exprs_in labels)) (actions body) (stand_actions body k)))
+        (λ k. actions_right (map Tests (exprs_in labels) ++ actions body) (case_actions rest) (stand_items rest (inr k)))

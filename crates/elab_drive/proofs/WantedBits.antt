@@ -13,13 +13,13 @@ use Rattle.vlog_runs.specs.Blocks.{Drives}
 use Rattle.flat_laws.proofs.Lists.{among_append, append_left, append_right, among_flat, flat_among}
 use Rattle.flat_faults.specs.Texts.{assign_exprs, alone_in, compared_in, stores_in, compared_exprs}
 use Rattle.elab_faults.specs.Drivers.{ReadsBit, block_exprs, IsWanted}
-use Rattle.elab_drive.specs.Pieces.{deeds}
-use Rattle.elab_drive.specs.Wanting.{deed_reads, assign_reads, block_reads, output_parts, wanted_parts}
+use Rattle.elab_drive.specs.Pieces.{actions}
+use Rattle.elab_drive.specs.Wanting.{action_reads, assign_reads, block_reads, output_parts, wanted_parts}
 use Rattle.elab_drive.proofs.Parting.{AnyPart}
 use Rattle.elab_drive.proofs.Spots.{bare}
 use Rattle.elab_drive.proofs.Kinding.{in_chosen, chosen_in}
-use Rattle.elab_drive.proofs.Texts.{deed_exprs, deeds_stand, stand_deeds}
-use Rattle.elab_drive.proofs.DrivenBits.{store_reads, reads_store, deed_told, told_deed}
+use Rattle.elab_drive.proofs.Texts.{action_exprs, actions_stand, stand_actions}
+use Rattle.elab_drive.proofs.DrivenBits.{store_reads, reads_store, action_told, told_action}
 
 module _ (m : Flat) (x : Name) (b : ℕ) where
   abbrev Any : List Lval → Type 0
@@ -49,9 +49,9 @@ module _ (m : Flat) (x : Name) (b : ℕ) where
   of_block : Any (flat_map block_reads m.blocks) → IsWanted m x b
   of_block (q, h, d) =
       let r = among_flat block_reads m.blocks q h in
-      let u = among_flat deed_reads (deeds r.0.body) q r.2 in
-      let k = deed_told (bare m.signals) x b u.0 (q, u.2, d) in
-      let w = deeds_stand k.0 r.0.body (flat_among deed_exprs (deeds r.0.body) u.0 k.0 u.1 k.1) in
+      let u = among_flat action_reads (actions r.0.body) q r.2 in
+      let k = action_told (bare m.signals) x b u.0 (q, u.2, d) in
+      let w = actions_stand k.0 r.0.body (flat_among action_exprs (actions r.0.body) u.0 k.0 u.1 k.1) in
       inl (k.0, append_right (flat_map assign_exprs m.assigns) (flat_map block_exprs m.blocks) k.0 (flat_among block_exprs m.blocks r.0 k.0 r.1 (placed r.0 k.0 w)), k.2)
     where
       placed : (k : Always) (a : Expr) → Among (alone_in k.body) a ⊎ (Among (flat_map compared_exprs (compared_in k.body)) a ⊎ Among (map (λ (w : Assign). w.right) (stores_in k.body)) a) → Among (block_exprs k) a
@@ -95,10 +95,10 @@ module _ (m : Flat) (x : Name) (b : ℕ) where
   block_wanted : (c : Expr) → Among (flat_map block_exprs m.blocks) c → ReadsBit (bare m.signals) c x b → Any (wanted_parts m)
   block_wanted c h r =
       let u = among_flat block_exprs m.blocks c h in
-      let s = stand_deeds c u.0.body (parted u.0 u.2) in
-      let w = among_flat deed_exprs (deeds u.0.body) c s in
-      let k = told_deed (bare m.signals) x b w.0 (c, w.2, r) in
-      (k.0, append_right (outputs ++ stores) blocks k.0 (flat_among block_reads m.blocks u.0 k.0 u.1 (flat_among deed_reads (deeds u.0.body) w.0 k.0 w.1 k.1)), k.2)
+      let s = stand_actions c u.0.body (parted u.0 u.2) in
+      let w = among_flat action_exprs (actions u.0.body) c s in
+      let k = told_action (bare m.signals) x b w.0 (c, w.2, r) in
+      (k.0, append_right (outputs ++ stores) blocks k.0 (flat_among block_reads m.blocks u.0 k.0 u.1 (flat_among action_reads (actions u.0.body) w.0 k.0 w.1 k.1)), k.2)
     where
       parted : (k : Always) → Among (block_exprs k) c → Among (alone_in k.body) c ⊎ (Among (flat_map compared_exprs (compared_in k.body)) c ⊎ Among (map (λ (w : Assign). w.right) (stores_in k.body)) c)
       parted k h =

@@ -20,6 +20,6 @@ IsMisformed m x =
     ⊎ ((k : Always) × Among m.blocks k × (k.clocked ≡ false) × Names (nonblocking_lefts k.body) x)
 
 -- a clocked and a combinational block both assign
-abbrev pub IsTorn : Flat → Name → Type 0
-IsTorn m x =
+abbrev pub IsMixed : Flat → Name → Type 0
+IsMixed m x =
     (k j : Always) × Among m.blocks k × Among m.blocks j × (k.clocked ≡ true) × (j.clocked ≡ false) × Names (lefts k.body) x × Names (lefts j.body) x

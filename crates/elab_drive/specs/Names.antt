@@ -10,21 +10,21 @@ use Rattle.vlog_runs.specs.Blocks.{lefts, left_names}
 use Rattle.elab_faults.specs.Stands.{blocking_lefts, nonblocking_lefts}
 use Rattle.elab_drive.specs.declared.names.Form.{Form}
 use Rattle.elab_drive.specs.declared.names.Form.TheVariants as m
-use Rattle.elab_drive.specs.Pieces.{Deed, Tests, Assigns, Schedules}
+use Rattle.elab_drive.specs.Pieces.{Action, Tests, Assigns, Schedules}
 
 abbrev pub is_same : Bool → Bool → Bool
 is_same true b = b
 is_same false b = not b
 
 -- the left side of an assignment of a form
-abbrev pub deed_lefts : Form → Deed → List Lval
-deed_lefts form (Tests a) = []
-deed_lefts m.Any (Assigns left right) = left ∷ []
-deed_lefts m.Blocking (Assigns left right) = left ∷ []
-deed_lefts m.Nonblocking (Assigns left right) = []
-deed_lefts m.Any (Schedules left right) = left ∷ []
-deed_lefts m.Blocking (Schedules left right) = []
-deed_lefts m.Nonblocking (Schedules left right) = left ∷ []
+abbrev pub action_lefts : Form → Action → List Lval
+action_lefts form (Tests a) = []
+action_lefts m.Any (Assigns left right) = left ∷ []
+action_lefts m.Blocking (Assigns left right) = left ∷ []
+action_lefts m.Nonblocking (Assigns left right) = []
+action_lefts m.Any (Schedules left right) = left ∷ []
+action_lefts m.Blocking (Schedules left right) = []
+action_lefts m.Nonblocking (Schedules left right) = left ∷ []
 
 -- the left sides of the assignments of a form in a statement
 abbrev pub form_lefts : Form → Stmt → List Lval
@@ -41,5 +41,5 @@ abbrev pub declared_names : Bool → Signal → List Name
 declared_names reg g = if is_same reg g.reg then g.name ∷ [] else []
 
 -- the names on the left of such an assignment
-abbrev pub deed_names : Form → Deed → List Name
-deed_names form d = flat_map left_names (deed_lefts form d)
+abbrev pub action_names : Form → Action → List Name
+action_names form d = flat_map left_names (action_lefts form d)

@@ -10,33 +10,33 @@ use Rattle.elab_drive.specs.declared.pieces.Piece.{Piece}
 use Rattle.elab_drive.specs.declared.pieces.Piece.TheVariants as v
 
 -- a condition, a case expression or a label is tested, or a left side is assigned by `=` or by `<=`
-pub data Deed : Type 0 where
-  Tests : Expr → Deed
-  Assigns : Lval → Expr → Deed
-  Schedules : Lval → Expr → Deed
+pub data Action : Type 0 where
+  Tests : Expr → Action
+  Assigns : Lval → Expr → Action
+  Schedules : Lval → Expr → Action
 
-abbrev pub piece_meant : Piece → Deed
+abbrev pub piece_meant : Piece → Action
 piece_meant (v.Test a) = Tests a.now
 piece_meant (v.Blocking left right) = Assigns left.now right.now
 piece_meant (v.Nonblocking left right) = Schedules left.now right.now
 
 abbrev mutual
-  pub deeds : Stmt → List Deed
-  deeds s.Empty = []
-  deeds (s.Block' n h row) = row_deeds row
-  deeds (s.If' a h (more_of-Stmt x end_of-Stmt)) = Tests a ∷ deeds x
-  deeds (s.IfElse' a h (more_of-Stmt x end_of-Stmt) g (more_of-Stmt y end_of-Stmt)) = Tests a ∷ (deeds x ++ deeds y)
-  deeds (s.Case' kind a h row) = Tests a ∷ case_deeds row
-  deeds (s.Blocking left right) = Assigns left right ∷ []
-  deeds (s.Nonblocking left right) = Schedules left right ∷ []
+  pub actions : Stmt → List Action
+  actions s.Empty = []
+  actions (s.Block' n h row) = row_actions row
+  actions (s.If' a h (more_of-Stmt x end_of-Stmt)) = Tests a ∷ actions x
+  actions (s.IfElse' a h (more_of-Stmt x end_of-Stmt) g (more_of-Stmt y end_of-Stmt)) = Tests a ∷ (actions x ++ actions y)
+  actions (s.Case' kind a h row) = Tests a ∷ case_actions row
+  actions (s.Blocking left right) = Assigns left right ∷ []
+  actions (s.Nonblocking left right) = Schedules left right ∷ []
 
-  pub row_deeds : {m : _} → Row_of-Stmt m → List Deed
-  row_deeds end_of-Stmt = []
-  row_deeds (more_of-Stmt a rest) = deeds a ++ row_deeds rest
+  pub row_actions : {m : _} → Row_of-Stmt m → List Action
+  row_actions end_of-Stmt = []
+  row_actions (more_of-Stmt a rest) = actions a ++ row_actions rest
 
-  pub case_deeds : {m : _} → Row_of-CaseItem m → List Deed
-  case_deeds end_of-CaseItem = []
-  case_deeds (more_of-CaseItem labels body rest) = (map Tests (exprs_in labels) ++ deeds body) ++ case_deeds rest
+  pub case_actions : {m : _} → Row_of-CaseItem m → List Action
+  case_actions end_of-CaseItem = []
+  case_actions (more_of-CaseItem labels body rest) = (map Tests (exprs_in labels) ++ actions body) ++ case_actions rest
 
-abbrev pub item_deeds : CaseItem → List Deed
-item_deeds i = map Tests (exprs_in i.labels) ++ deeds i.body
+abbrev pub item_actions : CaseItem → List Action
+item_actions i = map Tests (exprs_in i.labels) ++ actions i.body

@@ -16,7 +16,7 @@ use Rattle.elab_drive.specs.Driving.{CanDrive, driver_claims}
 use Rattle.elab_drive.specs.Masks.{marked}
 use Rattle.vlog_runs.specs.declared.flat.Signal.{Signal}
 use Rattle.elab_drive.specs.Parts.{reads_of}
-use Rattle.elab_drive.specs.Pieces.{Deed, Tests, Assigns, Schedules, deeds}
+use Rattle.elab_drive.specs.Pieces.{Action, Tests, Assigns, Schedules, actions}
 
 -- what the numbers of a part read
 abbrev pub part_reads : Lval → List Lval
@@ -28,16 +28,16 @@ part_reads (l.Concat' h row) = []
 abbrev pub left_reads : Lval → List Lval
 left_reads left = flat_map part_reads (parts_of left)
 
-abbrev pub deed_reads : Deed → List Lval
-deed_reads (Tests a) = reads_of a
-deed_reads (Assigns left right) = left_reads left ++ reads_of right
-deed_reads (Schedules left right) = left_reads left ++ reads_of right
+abbrev pub action_reads : Action → List Lval
+action_reads (Tests a) = reads_of a
+action_reads (Assigns left right) = left_reads left ++ reads_of right
+action_reads (Schedules left right) = left_reads left ++ reads_of right
 
 abbrev pub assign_reads : Assign → List Lval
 assign_reads a = left_reads a.left ++ reads_of a.right
 
 abbrev pub block_reads : Always → List Lval
-block_reads k = flat_map deed_reads (deeds k.body)
+block_reads k = flat_map action_reads (actions k.body)
 
 abbrev pub output_parts : TopPort → List Lval
 output_parts p = if p.output then l.Name p.name ∷ [] else []

@@ -69,7 +69,8 @@ pub fn known(alloc: Global, expr: &Expr) -> Result<Option<i128>, AllocError>
     }
 }
 
-fn bit_run(at: i128) -> Run
+/// The run of one bit.
+pub fn bit_run(at: i128) -> Run
     requires { IsNear at }
     ensures run { result ≡ record { from = at; to = at +ℤ pos 1 } }
     ensures small { IsSmall result }
@@ -117,7 +118,8 @@ fn distance(a: i128, b: i128) -> i128
     a - b + 1
 }
 
-fn span_run(span: Span, a: i128, b: i128) -> Run
+/// The run of a part-select with these numbers.
+pub fn span_run(span: Span, a: i128, b: i128) -> Run
     requires first { IsNear a }
     requires second { IsNear b }
     ensures run { result ≡ record { from = part_low span a b; to = part_low span a b +ℤ pos (part_width span a b) } }
@@ -159,8 +161,8 @@ fn power(exponent: u8) -> u128
     1 << exponent
 }
 
-// A 1 for each bit from `from` on, below `to`.
-fn ones(from: u8, to: u8) -> u64
+/// A 1 for each bit from `from` on, below `to`.
+pub fn ones(from: u8, to: u8) -> u64
     requires { to ≤ 64 }
     ensures { result ≡ ones from to }
 {
@@ -170,8 +172,8 @@ fn ones(from: u8, to: u8) -> u64
     (power(to) - power(from)) as u64
 }
 
-// How many of so many bits stand below a number.
-fn clipped(number: i128, width: u8) -> u8
+/// How many of so many bits stand below a number.
+pub fn clipped(number: i128, width: u8) -> u8
     ensures { result ≡ min width (natural number) }
 {
     if number <= 0 {

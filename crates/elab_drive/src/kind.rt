@@ -5,7 +5,7 @@ ghost use Rattle.vlog_runs.specs.Places.{Name, Among};
 ghost use Rattle.flat_scopes.specs.Borrowed.{name_meant};
 ghost use Rattle.elab_faults.specs.Stands.{Stands};
 ghost use Rattle.elab_faults.specs.declared.fault.ElabFault.TheVariants as f;
-ghost use Rattle.elab_drive.specs.Kinds.{IsMisdeclared, IsMisformed, IsTorn};
+ghost use Rattle.elab_drive.specs.Kinds.{IsMisdeclared, IsMisformed, IsMixed};
 
 use crate::names::{Form, assign_names, block_names, declared_names, shared};
 use flat_scopes::Names;
@@ -60,9 +60,9 @@ fn misformed(alloc: Global, flat: &Flat) -> Result<Option<&Text>, AllocError>
 }
 
 // A name that a clocked and a combinational block assign.
-fn torn(alloc: Global, flat: &Flat) -> Result<Option<&Text>, AllocError>
-    ensures some { IfOk result (λ o. IfSome o (λ x. IsTorn flat.now x.now)) }
-    ensures none { IfOk result (λ o. IfNone o ((x : Name) → IsTorn flat.now x → ⊥)) }
+fn mixed(alloc: Global, flat: &Flat) -> Result<Option<&Text>, AllocError>
+    ensures some { IfOk result (λ o. IfSome o (λ x. IsMixed flat.now x.now)) }
+    ensures none { IfOk result (λ o. IfNone o ((x : Name) → IsMixed flat.now x → ⊥)) }
 {
     let blocks = flat.blocks.as_slice();
     let clocked = block_names(alloc, blocks, true, Form::Any)?;
@@ -89,7 +89,7 @@ pub fn wrongly_assigned(alloc: Global, flat: &Flat) -> Result<Option<Text>, Allo
     if let Some(name) = misformed(alloc, flat)? {
         return kept(alloc, name);
     }
-    if let Some(name) = torn(alloc, flat)? {
+    if let Some(name) = mixed(alloc, flat)? {
         return kept(alloc, name);
     }
     Ok(None)

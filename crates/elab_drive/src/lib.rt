@@ -12,6 +12,7 @@ mod parts;
 mod pieces;
 mod wanted;
 
+pub use claims::{Run, bit_run, clipped, known, ones, span_run};
 pub use drivers::driven_twice;
 pub use kind::wrongly_assigned;
 pub use lacking::undriven;

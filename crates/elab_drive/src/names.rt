@@ -9,7 +9,7 @@ ghost use Rattle.vlog_runs.specs.Blocks.{left_names};
 ghost use Rattle.flat_scopes.specs.Borrowed.{name_meant};
 ghost use Rattle.elab_drive.specs.Parts.{part_meant};
 ghost use Rattle.elab_drive.specs.Pieces.{piece_meant};
-ghost use Rattle.elab_drive.specs.Names.{deed_lefts, form_lefts, chosen_names, declared_names, is_same};
+ghost use Rattle.elab_drive.specs.Names.{action_lefts, form_lefts, chosen_names, declared_names, is_same};
 
 use crate::parts::{name_of, parts_of};
 use crate::pieces::{Piece, pieces_of};
@@ -49,7 +49,7 @@ fn add_left_names<'a>(
 
 /// The left side of an assignment of this form.
 pub fn left_of(piece: Piece<'_>, form: Form) -> Option<&Lval>
-    ensures { option_to_list (option_copied result) ≡ deed_lefts form (piece_meant piece.entry) }
+    ensures { option_to_list (option_copied result) ≡ action_lefts form (piece_meant piece.entry) }
 {
     match piece {
         Piece::Test(_) => None,

@@ -3,7 +3,7 @@
 ghost use Rattle.std.specs.Prelude.{◌≡◌, ◌++◌, OnOk, IfOk, map};
 ghost use Rattle.std.specs.List.{flat_map};
 ghost use Rattle.vlog_runs.specs.Blocks.{exprs_in};
-ghost use Rattle.elab_drive.specs.Pieces.{Tests, piece_meant, deeds, item_deeds};
+ghost use Rattle.elab_drive.specs.Pieces.{Tests, piece_meant, actions, item_actions};
 
 use sqlite_items::{Boxed, Items};
 use std::alloc::{AllocError, Global};
@@ -40,7 +40,7 @@ fn add_tests<'a>(all: &mut Vec<Piece<'a>>, exprs: &'a [Expr]) -> Result<(), Allo
 
 #[cycle(pieces)]
 fn add_pieces<'a>(all: &mut Vec<Piece<'a>>, stmt: &'a Stmt) -> Result<(), AllocError>
-    ensures { OnOk result (map piece_meant all.new.items ≡ map piece_meant all.old.items ++ deeds stmt.now) }
+    ensures { OnOk result (map piece_meant all.new.items ≡ map piece_meant all.old.items ++ actions stmt.now) }
 {
     match stmt {
         Stmt::Empty => Ok(()),
@@ -71,7 +71,7 @@ fn add_pieces<'a>(all: &mut Vec<Piece<'a>>, stmt: &'a Stmt) -> Result<(), AllocE
 
 #[cycle(pieces)]
 fn add_stmts<'a>(all: &mut Vec<Piece<'a>>, stmts: &'a [Stmt]) -> Result<(), AllocError>
-    ensures { OnOk result (map piece_meant all.new.items ≡ map piece_meant all.old.items ++ flat_map deeds stmts.now) }
+    ensures { OnOk result (map piece_meant all.new.items ≡ map piece_meant all.old.items ++ flat_map actions stmts.now) }
 {
     for stmt in stmts {
         add_pieces(all, stmt)?;
@@ -81,7 +81,7 @@ fn add_stmts<'a>(all: &mut Vec<Piece<'a>>, stmts: &'a [Stmt]) -> Result<(), Allo
 
 #[cycle(pieces)]
 fn add_items<'a>(all: &mut Vec<Piece<'a>>, items: &'a [CaseItem]) -> Result<(), AllocError>
-    ensures { OnOk result (map piece_meant all.new.items ≡ map piece_meant all.old.items ++ flat_map item_deeds items.now) }
+    ensures { OnOk result (map piece_meant all.new.items ≡ map piece_meant all.old.items ++ flat_map item_actions items.now) }
 {
     for item in items {
         add_labels(all, &item.labels)?;
@@ -92,7 +92,7 @@ fn add_items<'a>(all: &mut Vec<Piece<'a>>, items: &'a [CaseItem]) -> Result<(), 
 
 /// What a statement does, in the order of its text. Refused only for want of memory.
 pub fn pieces_of(alloc: Global, stmt: &Stmt) -> Result<Vec<Piece<'_>>, AllocError>
-    ensures { IfOk result (λ r. map piece_meant r.items ≡ deeds stmt.now) }
+    ensures { IfOk result (λ r. map piece_meant r.items ≡ actions stmt.now) }
 {
     let mut all = Vec::new(alloc);
     add_pieces(&mut all, stmt)?;

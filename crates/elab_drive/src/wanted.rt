@@ -3,8 +3,8 @@
 ghost use Rattle.std.specs.Prelude.{◌≡◌, ◌++◌, OnOk, IfOk, map};
 ghost use Rattle.std.specs.List.{flat_map};
 ghost use Rattle.elab_drive.specs.Parts.{part_meant, reads_of};
-ghost use Rattle.elab_drive.specs.Pieces.{piece_meant, deeds};
-ghost use Rattle.elab_drive.specs.Wanting.{part_reads, left_reads, deed_reads, assign_reads, block_reads, output_parts, wanted_parts};
+ghost use Rattle.elab_drive.specs.Pieces.{piece_meant, actions};
+ghost use Rattle.elab_drive.specs.Wanting.{part_reads, left_reads, action_reads, assign_reads, block_reads, output_parts, wanted_parts};
 
 use crate::parts::{Part, add_reads, parts_of};
 use crate::pieces::{Piece, pieces_of};
@@ -59,7 +59,7 @@ fn add_piece_reads<'a>(
     alloc: Global,
     piece: Piece<'a>,
 ) -> Result<(), AllocError>
-    ensures { OnOk result (map part_meant all.new.items ≡ map part_meant all.old.items ++ deed_reads (piece_meant piece.entry)) }
+    ensures { OnOk result (map part_meant all.new.items ≡ map part_meant all.old.items ++ action_reads (piece_meant piece.entry)) }
 {
     match piece {
         Piece::Test(expr) => add_reads(all, expr),
@@ -73,7 +73,7 @@ fn add_body_reads<'a>(
     alloc: Global,
     body: &'a Stmt,
 ) -> Result<(), AllocError>
-    ensures { OnOk result (map part_meant all.new.items ≡ map part_meant all.old.items ++ flat_map deed_reads (deeds body.now)) }
+    ensures { OnOk result (map part_meant all.new.items ≡ map part_meant all.old.items ++ flat_map action_reads (actions body.now)) }
 {
     let pieces = pieces_of(alloc, body)?;
     for piece in &pieces {

@@ -34,7 +34,7 @@ impl From<AllocError> for SignalFault {
     }
 }
 
-/// Adds the signals of a scope, in the order of their first declarations. A refusal names the first one whose ranges declare nothing.
+/// Adds the signals of a scope, in the order of their first declarations. A refusal names one whose ranges declare nothing.
 pub fn add_signals(
     all: &mut Items<Signal>,
     alloc: Global,

@@ -20,7 +20,8 @@ use Rattle.elab_drive.specs.Claims.{part_name}
 use Rattle.elab_drive.proofs.Parting.{IsPiece, parts_are}
 use Rattle.elab_flow.specs.Sets.{Has}
 use Rattle.elab_flow.specs.Shows.{IsAt, Marks, AreDistinct}
-use Rattle.elab_flow.specs.Marks.{signal_name, Adds}
+use Rattle.elab_drive.specs.Spots.{signal_name}
+use Rattle.elab_flow.specs.Marks.{Adds}
 use Rattle.elab_flow.specs.Words.{IsSignalAt, IsSetAt, AnySetAt, set_word}
 use Rattle.elab_flow.proofs.Setting.{word_sets, among_signals}
 

@@ -25,7 +25,7 @@ use Rattle.elab_drive.proofs.Parting.{IsPiece}
 use Rattle.elab_flow.specs.Words.{run_word, index_word, span_word, set_word, IsSignalAt, IsShapeAt, IsSetAt, AnySetAt}
 use Rattle.elab_flow.specs.declared.words.Shape.{Shape}
 use Rattle.elab_flow.specs.Sets.{HasBit}
-use Rattle.elab_flow.specs.Marks.{signal_name}
+use Rattle.elab_drive.specs.Spots.{signal_name}
 use Rattle.elab_flow.proofs.Bits.{or_bits}
 
 abbrev number : Expr → ℤ

@@ -1,12 +1,8 @@
 -- Sets of the places of names.
 use Rattle.std.specs.Prelude.{ℕ, ◌≡◌, ◌⊎◌, ◌↔◌, Bool, List, Some}
-use Rattle.vlog_runs.specs.declared.flat.Signal.{Signal}
 use Rattle.vlog_runs.specs.Places.{Name, Among}
 use Rattle.flat_scopes.specs.Finding.{place_in}
 use Rattle.elab_flow.specs.Sets.{Has}
-
-abbrev pub signal_name : Signal → Name
-signal_name g = g.name
 
 -- i is the first place of one of the names xs, in a list of names
 abbrev pub IsPlaceOf : List Name → List Name → ℕ → Type 0

@@ -1,5 +1,5 @@
 -- The bits of a signal that a part of a left side surely sets (IEEE 1364-2005, section 5.2.1).
-use Rattle.std.specs.Prelude.{ℕ, zero, suc, ◌≡◌, ◌≤◌, List, [], ◌∷◌, map, ◌≤ℤ◌, ◌<ℤ◌, ◌-ℤ◌, ◌+ℤ◌, ◌^◌, min, ℤ, pos, negsuc, Option, Some, None}
+use Rattle.std.specs.Prelude.{ℕ, zero, suc, ◌≡◌, ◌≤◌, List, [], ◌∷◌, map, ◌-ℤ◌, ◌+ℤ◌, min, ℤ, pos, Option, Some, None}
 use Rattle.std.specs.Int.{bit_at}
 use Rattle.vlog_tree.specs.declared.expr.Span.{Span}
 use Rattle.vlog_tree.specs.declared.stmt.Lval.{Lval}
@@ -9,12 +9,8 @@ use Rattle.vlog_runs.specs.declared.flat.Signal.{Signal}
 use Rattle.vlog_runs.specs.Places.{Among}
 use Rattle.flat_scopes.specs.Finding.{place_in}
 use Rattle.elab_drive.specs.Claims.{known, ones, part_name}
-use Rattle.elab_flow.specs.Marks.{signal_name}
-use Rattle.elab_flow.specs.declared.words.Run.{Run}
+use Rattle.elab_drive.specs.Spots.{signal_name}
 use Rattle.elab_flow.specs.declared.words.Shape.{Shape}
-
-abbrev pub IsSmall : Run → Type 0
-IsSmall r = (negsuc (2 ^ 70) ≤ℤ r.from) × (r.from <ℤ pos (2 ^ 70)) × (negsuc (2 ^ 70) ≤ℤ r.to) × (r.to <ℤ pos (2 ^ 70))
 
 -- a 1 for each bit with a declared number from i on, below j, of a signal of w bits from `low` on
 abbrev pub run_word : ℕ → ℕ → ℤ → ℤ → ℕ

@@ -7,7 +7,8 @@ ghost use Rattle.flat_faults.specs.Texts.{names_in, numbers_in};
 ghost use Rattle.flat_scopes.specs.Borrowed.{name_meant};
 ghost use Rattle.elab_drive.specs.Parts.{part_meant};
 ghost use Rattle.elab_drive.specs.Claims.{part_name};
-ghost use Rattle.elab_flow.specs.Marks.{signal_name, Adds};
+ghost use Rattle.elab_drive.specs.Spots.{signal_name};
+ghost use Rattle.elab_flow.specs.Marks.{Adds};
 
 use elab_drive::{Part, parts_of, reads_of};
 use flat_scopes::Names;

@@ -5,7 +5,7 @@ ghost use Rattle.vlog_tree.specs.declared.stmt.Lval.{Lval as Left};
 ghost use Rattle.vlog_runs.specs.Places.{Among};
 ghost use Rattle.elab_faults.specs.Drivers.{parts_of};
 ghost use Rattle.elab_drive.specs.Claims.{IsPartReady};
-ghost use Rattle.elab_flow.specs.Marks.{signal_name};
+ghost use Rattle.elab_drive.specs.Spots.{signal_name};
 ghost use Rattle.elab_flow.specs.Passes.{AssignTo};
 ghost use Rattle.elab_flow.specs.Sets.{tables, IsSized};
 ghost use Rattle.elab_flow.specs.Shows.{AreDistinct};

@@ -4,7 +4,7 @@ ghost use Rattle.std.specs.Prelude.{◌≡◌, [], ◌∷◌, map, length, repli
 ghost use Rattle.vlog_runs.specs.Places.{Among};
 ghost use Rattle.vlog_runs.specs.Blocks.{left_names};
 ghost use Rattle.flat_faults.specs.Texts.{numbers_in};
-ghost use Rattle.elab_flow.specs.Marks.{signal_name};
+ghost use Rattle.elab_drive.specs.Spots.{signal_name};
 ghost use Rattle.elab_flow.specs.Passes.{ReadsAt};
 ghost use Rattle.elab_flow.specs.Shows.{Marks, AreDistinct};
 

@@ -23,7 +23,8 @@ use Rattle.elab_node.specs.Nodes.{IsNode, number_at}
 use Rattle.elab_node.proofs.Kept.{node_kept, number_kept, ready_kept, keeps_then, keeps_same}
 use Rattle.elab_block.specs.Standing.{AreLeavesOf, IsLeafOf, Lacks, AreApart, AreShown, nodes_of, with_nodes}
 use Rattle.elab_block.specs.Runs.{AreSet, Runs}
-use Rattle.elab_step.specs.Solving.{alone, taking, driven, settled, solved, processes, drivers_of, AreDistinct}
+use Rattle.flow_laws.specs.Laws.{place_over}
+use Rattle.elab_step.specs.Solving.{taking, driven, settled, solved, processes, drivers_of, AreDistinct}
 use Rattle.elab_step.specs.Boards.{IsBoard, IsBegun, AreBegun, Shows, Follows, statements, statement_at, picked, node_at, name_of, names_of, list_at, ArePlacesOf}
 use Rattle.elab_step.proofs.Solving.{taken, kept}
 use Rattle.elab_step.proofs.Fitting.{one_entry}
@@ -143,10 +144,10 @@ leaves_long (g ∷ gs) (l ∷ ls) h = let k = leaves_long gs ls h.1 in omega (ar
 
 -- a leaf is given what a statement makes of its name
 pub drive_shows : (gs : List Signal) (k : Stmt) (ls ms : List Leaf) (a b : List Node) (i : ℕ) → IsBoard gs ls a → AreLeavesOf gs ms → Keeps a b → i < length ls → length ms ≡ length ls
-    → Shows (λ c. run true (alone gs) k c c) ls a ms b → Shows (λ c. taking (name_of gs i) (run true (alone gs) k c c) c) ls a (with_node ls i (node_at ms i)) b
+    → Shows (λ c. run true (place_over gs) k c c) ls a ms b → Shows (λ c. taking (name_of gs i) (run true (place_over gs) k c c) c) ls a (with_node ls i (node_at ms i)) b
 drive_shows gs k ls ms a b i board are keeps lt long shows e c h =
-    shown_taking e b (run true (alone gs) k c c) c gs ls i (node_at ms i) board.leaves board.apart lt (shown_kept e ls a b c keeps board.ready h)
-    (shown_at e b (run true (alone gs) k c c) gs ms i are (omega (arith, long, lt)) (shows e c h))
+    shown_taking e b (run true (place_over gs) k c c) c gs ls i (node_at ms i) board.leaves board.apart lt (shown_kept e ls a b c keeps board.ready h)
+    (shown_at e b (run true (place_over gs) k c c) gs ms i are (omega (arith, long, lt)) (shows e c h))
 
 pub zero_shows : (gs : List Signal) (ls : List Leaf) (a b : List Node) (i n : ℕ) → IsBoard gs ls a → Keeps a b → i < length ls → ((e : Naming) → number_at e b n ≡ 0) → Shows (taking (name_of gs i) (λ y. 0)) ls a (with_node ls i n) b
 zero_shows gs ls a b i n board keeps lt z e c h =
@@ -290,7 +291,7 @@ same_long [] (m ∷ ms) e = cc
 same_long (l ∷ ls) [] e = cc
 same_long (l ∷ ls) (m ∷ ms) e = let t : declared ms ≡ declared ls = cc in ap suc (same_long ls ms t)
 
-pub runs_show : (gs : List Signal) (k : Stmt) (ls ms : List Leaf) (a b : List Node) → IsBoard gs ls a → Runs None (λ hs. run true (alone hs) k) ls a ms b → Shows (λ c. run true (alone gs) k c c) ls a ms b
+pub runs_show : (gs : List Signal) (k : Stmt) (ls ms : List Leaf) (a b : List Node) → IsBoard gs ls a → Runs None (λ hs. run true (place_over hs) k) ls a ms b → Shows (λ c. run true (place_over gs) k c c) ls a ms b
 runs_show gs k ls ms a b h r e c s = r gs e c c h.leaves tt s
 
 -- ---- statements by their places
@@ -320,8 +321,8 @@ assign_at f i a u l e = sym (at_assign f.assigns (map (λ (z : Always). z.body) 
 pub block_at : (f : Flat) (i : ℕ) (k u : Always) → i < length f.blocks → k ≡ get_or f.blocks i u → k.body ≡ statement_at (statements f) (length f.assigns + i)
 block_at f i k u l e = sym (at_block f.assigns f.blocks i k u l e)
 
-pub shows_at : (gs : List Signal) (j k : Stmt) (ls ms : List Leaf) (a b : List Node) → j ≡ k → Shows (λ c. run true (alone gs) j c c) ls a ms b → Shows (λ c. run true (alone gs) k c c) ls a ms b
-shows_at gs j k ls ms a b e h = let P : Stmt → Type 0 = λ z. Shows (λ c. run true (alone gs) z c c) ls a ms b in subst P e h
+pub shows_at : (gs : List Signal) (j k : Stmt) (ls ms : List Leaf) (a b : List Node) → j ≡ k → Shows (λ c. run true (place_over gs) j c c) ls a ms b → Shows (λ c. run true (place_over gs) k c c) ls a ms b
+shows_at gs j k ls ms a b e h = let P : Stmt → Type 0 = λ z. Shows (λ c. run true (place_over gs) z c c) ls a ms b in subst P e h
 
 pub item_among : {X : Type 0} (xs : List X) (i : ℕ) (x u : X) → i < length xs → x ≡ get_or xs i u → Among xs x
 item_among [] i x u l e = absurd (omega arith)

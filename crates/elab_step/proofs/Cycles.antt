@@ -16,7 +16,8 @@ use Rattle.vlog_runs.specs.Places.{Name, Cycle, Among, Place, holders}
 use Rattle.vlog_runs.specs.Blocks.{run, lefts, left_names, row_names, Drives, AnyDrives}
 use Rattle.vlog_runs.specs.Cycles.{flat_place, IsRegister, IsInput, IsDriven, DrivesFull, IsCycle, Follows}
 use Rattle.flat_laws.proofs.Lists.{among_append, append_left, append_right, among_map, map_among, flat_among}
-use Rattle.elab_step.specs.Solving.{bodies, clocked, processes, assigned_by, after_edge, solved, Fits, ArePlain, DrivesBit, AreApart, Meets, IsNet, IsNetOrder}
+use Rattle.flow_laws.specs.Laws.{AreFit}
+use Rattle.elab_step.specs.Solving.{bodies, clocked, processes, assigned_by, after_edge, solved, ArePlain, DrivesBit, AreApart, Meets, IsNet, IsNetOrder}
 use Rattle.elab_step.proofs.Solving.{stable, named_or, AreProcesses, solved_only, solved_meets}
 use Rattle.elab_step.proofs.Fitting.{less_or}
 
@@ -165,7 +166,7 @@ module _ (f : Flat) (depends : Name → Name → Type 0) (width : Name → ℕ) 
       by k m = ⊎_elim (λ a. assigned a.0 k a.1 a.2) (λ a. blocked a.0 k a.1 a.2 a.3) (processes_are f k m)
 
   -- a cycle that they all meet is given back by each
-  given_back : (c : Cycle) → Fits f.signals c → ((x : Name) → IsNet f x → Meets (flat_place f) (processes f) x (width x) c) → ((g : Signal) → Among f.signals g → IsNet f g.name ⊎ (IsRegister f g.name ⊎ IsInput f g.name))
+  given_back : (c : Cycle) → AreFit f.signals c → ((x : Name) → IsNet f x → Meets (flat_place f) (processes f) x (width x) c) → ((g : Signal) → Among f.signals g → IsNet f g.name ⊎ (IsRegister f g.name ⊎ IsInput f g.name))
       → (k : Stmt) → Among (processes f) k → (x : Name) → run true (flat_place f) k c c x ≡ c x
   given_back c fits meets kinds k m x = by
     where
@@ -184,7 +185,7 @@ module _ (f : Flat) (depends : Name → Name → Type 0) (width : Name → ℕ) 
       by : run true (flat_place f) k c c x ≡ c x
       by = ⊎_elim (λ n. assigned (can.declared k x m n).0 (can.declared k x m n).1 (can.declared k x m n).2) stay (among_or (assigned_by k) x)
 
-  meets_cycle : (c : Cycle) → Fits f.signals c → ((x : Name) → IsNet f x → Meets (flat_place f) (processes f) x (width x) c) → ((g : Signal) → Among f.signals g → IsNet f g.name ⊎ (IsRegister f g.name ⊎ IsInput f g.name)) → IsCycle f c
+  meets_cycle : (c : Cycle) → AreFit f.signals c → ((x : Name) → IsNet f x → Meets (flat_place f) (processes f) x (width x) c) → ((g : Signal) → Among f.signals g → IsNet f g.name ⊎ (IsRegister f g.name ⊎ IsInput f g.name)) → IsCycle f c
   meets_cycle c fits meets kinds = record {
     fits = λ g w m h. subst (λ (z : Signal). c z.name < 2 ^ z.width) (own_holder f.signals g w can.plain m h) (fits g m);
     links = λ a m x. given_back c fits meets kinds (assign_stmt a) (is_assign f a m) x;
@@ -200,12 +201,12 @@ module _ (f : Flat) (depends : Name → Name → Type 0) (width : Name → ℕ) 
           (λ l. bit_at_above (c g.name) g.width b (fits g m) l) (less_or b g.width)
 
   -- the cycles are those that nets are solved to
-  pub cycle_solved : (xs : List Name) (start c : Cycle) → IsNetOrder f depends xs → Fits f.signals start → ((z : Name) → (Among xs z → ⊥) → start z ≡ c z) → IsCycle f c → (z : Name) → solved (flat_place f) (processes f) xs start z ≡ c z
+  pub cycle_solved : (xs : List Name) (start c : Cycle) → IsNetOrder f depends xs → AreFit f.signals start → ((z : Name) → (Among xs z → ⊥) → start z ≡ c z) → IsCycle f c → (z : Name) → solved (flat_place f) (processes f) xs start z ≡ c z
   cycle_solved xs start c o fits agree h =
       solved_only (flat_place f) f.signals (processes f) (IsNet f) depends width can.laws xs start c o.order o.nets fits (λ g m. h.fits g g m (holds_itself f.signals g can.plain m)) agree
       (λ x m. cycle_meets c h x (o.nets x m))
 
-  pub solved_cycle : (xs : List Name) (start c : Cycle) → IsNetOrder f depends xs → Fits f.signals start → Fits f.signals c → ((z : Name) → solved (flat_place f) (processes f) xs start z ≡ c z) → IsCycle f c
+  pub solved_cycle : (xs : List Name) (start c : Cycle) → IsNetOrder f depends xs → AreFit f.signals start → AreFit f.signals c → ((z : Name) → solved (flat_place f) (processes f) xs start z ≡ c z) → IsCycle f c
   solved_cycle xs start c o fs fc h =
       meets_cycle c fc
       (λ x is. solved_meets (flat_place f) f.signals (processes f) (IsNet f) depends width can.laws xs start c o.order o.nets fs fc h x (listed_net x is))
@@ -224,7 +225,7 @@ pub record AreClocked (f : Flat) : Type 0 where
   pub plain : ArePlain f.signals
   pub stays : (k : Stmt) → Among (clocked f.blocks) k → (x : Name) (b : ℕ) (c d : Cycle) → (DrivesBit (flat_place f) k x b → ⊥) → bit_at (run false (flat_place f) k c d x) b ≡ bit_at (d x) b
   pub alone : (k : Stmt) → Among (clocked f.blocks) k → (x : Name) (b : ℕ) (c d e : Cycle) → bit_at (d x) b ≡ bit_at (e x) b → bit_at (run false (flat_place f) k c d x) b ≡ bit_at (run false (flat_place f) k c e x) b
-  pub fits : (k : Stmt) → Among (clocked f.blocks) k → (c d : Cycle) → Fits f.signals d → Fits f.signals (run false (flat_place f) k c d)
+  pub fits : (k : Stmt) → Among (clocked f.blocks) k → (c d : Cycle) → AreFit f.signals d → AreFit f.signals (run false (flat_place f) k c d)
   pub apart : (g : Signal) (b : ℕ) → Among f.signals g → b < g.width → AreApart (flat_place f) (clocked f.blocks) g.name b
   pub declared : (k : Stmt) (x : Name) → Among (clocked f.blocks) k → Among (assigned_by k) x → (g : Signal) × Among f.signals g × (g.name ≡ x)
 
@@ -232,7 +233,7 @@ module _ (f : Flat) (can : AreClocked f) where
   abbrev p : Place
   p = flat_place f
 
-  edge_fits : (ks : List Stmt) (c d : Cycle) → ((k : Stmt) → Among ks k → Among (clocked f.blocks) k) → Fits f.signals d → Fits f.signals (after_edge p ks c d)
+  edge_fits : (ks : List Stmt) (c d : Cycle) → ((k : Stmt) → Among ks k → Among (clocked f.blocks) k) → AreFit f.signals d → AreFit f.signals (after_edge p ks c d)
   edge_fits [] c d i h = h
   edge_fits (k ∷ ks) c d i h = edge_fits ks c (run false p k c d) (λ j m. i j (inr m)) (can.fits k (i k (inl refl)) c d h)
 
@@ -261,7 +262,7 @@ module _ (f : Flat) (can : AreClocked f) where
   register_declared x r =
       (r.3.2, r.3.3, ap (λ (z : Signal). z.name) (own_holder f.signals r.3.2 r.3.4.1 can.plain r.3.3 r.3.4.2) ∙ sym r.3.4.3)
 
-  follows_at : (c e : Cycle) → Fits f.signals c → Fits f.signals e → Follows f c e → (g : Signal) → Among f.signals g → IsRegister f g.name → e g.name ≡ after_edge p (clocked f.blocks) c c g.name
+  follows_at : (c e : Cycle) → AreFit f.signals c → AreFit f.signals e → Follows f c e → (g : Signal) → Among f.signals g → IsRegister f g.name → e g.name ≡ after_edge p (clocked f.blocks) c c g.name
   follows_at c e fc fe h g m r =
       same_from_bits_below g.width (e g.name) (after_edge p (clocked f.blocks) c c g.name) (fe g m) (edge_fits (clocked f.blocks) c c (λ k u. u) fc g m)
       (λ b l. stable (bit_at (e g.name) b) (bit_at (after_edge p (clocked f.blocks) c c g.name) b) (λ n.
@@ -273,12 +274,12 @@ module _ (f : Flat) (can : AreClocked f) where
       n (h.kept g.name b r (λ z. none z.0.body (are_clocked f.blocks z.0 z.1 z.2) (z.3, z.4, full_drives f can.plain z.3 g.name b z.5))
       ∙ sym (edge_stays (clocked f.blocks) g.name b c c (λ k u. u) none))))
 
-  pub follows_edge : (c e : Cycle) → Fits f.signals c → Fits f.signals e → Follows f c e → (x : Name) → IsRegister f x → e x ≡ after_edge p (clocked f.blocks) c c x
+  pub follows_edge : (c e : Cycle) → AreFit f.signals c → AreFit f.signals e → Follows f c e → (x : Name) → IsRegister f x → e x ≡ after_edge p (clocked f.blocks) c c x
   follows_edge c e fc fe h x r =
       let u = register_declared x r in
       subst (λ y. e y ≡ after_edge p (clocked f.blocks) c c y) u.2 (follows_at c e fc fe h u.0 u.1 (subst (λ y. IsRegister f y) (sym u.2) r))
 
-  pub edge_follows : (c e : Cycle) → Fits f.signals c → Fits f.signals e → ((x : Name) → IsRegister f x → e x ≡ after_edge p (clocked f.blocks) c c x) → Follows f c e
+  pub edge_follows : (c e : Cycle) → AreFit f.signals c → AreFit f.signals e → ((x : Name) → IsRegister f x → e x ≡ after_edge p (clocked f.blocks) c c x) → Follows f c e
   edge_follows c e fc fe h = record {
     driven = λ k m t left n x b d.
         let is : DrivesBit p k.body x b = (left, n, full_drives f can.plain left x b d) in

@@ -14,7 +14,8 @@ use Rattle.elab_node.specs.Leaves.{declared}
 use Rattle.elab_node.proofs.Kept.{keeps_then, keeps_same}
 use Rattle.elab_block.specs.Standing.{AreShown}
 use Rattle.elab_block.specs.Runs.{AreSet, Runs}
-use Rattle.elab_step.specs.Solving.{alone, clocked, after_edge}
+use Rattle.flow_laws.specs.Laws.{place_over}
+use Rattle.elab_step.specs.Solving.{clocked, after_edge}
 use Rattle.elab_step.specs.Boards.{IsBoard, ShowsEdge}
 use Rattle.elab_step.proofs.Boards.{shown_kept, same_leaves}
 
@@ -30,7 +31,7 @@ running_start f ls ms a h e =
     subst P (sym e) (record { keeps = keeps_same a; set = record { ready = h.ready; seen = h.ready; same = refl; apart = h.apart }; same = refl; shows = λ e c s. (c, s, refl) })
 
 pub running_next : (f : Flat) (k : Always) (rest : List Always) (ls ms ks : List Leaf) (a b d : List Node) → IsBoard f.signals ls a → k.clocked ≡ true → Running f (k ∷ rest) ls a ms b → Keeps b d → declared ks ≡ declared ms → AreSet (Some ls) ks d
-    → Runs (Some ls) (λ gs. run false (alone gs) k.body) ms b ks d → Running f rest ls a ks d
+    → Runs (Some ls) (λ gs. run false (place_over gs) k.body) ms b ks d → Running f rest ls a ks d
 running_next f k rest ls ms ks a b d board t h keeps same set runs = record {
   keeps = keeps_then a b d h.keeps keeps;
   set = set;

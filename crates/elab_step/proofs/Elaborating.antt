@@ -22,8 +22,8 @@ use Rattle.elab_faults.specs.declared.fault.ElabFault.TheVariants as e
 use Rattle.elab_faults.specs.Paths.{IsConstant, Sets, AnySets, width_in}
 use Rattle.elab_faults.specs.Drivers.{DependsOn, HasTwoDrivers}
 use Rattle.elab_faults.specs.Stands.{Stands}
-use Rattle.flow_laws.specs.Laws.{AreVectors, BitsStay, BitsApart, StoreFollows, BitsFollow, HaveConstantParts}
-use Rattle.elab_step.specs.Solving.{processes, assigned_by, Fits, AreDistinct, ArePlain, alone, DrivesBit, IsNet}
+use Rattle.flow_laws.specs.Laws.{AreVectors, BitsStay, BitsApart, StoreFollows, BitsFollow, HaveConstantParts, AreFit, place_over}
+use Rattle.elab_step.specs.Solving.{processes, assigned_by, AreDistinct, ArePlain, DrivesBit, IsNet}
 use Rattle.elab_step.proofs.Solving.{bool_cases, AreProcesses}
 use Rattle.elab_step.proofs.Fitting.{positive, found_signal, run_fits}
 use Rattle.elab_step.proofs.Cycles.{drives_assigned, drives_name, processes_are, clocked_are, plain_signal, own_holder, IsSolvable, AreClocked}
@@ -55,7 +55,7 @@ mutual
 pub vectors : (gs : List Signal) → ArePlain gs → AreVectors gs
 vectors gs z g m = plain_signal gs g z m
 
-pub wide_as : (gs : List Signal) → AreDistinct (map (λ (h : Signal). h.name) gs) → (g : Signal) → Among gs g → width_in (alone gs) g.name ≡ g.width
+pub wide_as : (gs : List Signal) → AreDistinct (map (λ (h : Signal). h.name) gs) → (g : Signal) → Among gs g → width_in (place_over gs) g.name ≡ g.width
 wide_as gs d g m = ap (λ (o : Option Signal). unwrap_or (option_map (λ (h : Signal). h.width) o) 0) (found_signal gs g d m)
 
 module _ (f : Flat) (text : IsText f) (faultless : (x : ElabFault) → Stands f x → ⊥) (stay : BitsStay) (apart : BitsApart) (store : StoreFollows) (follow : BitsFollow) where
@@ -78,7 +78,7 @@ module _ (f : Flat) (text : IsText f) (faultless : (x : ElabFault) → Stands f 
       store f.signals a.left a.right c d c d x b (vectors f.signals text.plain) l (sets p a.left x b (λ n k. text.constant a n m k) u)
       (λ z k. agree z (is.no_register, inl (a, m, drives_name p a.left x b u, k)))
 
-  block_follows : (k : Always) → Among f.blocks k → k.clocked ≡ false → (x : Name) (b : ℕ) (c d : Cycle) → IsNet f x → b < width_in p x → DrivesBit p k.body x b → Fits f.signals c → Fits f.signals d → ((z : Name) → DependsOn f x z → c z ≡ d z)
+  block_follows : (k : Always) → Among f.blocks k → k.clocked ≡ false → (x : Name) (b : ℕ) (c d : Cycle) → IsNet f x → b < width_in p x → DrivesBit p k.body x b → AreFit f.signals c → AreFit f.signals d → ((z : Name) → DependsOn f x z → c z ≡ d z)
       → bit_at (run true p k.body c c x) b ≡ bit_at (run true p k.body d d x) b
   block_follows k m t x b c d is l h fc fd agree =
       follow f.signals k.body c d x b (vectors f.signals text.plain) (text.subjects k m) fc fd l
@@ -107,7 +107,7 @@ module _ (f : Flat) (text : IsText f) (faultless : (x : ElabFault) → Stands f 
           let Q : Stmt → Type 0 = λ j. DrivesBit p j x b in
           subst P e (assign_follows a m x b c d is l (subst Q (sym e) h) agree)
 
-      by_block : (a : Always) → Among f.blocks a → a.clocked ≡ false → (k : Stmt) → a.body ≡ k → (x : Name) (b : ℕ) (c d : Cycle) → IsNet f x → b < width_in p x → DrivesBit p k x b → Fits f.signals c → Fits f.signals d → ((z : Name) → DependsOn f x z → c z ≡ d z)
+      by_block : (a : Always) → Among f.blocks a → a.clocked ≡ false → (k : Stmt) → a.body ≡ k → (x : Name) (b : ℕ) (c d : Cycle) → IsNet f x → b < width_in p x → DrivesBit p k x b → AreFit f.signals c → AreFit f.signals d → ((z : Name) → DependsOn f x z → c z ≡ d z)
           → bit_at (run true p k c c x) b ≡ bit_at (run true p k d d x) b
       by_block a m t k e x b c d is l h fc fd agree =
           let P : Stmt → Type 0 = λ j. bit_at (run true p j c c x) b ≡ bit_at (run true p j d d x) b in

@@ -20,7 +20,8 @@ use Rattle.vlog_tree.specs.Value.{assigned}
 use Rattle.vlog_runs.specs.declared.flat.Signal.{Signal}
 use Rattle.vlog_runs.specs.Places.{Name, Cycle, Among, read, entries_of, held_entry, valuation, Piece, pieces, row_pieces, total, with_bit, write_bit, write_bits, put, give, store}
 use Rattle.vlog_runs.specs.Blocks.{run, run_row, run_items, run_default, seen, is_false, any_matches, is_default, labels_in, case_width, case_sign, signal_at}
-use Rattle.elab_step.specs.Solving.{Fits, AreDistinct, ArePlain, alone}
+use Rattle.flow_laws.specs.Laws.{AreFit, place_over}
+use Rattle.elab_step.specs.Solving.{AreDistinct, ArePlain}
 use Rattle.elab_step.proofs.Solving.{bool_cases, same_name, other_name}
 
 -- ---- bits of a number
@@ -101,9 +102,9 @@ no_depth (h ∷ gs) c x z =
     ∙ ⊎_elim (λ (e : bytes_eq h.name x ≡ true). rw e z.0) (λ (e : bytes_eq h.name x ≡ false). rw e (no_depth gs c x z.1)) (bool_cases (bytes_eq h.name x))
 
 module _ (gs : List Signal) (distinct : AreDistinct (map (λ (h : Signal). h.name) gs)) (plain : ArePlain gs) where
-  wide : (c : Cycle) (g : Signal) (x : Name) → Among gs g → g.name ≡ x → (named (valuation (alone gs) c) (read x)).width ≡ g.width
+  wide : (c : Cycle) (g : Signal) (x : Name) → Among gs g → g.name ≡ x → (named (valuation (place_over gs) c) (read x)).width ≡ g.width
   wide c g x m e =
-      subst (λ y. (named (valuation (alone gs) c) (read y)).width ≡ g.width) e
+      subst (λ y. (named (valuation (place_over gs) c) (read y)).width ≡ g.width) e
       (ap (λ (o : Option Entry). (unwrap_or (option_map meant o) (record { width = 1; low = 0; signed = false; value = 0 })).width) (found_entry gs c g distinct plain m))
 
   -- a part of a left side is no longer than its signal
@@ -118,63 +119,63 @@ module _ (gs : List Signal) (distinct : AreDistinct (map (λ (h : Signal). h.nam
   append_within [] qs h k = k
   append_within (p ∷ ps) qs h k = (h.0, append_within ps qs h.1 k)
 
-  here : (c : Cycle) (x : Name) (g : Signal) → Among gs g → x ≡ g.name → (named (valuation (alone gs) c) (read x)).width ≤ g.width
+  here : (c : Cycle) (x : Name) (g : Signal) → Among gs g → x ≡ g.name → (named (valuation (place_over gs) c) (read x)).width ≤ g.width
   here c x g m e = let h = wide c g x m (sym e) in omega (arith, h)
 
   mutual
-    pieces_within : (c : Cycle) (left : Lval) → AreWithin (pieces (alone gs) c left)
+    pieces_within : (c : Cycle) (left : Lval) → AreWithin (pieces (place_over gs) c left)
     pieces_within c (l.Name x) = (λ g m e. here c x g m e, tt)
-    pieces_within c (l.Select x a) = rw (eq-eqb (depth_of (valuation (alone gs) c) (read x)) 0 (no_depth gs c x plain)) (λ g m e. here c x g m e, tt)
+    pieces_within c (l.Select x a) = rw (eq-eqb (depth_of (valuation (place_over gs) c) (read x)) 0 (no_depth gs c x plain)) (λ g m e. here c x g m e, tt)
     pieces_within c (l.Part x span a b) = (λ g m e. here c x g m e, tt)
     pieces_within c (l.Concat' h row) = rows_within c row
 
-    rows_within : {m : _} (c : Cycle) (row : Row_of-Lval m) → AreWithin (row_pieces (alone gs) c row)
+    rows_within : {m : _} (c : Cycle) (row : Row_of-Lval m) → AreWithin (row_pieces (place_over gs) c row)
     rows_within c end_of-Lval = tt
-    rows_within c (more_of-Lval a rest) = append_within (pieces (alone gs) c a) (row_pieces (alone gs) c rest) (pieces_within c a) (rows_within c rest)
+    rows_within c (more_of-Lval a rest) = append_within (pieces (place_over gs) c a) (row_pieces (place_over gs) c rest) (pieces_within c a) (rows_within c rest)
 
-  put_fits : (q : Piece) (t : ℕ) (c : Cycle) → IsWithinSignal q → Fits gs c → Fits gs (put q t c)
+  put_fits : (q : Piece) (t : ℕ) (c : Cycle) → IsWithinSignal q → AreFit gs c → AreFit gs (put q t c)
   put_fits q t c w f g m =
       ⊎_elim
       (λ (e : bytes_eq q.name g.name ≡ true). rw e (write_fits q.size g.width q.from q.count t (c g.name) (w g m ((bytes_eq-Decides q.name g.name).0 e)) (f g m)))
       (λ (e : bytes_eq q.name g.name ≡ false). rw e (f g m))
       (bool_cases (bytes_eq q.name g.name))
 
-  give_fits : (qs : List Piece) (t : ℕ) (c : Cycle) → AreWithin qs → Fits gs c → Fits gs (give qs t c)
+  give_fits : (qs : List Piece) (t : ℕ) (c : Cycle) → AreWithin qs → AreFit gs c → AreFit gs (give qs t c)
   give_fits [] t c w f = f
   give_fits (q ∷ qs) t c w f = give_fits qs t (put q (t / 2 ^ total qs) c) w.1 (put_fits q (t / 2 ^ total qs) c w.0 f)
 
-  store_fits : (c : Cycle) (left : Lval) (right : Expr) (d : Cycle) → Fits gs d → Fits gs (store (alone gs) c left right d)
-  store_fits c left right d f = give_fits (pieces (alone gs) c left) (assigned (valuation (alone gs) c) right (total (pieces (alone gs) c left))) d (pieces_within c left) f
+  store_fits : (c : Cycle) (left : Lval) (right : Expr) (d : Cycle) → AreFit gs d → AreFit gs (store (place_over gs) c left right d)
+  store_fits c left right d f = give_fits (pieces (place_over gs) c left) (assigned (valuation (place_over gs) c) right (total (pieces (place_over gs) c left))) d (pieces_within c left) f
 
-  either_fits : (t : Bool) (d e : Cycle) → Fits gs d → Fits gs e → Fits gs (λ x. if t then d x else e x)
+  either_fits : (t : Bool) (d e : Cycle) → AreFit gs d → AreFit gs e → AreFit gs (λ x. if t then d x else e x)
   either_fits true d e f h = f
   either_fits false d e f h = h
 
   -- a statement, run either way
   mutual
-    pub run_fits : (o : Bool) (body : Stmt) (c d : Cycle) → Fits gs d → Fits gs (run o (alone gs) body c d)
+    pub run_fits : (o : Bool) (body : Stmt) (c d : Cycle) → AreFit gs d → AreFit gs (run o (place_over gs) body c d)
     run_fits o s.Empty c d f = f
     run_fits o (s.Block' n h row) c d f = row_fits o row c d f
     run_fits o (s.If' a h (more_of-Stmt body end_of-Stmt)) c d f =
-        either_fits (is_false (alone gs) (seen o c d) a) d (run o (alone gs) body c d) f (run_fits o body c d f)
+        either_fits (is_false (place_over gs) (seen o c d) a) d (run o (place_over gs) body c d) f (run_fits o body c d f)
     run_fits o (s.IfElse' a h (more_of-Stmt body end_of-Stmt) g (more_of-Stmt other end_of-Stmt)) c d f =
-        either_fits (is_false (alone gs) (seen o c d) a) (run o (alone gs) other c d) (run o (alone gs) body c d) (run_fits o other c d f) (run_fits o body c d f)
+        either_fits (is_false (place_over gs) (seen o c d) a) (run o (place_over gs) other c d) (run o (place_over gs) body c d) (run_fits o other c d f) (run_fits o body c d f)
     run_fits o (s.Case' kind a h row) c d f =
-        let v = valuation (alone gs) (seen o c d) in
-        items_fit o (any_matches kind v (case_width v a (labels_in row)) (case_sign v a (labels_in row)) a) row c d (run_default o (alone gs) row c d) f (default_fits o row c d f)
+        let v = valuation (place_over gs) (seen o c d) in
+        items_fit o (any_matches kind v (case_width v a (labels_in row)) (case_sign v a (labels_in row)) a) row c d (run_default o (place_over gs) row c d) f (default_fits o row c d f)
     run_fits o (s.Blocking left right) c d f = store_fits (seen o c d) left right d f
     run_fits o (s.Nonblocking left right) c d f = store_fits (seen o c d) left right d f
 
-    row_fits : {m : _} (o : Bool) (row : Row_of-Stmt m) (c d : Cycle) → Fits gs d → Fits gs (run_row o (alone gs) row c d)
+    row_fits : {m : _} (o : Bool) (row : Row_of-Stmt m) (c d : Cycle) → AreFit gs d → AreFit gs (run_row o (place_over gs) row c d)
     row_fits o end_of-Stmt c d f = f
-    row_fits o (more_of-Stmt a rest) c d f = row_fits o rest c (run o (alone gs) a c d) (run_fits o a c d f)
+    row_fits o (more_of-Stmt a rest) c d f = row_fits o rest c (run o (place_over gs) a c d) (run_fits o a c d f)
 
-    items_fit : {m : _} (o : Bool) (test : Labels → Bool) (row : Row_of-CaseItem m) (c d other : Cycle) → Fits gs d → Fits gs other → Fits gs (run_items o (alone gs) test row c d other)
+    items_fit : {m : _} (o : Bool) (test : Labels → Bool) (row : Row_of-CaseItem m) (c d other : Cycle) → AreFit gs d → AreFit gs other → AreFit gs (run_items o (place_over gs) test row c d other)
     items_fit o test end_of-CaseItem c d other f h = h
     items_fit o test (more_of-CaseItem labels body rest) c d other f h =
-        either_fits (test labels) (run o (alone gs) body c d) (run_items o (alone gs) test rest c d other) (run_fits o body c d f) (items_fit o test rest c d other f h)
+        either_fits (test labels) (run o (place_over gs) body c d) (run_items o (place_over gs) test rest c d other) (run_fits o body c d f) (items_fit o test rest c d other f h)
 
-    default_fits : {m : _} (o : Bool) (row : Row_of-CaseItem m) (c d : Cycle) → Fits gs d → Fits gs (run_default o (alone gs) row c d)
+    default_fits : {m : _} (o : Bool) (row : Row_of-CaseItem m) (c d : Cycle) → AreFit gs d → AreFit gs (run_default o (place_over gs) row c d)
     default_fits o end_of-CaseItem c d f = f
     default_fits o (more_of-CaseItem labels body rest) c d f =
-        either_fits (is_default labels) (run o (alone gs) body c d) (run_default o (alone gs) rest c d) (run_fits o body c d f) (default_fits o rest c d f)
+        either_fits (is_default labels) (run o (place_over gs) body c d) (run_default o (place_over gs) rest c d) (run_fits o body c d f) (default_fits o rest c d f)

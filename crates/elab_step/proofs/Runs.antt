@@ -10,7 +10,8 @@ use Rattle.word_design.specs.declared.design.Register.{Register}
 use Rattle.word_design.specs.Designs.{Parts, naming_of, IsCycleOf, HasRunsOf}
 use Rattle.elab_node.specs.Nodes.{number_at}
 use Rattle.elab_node.proofs.Kept.{word_is, number_fits}
-use Rattle.elab_step.specs.Solving.{clocked, processes, after_edge, solved, Fits, IsNet, IsNetOrder}
+use Rattle.flow_laws.specs.Laws.{AreFit}
+use Rattle.elab_step.specs.Solving.{clocked, processes, after_edge, solved, IsNet, IsNetOrder}
 use Rattle.elab_step.specs.Boards.{unset, IsSolved}
 use Rattle.elab_step.proofs.Solving.{bool_cases, other_name, solved_other}
 use Rattle.elab_step.proofs.Fitting.{positive}
@@ -23,7 +24,7 @@ among_false (y ∷ xs) x n = rw (other_name y x (λ e. n (inl e))) (among_false 
 unset_other : (xs : List Name) (c : Cycle) (z : Name) → (Among xs z → ⊥) → unset xs c z ≡ c z
 unset_other xs c z n = rw (among_false xs z n) refl
 
-unset_fits : (gs : List Signal) (xs : List Name) (c : Cycle) → Fits gs c → Fits gs (unset xs c)
+unset_fits : (gs : List Signal) (xs : List Name) (c : Cycle) → AreFit gs c → AreFit gs (unset xs c)
 unset_fits gs xs c h g m =
     ⊎_elim (λ (e : is_among xs g.name ≡ true). rw e (positive g.width)) (λ (e : is_among xs g.name ≡ false). rw e (h g m)) (bool_cases (is_among xs g.name))
 
@@ -31,7 +32,7 @@ module _ (f : Flat) (depends : Name → Name → Type 0) (width : Name → ℕ) 
   abbrev all_solved : Cycle → Cycle
   all_solved c = solved (flat_place f) (processes f) xs (unset xs c)
 
-  cycle_fits : (c : Cycle) → IsCycle f c → Fits f.signals c
+  cycle_fits : (c : Cycle) → IsCycle f c → AreFit f.signals c
   cycle_fits c h g m = h.fits g g m (holds_itself f.signals g can.plain m)
 
   -- in a cycle the nets are solved to it
@@ -44,7 +45,7 @@ module _ (f : Flat) (depends : Name → Name → Type 0) (width : Name → ℕ) 
       word_is (naming_of c) d.nodes n.node n.width is.fit r.4
       ∙ ap (λ v. record { width = n.width; value = v }) (r.5 c (cycle_fits c h) ∙ settles c h r.0.name ∙ ap c (sym r.2))
 
-  of_fits : (c : Cycle) → IsCycleOf d c → Fits f.signals c
+  of_fits : (c : Cycle) → IsCycleOf d c → AreFit f.signals c
   of_fits c h g m =
       let r = is.each_net g m in
       let n = is.net r.0 r.1 in

@@ -16,7 +16,8 @@ use Rattle.elab_node.specs.Nodes.{number_at}
 use Rattle.elab_node.proofs.Kept.{number_kept, ready_kept, keeps_then}
 use Rattle.elab_block.specs.Standing.{AreLeavesOf, AreShown}
 use Rattle.elab_block.specs.Runs.{AreSet}
-use Rattle.elab_step.specs.Solving.{clocked, processes, after_edge, solved, Fits}
+use Rattle.flow_laws.specs.Laws.{AreFit}
+use Rattle.elab_step.specs.Solving.{clocked, processes, after_edge, solved}
 use Rattle.elab_step.specs.Boards.{IsBoard, AreBegun, Shows, ShowsEdge, IsSolution, node_at, name_of, unset}
 use Rattle.elab_step.proofs.Boards.{shown_kept, shown_at, begun_kept, leaves_long}
 
@@ -49,7 +50,7 @@ AreFlags xs (g ∷ gs) (t ∷ ts) = (is_among xs g.name ≡ t) × AreFlags xs gs
 AreFlags xs gs ts = ⊥
 
 -- leaves that are begun show a cycle in which the nets are 0
-pub begun_shown : (ns : List Node) (xs : List Name) (c : Cycle) (gs : List Signal) (ts : List Bool) (ls : List Leaf) → AreFlags xs gs ts → AreBegun ns gs ts ls → Fits gs c → AreShown (naming_of c) ns ls (unset xs c)
+pub begun_shown : (ns : List Node) (xs : List Name) (c : Cycle) (gs : List Signal) (ts : List Bool) (ls : List Leaf) → AreFlags xs gs ts → AreBegun ns gs ts ls → AreFit gs c → AreShown (naming_of c) ns ls (unset xs c)
 begun_shown ns xs c [] [] [] f h fits = tt
 begun_shown ns xs c [] [] (l ∷ ls) f h fits = absurd h
 begun_shown ns xs c [] (t ∷ ts) ls f h fits = absurd f
@@ -64,7 +65,7 @@ begun_shown ns xs c (g ∷ gs) (false ∷ ts) (l ∷ ls) f h fits = (
   begun_shown ns xs c gs ts ls f.1 h.2 (λ k m. fits k (inr m)),
 )
 
-module _ (f : Flat) (xs : List Name) (ts : List Bool) (ns : List Node) (first now next : List Leaf) (is : IsSolution f xs ts ns first now next) (flags : AreFlags xs f.signals ts) (c : Cycle) (fits : Fits f.signals c) where
+module _ (f : Flat) (xs : List Name) (ts : List Bool) (ns : List Node) (first now next : List Leaf) (is : IsSolution f xs ts ns first now next) (flags : AreFlags xs f.signals ts) (c : Cycle) (fits : AreFit f.signals c) where
   abbrev solved_to : Cycle
   solved_to = solved (flat_place f) (processes f) xs (unset xs c)
 

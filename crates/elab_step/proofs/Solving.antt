@@ -11,7 +11,8 @@ use Rattle.vlog_runs.specs.declared.flat.Signal.{Signal}
 use Rattle.vlog_runs.specs.Places.{Name, Cycle, Among, Place}
 use Rattle.vlog_runs.specs.Contents.{is_among}
 use Rattle.vlog_runs.specs.Blocks.{run}
-use Rattle.elab_step.specs.Solving.{assigned_by, drivers_of, taking, driven, settled, solved, Fits, DrivesBit, AreApart, Meets, IsOrder}
+use Rattle.flow_laws.specs.Laws.{AreFit}
+use Rattle.elab_step.specs.Solving.{assigned_by, drivers_of, taking, driven, settled, solved, DrivesBit, AreApart, Meets, IsOrder}
 
 -- ---- names and numbers
 
@@ -43,7 +44,7 @@ taken x d c = ap (λ (b : Bool). if b then d x else c x) (same_name x)
 pub kept : (x y : Name) (d c : Cycle) → x ≢ y → taking x d c y ≡ c y
 kept x y d c n = ap (λ (b : Bool). if b then d y else c y) (other_name x y n)
 
-fits_taking : (gs : List Signal) (x : Name) (d c : Cycle) → Fits gs d → Fits gs c → Fits gs (taking x d c)
+fits_taking : (gs : List Signal) (x : Name) (d c : Cycle) → AreFit gs d → AreFit gs c → AreFit gs (taking x d c)
 fits_taking gs x d c h k g m =
     ⊎_elim
     (λ (e : bytes_eq x g.name ≡ true). subst (λ n. n < 2 ^ g.width) (sym (ap (λ (b : Bool). if b then d g.name else c g.name) e)) (h g m))
@@ -54,13 +55,13 @@ fits_taking gs x d c h k g m =
 
 -- of statements over signals: `net` tells the names that are solved, `depends` what they depend on, `width` their lengths
 pub record AreProcesses (p : Place) (gs : List Signal) (ks : List Stmt) (net : Name → Type 0) (depends : Name → Name → Type 0) (width : Name → ℕ) : Type 0 where
-  pub follows : (k : Stmt) → Among ks k → (x : Name) (b : ℕ) (c d : Cycle) → net x → b < width x → DrivesBit p k x b → Fits gs c → Fits gs d →
+  pub follows : (k : Stmt) → Among ks k → (x : Name) (b : ℕ) (c d : Cycle) → net x → b < width x → DrivesBit p k x b → AreFit gs c → AreFit gs d →
       ((z : Name) → depends x z → c z ≡ d z) → bit_at (run true p k c c x) b ≡ bit_at (run true p k d d x) b
   pub stays : (k : Stmt) → Among ks k → (x : Name) (b : ℕ) (c : Cycle) → (DrivesBit p k x b → ⊥) → bit_at (run true p k c c x) b ≡ bit_at (c x) b
-  pub fits : (k : Stmt) → Among ks k → (c : Cycle) → Fits gs c → Fits gs (run true p k c c)
+  pub fits : (k : Stmt) → Among ks k → (c : Cycle) → AreFit gs c → AreFit gs (run true p k c c)
   pub apart : (x : Name) (b : ℕ) → net x → b < width x → AreApart p ks x b
   pub names : (k : Stmt) (x : Name) (b : ℕ) → Among ks k → DrivesBit p k x b → Among (assigned_by k) x
-  pub long : (x : Name) → net x → (c : Cycle) → Fits gs c → c x < 2 ^ width x
+  pub long : (x : Name) → net x → (c : Cycle) → AreFit gs c → c x < 2 ^ width x
   pub positive : (g : Signal) → Among gs g → 0 < 2 ^ g.width
 
 module _ (p : Place) (gs : List Signal) (all : List Stmt) (net : Name → Type 0) (depends : Name → Name → Type 0) (width : Name → ℕ)
@@ -74,15 +75,15 @@ module _ (p : Place) (gs : List Signal) (all : List Stmt) (net : Name → Type 0
   settled_other : (ks : List Stmt) (x y : Name) (c : Cycle) → x ≢ y → settled p ks x c y ≡ c y
   settled_other ks x y c n = driven_other ks x y (taking x (λ z. 0) c) n ∙ kept x y (λ z. 0) c n
 
-  driven_fits : (ks : List Stmt) (x : Name) (c : Cycle) → ((k : Stmt) → Among ks k → Among all k) → Fits gs c → Fits gs (driven p ks x c)
+  driven_fits : (ks : List Stmt) (x : Name) (c : Cycle) → ((k : Stmt) → Among ks k → Among all k) → AreFit gs c → AreFit gs (driven p ks x c)
   driven_fits [] x c i h = h
   driven_fits (k ∷ ks) x c i h =
       driven_fits ks x (taking x (run true p k c c) c) (λ j m. i j (inr m)) (fits_taking gs x (run true p k c c) c (laws.fits k (i k (inl refl)) c h) h)
 
-  zero_fits : Fits gs (λ y. 0)
+  zero_fits : AreFit gs (λ y. 0)
   zero_fits g m = laws.positive g m
 
-  settled_fits : (ks : List Stmt) (x : Name) (c : Cycle) → ((k : Stmt) → Among ks k → Among all k) → Fits gs c → Fits gs (settled p ks x c)
+  settled_fits : (ks : List Stmt) (x : Name) (c : Cycle) → ((k : Stmt) → Among ks k → Among all k) → AreFit gs c → AreFit gs (settled p ks x c)
   settled_fits ks x c i h = driven_fits ks x (taking x (λ y. 0) c) i (fits_taking gs x (λ y. 0) c zero_fits h)
 
   -- a bit that none of them drives stays
@@ -94,7 +95,7 @@ module _ (p : Place) (gs : List Signal) (all : List Stmt) (net : Name → Type 0
 
   -- a bit that one of them drives has what this one gives, in every cycle with the same values of what the net depends on
   bit_taken : (ks : List Stmt) (x : Name) (b : ℕ) (c d : Cycle) (k : Stmt) → ((j : Stmt) → Among ks j → Among all j) → net x → b < width x → AreApart p ks x b → Among ks k → DrivesBit p k x b
-      → Fits gs c → Fits gs d → ((z : Name) → depends x z → (x ≢ z) × (c z ≡ d z)) → bit_at (driven p ks x c x) b ≡ bit_at (run true p k d d x) b
+      → AreFit gs c → AreFit gs d → ((z : Name) → depends x z → (x ≢ z) × (c z ≡ d z)) → bit_at (driven p ks x c x) b ≡ bit_at (run true p k d d x) b
   bit_taken [] x b c d k i n l a m h f g e = absurd m
   bit_taken (j ∷ ks) x b c d k i n l a m h f g e =
       ⊎_elim
@@ -149,7 +150,7 @@ module _ (p : Place) (gs : List Signal) (all : List Stmt) (net : Name → Type 0
   chosen_apart (j ∷ ks) x b a =
       listed_apart (is_among (assigned_by j) x) j (drivers_of ks x) x b (λ h k m. a.0 h k (chosen_all ks x k m)) (chosen_apart ks x b a.1)
 
-  module _ (x : Name) (is : net x) (c d : Cycle) (fc : Fits gs c) (fd : Fits gs d) (agree : (z : Name) → depends x z → (x ≢ z) × (c z ≡ d z)) where
+  module _ (x : Name) (is : net x) (c d : Cycle) (fc : AreFit gs c) (fd : AreFit gs d) (agree : (z : Name) → depends x z → (x ≢ z) × (c z ≡ d z)) where
     abbrev ks : List Stmt
     ks = drivers_of all x
 
@@ -186,12 +187,12 @@ module _ (p : Place) (gs : List Signal) (all : List Stmt) (net : Name → Type 0
   solved_other [] c z n = refl
   solved_other (x ∷ xs) c z n = solved_other xs (settled p (drivers_of all x) x c) z (λ m. n (inr m)) ∙ settled_other (drivers_of all x) x z c (λ e. n (inl e))
 
-  pub solved_fits : (xs : List Name) (c : Cycle) → Fits gs c → Fits gs (solved p all xs c)
+  pub solved_fits : (xs : List Name) (c : Cycle) → AreFit gs c → AreFit gs (solved p all xs c)
   solved_fits [] c f = f
   solved_fits (x ∷ xs) c f = solved_fits xs (settled p (drivers_of all x) x c) (settled_fits (drivers_of all x) x c (chosen_all all x) f)
 
   -- a cycle that meets the equations of all nets is the one that is solved
-  pub solved_only : (xs : List Name) (c d : Cycle) → IsOrder depends xs → ((x : Name) → Among xs x → net x) → Fits gs c → Fits gs d
+  pub solved_only : (xs : List Name) (c d : Cycle) → IsOrder depends xs → ((x : Name) → Among xs x → net x) → AreFit gs c → AreFit gs d
       → ((z : Name) → (Among xs z → ⊥) → c z ≡ d z) → ((x : Name) → Among xs x → Meets p all x (width x) d) → (z : Name) → solved p all xs c z ≡ d z
   solved_only [] c d o is fc fd agree h z = agree z (λ m. m)
   solved_only (x ∷ xs) c d o is fc fd agree h z =
@@ -203,7 +204,7 @@ module _ (p : Place) (gs : List Signal) (all : List Stmt) (net : Name → Type 0
       (λ y m. h y (inr m)) z
 
   -- and the one that is solved meets them
-  pub solved_meets : (xs : List Name) (c d : Cycle) → IsOrder depends xs → ((x : Name) → Among xs x → net x) → Fits gs c → Fits gs d
+  pub solved_meets : (xs : List Name) (c d : Cycle) → IsOrder depends xs → ((x : Name) → Among xs x → net x) → AreFit gs c → AreFit gs d
       → ((z : Name) → solved p all xs c z ≡ d z) → (x : Name) → Among xs x → Meets p all x (width x) d
   solved_meets [] c d o is fc fd h y m = absurd m
   solved_meets (x ∷ xs) c d o is fc fd h y m =

@@ -21,7 +21,8 @@ use Rattle.elab_node.specs.Leaves.{AreReady}
 use Rattle.elab_node.specs.Nodes.{IsNode, number_at}
 use Rattle.elab_block.specs.Standing.{IsLeafOf, AreLeavesOf, AreApart, AreShown}
 use Rattle.elab_block.specs.Runs.{AreSet}
-use Rattle.elab_step.specs.Solving.{clocked, processes, drivers_of, after_edge, solved, Fits}
+use Rattle.flow_laws.specs.Laws.{AreFit}
+use Rattle.elab_step.specs.Solving.{clocked, processes, drivers_of, after_edge, solved}
 
 -- a leaf for each signal, in their order, each with a node of its length
 pub record IsBoard (gs : List Signal) (ls : List Leaf) (ns : List Node) : Type 0 where
@@ -88,10 +89,10 @@ unset xs c z = if is_among xs z then 0 else c z
 pub record IsSolved (f : Flat) (xs : List Name) (d : Parts) : Type 0 where
   pub fit : FitFrom [] d.nodes
   pub net : (n : Net) → Among d.nets n → (g : Signal) × Among f.signals g × (n.name ≡ g.name) × (n.width ≡ g.width) × IsNode d.nodes n.node n.width
-      × ((c : Cycle) → Fits f.signals c → number_at (naming_of c) d.nodes n.node ≡ solved (flat_place f) (processes f) xs (unset xs c) g.name)
+      × ((c : Cycle) → AreFit f.signals c → number_at (naming_of c) d.nodes n.node ≡ solved (flat_place f) (processes f) xs (unset xs c) g.name)
   pub each_net : (g : Signal) → Among f.signals g → (n : Net) × Among d.nets n × (n.name ≡ g.name) × (n.width ≡ g.width)
   pub register : (r : Register) → Among d.registers r → IsRegister f r.name × IsNode d.nodes r.next r.width
-      × ((c : Cycle) → Fits f.signals c → let now = solved (flat_place f) (processes f) xs (unset xs c) in number_at (naming_of c) d.nodes r.next ≡ after_edge (flat_place f) (clocked f.blocks) now now r.name)
+      × ((c : Cycle) → AreFit f.signals c → let now = solved (flat_place f) (processes f) xs (unset xs c) in number_at (naming_of c) d.nodes r.next ≡ after_edge (flat_place f) (clocked f.blocks) now now r.name)
   pub each_register : (x : Name) → IsRegister f x → (r : Register) × Among d.registers r × (r.name ≡ x)
 
 abbrev pub names_of : List Signal → List ℕ → List Name

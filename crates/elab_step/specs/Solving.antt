@@ -1,5 +1,5 @@
 -- A module without instances, solved one net after another (IEEE 1364-2005, sections 6.1 and 9.2).
-use Rattle.std.specs.Prelude.{ℕ, ◌≡◌, ◌^◌, ◌<◌, ◌⊎◌, true, false, List, [], ◌∷◌, ◌++◌, map, if◌then◌else◌}
+use Rattle.std.specs.Prelude.{ℕ, ◌≡◌, ◌<◌, ◌⊎◌, true, false, List, [], ◌∷◌, ◌++◌, map, if◌then◌else◌}
 use Rattle.std.specs.Int.{bit_at}
 use Rattle.std.specs.List.{flat_map}
 use Rattle.std.specs.Str.{bytes_eq}
@@ -56,10 +56,6 @@ abbrev pub solved : Place → List Stmt → List Name → Cycle → Cycle
 solved p ks [] c = c
 solved p ks (x ∷ xs) c = solved p ks xs (settled p (drivers_of ks x) x c)
 
--- the values are of their signals' lengths
-abbrev pub Fits : List Signal → Cycle → Type 0
-Fits gs c = (g : Signal) → Among gs g → c g.name < 2 ^ g.width
-
 -- no name stands twice
 abbrev pub AreDistinct : List Name → Type 0
 AreDistinct [] = Unit {0}
@@ -69,10 +65,6 @@ AreDistinct (x ∷ xs) = (Among xs x → ⊥) × AreDistinct xs
 abbrev pub ArePlain : List Signal → Type 0
 ArePlain [] = Unit {0}
 ArePlain (g ∷ gs) = (g.depth ≡ 0) × ArePlain gs
-
--- the place of a module without instances
-abbrev pub alone : List Signal → Place
-alone gs = record { prefix = []; signals = gs; params = [] }
 
 -- a statement drives bit b of x
 abbrev pub DrivesBit : Place → Stmt → Name → ℕ → Type 0

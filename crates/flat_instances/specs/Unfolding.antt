@@ -91,7 +91,7 @@ pub record IsUnfolding (ms : List Module) (top : Name) (ss : List Scope) (k : �
   pub distinct : AreDistinct paths
   pub sound : (s : Scope) → Among (take k ss) s → HasSoundInners ms s
 
--- all scopes of a list of modules: each with sound parameters, and in the order in which each one's instances come after one another
+-- all scopes of a list of modules, the instances of each with sound parameters
 pub record AreUnfolded (ms : List Module) (top : Name) (ss : List Scope) : Type 0 where
   pub scopes : AreScopes ms top ss
   pub sound : (s : Scope) → Among ss s → HasSoundInners ms s

@@ -90,7 +90,7 @@ fn override_of<'a>(text: &Module, param: &Param<'_>, given: Option<&'a Expr>) ->
 }
 
 /// What the parameters of an instance of a module stand for, `given` its overrides, which are read over the outer parameters. The
-/// parameters stand in the order of their declarations, each over those before it. A refusal names the first one that has no value.
+/// parameters stand in the order of their declarations, each over those before it. A refusal names one that has no value.
 pub fn params_of(
     alloc: Global,
     text: &Module,

@@ -1,6 +1,6 @@
 use Rattle.std.proofs.Common.{◌≡◌, ◌++◌, drop, map}
 use Rattle.flat_scopes.specs.Borrowed.{name_meant}
-use Rattle.elab_flow.specs.Marks.{signal_name}
+use Rattle.elab_drive.specs.Spots.{signal_name}
 use Rattle.elab_flow.proofs.marks.names_of.Given as goal
 
 abbrev pub invariant-loop-signal : goal.invariant-loop-signal

@@ -3,7 +3,7 @@ use Rattle.std.specs.Prelude.{IfSome}
 use Rattle.vlog_runs.specs.declared.flat.Signal.{Signal}
 use Rattle.vlog_runs.specs.Places.{Name}
 use Rattle.flat_scopes.specs.Finding.{place_in}
-use Rattle.elab_flow.specs.Marks.{signal_name}
+use Rattle.elab_drive.specs.Spots.{signal_name}
 use Rattle.elab_flow.proofs.Marking.{place_below}
 use Rattle.elab_flow.proofs.Setting.{names_length}
 use Rattle.elab_flow.proofs.words.place_of.Goals as goal
