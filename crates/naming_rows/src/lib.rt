@@ -1,11 +1,9 @@
-//! Rows of what stands for names: leaves, ranges, places of names, and a set that is read.
+//! Rows of what stands for names: leaves, ranges and places of names.
 #![tactic(auto)]
 
 #[cfg(test)]
 mod leaves;
 #[cfg(test)]
 mod names;
-#[cfg(test)]
-mod sets;
 #[cfg(test)]
 mod vectors;
