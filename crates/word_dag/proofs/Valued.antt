@@ -7,9 +7,9 @@ use Rattle.word_dag.specs.declared.node.Node.TheVariants.{Free, Const, Two, Not,
 use Rattle.word_dag.specs.declared.fold.Folded.{Folded}
 use Rattle.word_dag.specs.declared.fold.Folded.TheVariants.{Make, Is}
 use Rattle.word_dag.specs.Nodes.{FitsNode, FitFrom, width_of, width_at, node_value, op_value, word_at, Naming, named, dag_values}
-use Rattle.word_dag.specs.Given.{widths_of}
+use Rattle.word_dag.specs.Given.{widths_of, is_free}
 use Rattle.word_dag.specs.Prints.{print_of}
-use Rattle.word_dag.specs.Adding.{constant_of, constant_at, made_of, made_of_two, chosen, folded, IsAt, IsDistinct, HasValueOf, Keeps, Adds}
+use Rattle.word_dag.specs.Adding.{constant_of, constant_at, made_of, made_of_two, chosen, folded, IsAt, IsDistinct, HasValueOf, Grows, AddsNoFree, Keeps, Adds}
 use Rattle.word_dag.specs.Holds.{IsDag}
 use Rattle.word_dag.proofs.Operands.{width_at-words}
 use Rattle.word_dag.proofs.Widths.{width-node_value}
@@ -143,16 +143,57 @@ is_dag_push ns new m prints more print d fits fresh ep en em = record {
 pub is_dag_same : (ns new : List Node) (prints more : List ℕ) → IsDag ns prints → new ≡ ns → more ≡ prints → IsDag new more
 is_dag_same ns new prints more d en em = rw (en, em) d
 
-keeps_same : (old new : List Node) → new ≡ old → Keeps old new
-keeps_same old new e = record { more = ([], e ∙ sym (append_nil old)); longer = omega (arith, ap length e); widths = λ i lt. ap (λ k. slice_index (map width_of k) i) e; values = λ v i lt. ap (λ k. word_at (dag_values v [] k) i) e }
+grows_same : (old new : List Node) → new ≡ old → Grows old new
+grows_same old new e = record { more = ([], e ∙ sym (append_nil old)); longer = omega (arith, ap length e); widths = λ i lt. ap (λ k. slice_index (map width_of k) i) e; values = λ v i lt. ap (λ k. word_at (dag_values v [] k) i) e }
 
-keeps_push : (old new : List Node) (m : Node) → new ≡ old ++ m ∷ [] → Keeps old new
-keeps_push old new m e = record {
+grows_push : (old new : List Node) (m : Node) → new ≡ old ++ m ∷ [] → Grows old new
+grows_push old new m e = record {
   more = (m ∷ [], e);
   longer = omega (arith, ap length e, length-append old (m ∷ []));
   widths = λ i lt. ap (λ k. slice_index (map width_of k) i) e ∙ width_at-map (old ++ m ∷ []) i ∙ width_at-front old (m ∷ []) i lt ∙ sym (width_at-map old i);
   values = λ v i lt. ap (λ k. word_at (dag_values v [] k) i) e ∙ ap (λ k. word_at k i) (dag_values-push v [] old m) ∙ word_at-front (dag_values v [] old) (node_value (named v m) (dag_values v [] old) m ∷ []) i (omega (arith, length-dag_values v [] old, lt));
 }
+
+pub keeps_grown : (old new : List Node) → Grows old new → AddsNoFree old new → Keeps old new
+keeps_grown old new g f = record { more = g.more; longer = g.longer; widths = g.widths; values = g.values; frees = f }
+
+pub grows_kept : (old new : List Node) → Keeps old new → Grows old new
+grows_kept old new k = record { more = k.more; longer = k.longer; widths = k.widths; values = k.values }
+
+frees_same : (old new : List Node) → new ≡ old → AddsNoFree old new
+frees_same old new e n i free at = subst (λ k. IsAt k i n) e at
+
+-- a node that isn't free adds no free word
+frees_push : (old new : List Node) (m : Node) → is_free m ≡ false → new ≡ old ++ m ∷ [] → AddsNoFree old new
+frees_push old new m bound e n i free at =
+    let there : IsAt (old ++ m ∷ []) i n = subst (λ k. IsAt k i n) e at in
+    elim (end_or i (length old) (omega (arith, there.0, length-append old (m ∷ [])))) [
+    | inl lt ↦ at_before old m n i lt there
+    | inr last ↦ (let same : n ≡ m = at_end old m n (subst (λ k. IsAt (old ++ m ∷ []) k n) last there) in let h : true ≡ false = sym free ∙ ap is_free same ∙ bound in cc)
+    ]
+
+-- what a node that isn't free is folded to isn't free
+made_bound : (n m : Node) (f : Bits → Bits) (v : Option Bits) → is_free n ≡ false → made_of n f v ≡ Make m → is_free m ≡ false
+made_bound n m f None bound e = (let h : n ≡ m = cc in subst (λ k. is_free k ≡ false) h bound)
+made_bound n m f (Some w) bound e = (let h : Const (f w) ≡ m = cc in subst (λ k. is_free k ≡ false) h refl)
+
+folded_bound : (ns : List Node) (n m : Node) → is_free n ≡ false → folded ns n ≡ Make m → is_free m ≡ false
+folded_bound ns (Free name width side cycle) m bound e = cc
+folded_bound ns (Const w) m bound e = (let h : Const w ≡ m = cc in subst (λ k. is_free k ≡ false) h refl)
+folded_bound ns (Two op width a b) m bound e = two (constant_at ns a) e
+  where
+    two : (v : Option Bits) → made_of_two (Two op width a b) (op_value op) v (constant_at ns b) ≡ Make m → is_free m ≡ false
+    two None e = (let h : Two op width a b ≡ m = cc in subst (λ k. is_free k ≡ false) h refl)
+    two (Some w) e = made_bound (Two op width a b) m (op_value op w) (constant_at ns b) refl e
+folded_bound ns (Not width a) m bound e = made_bound (Not width a) m not_of (constant_at ns a) refl e
+folded_bound ns (Slice width a lo) m bound e = made_bound (Slice width a lo) m (λ w. slice_of w lo width) (constant_at ns a) refl e
+folded_bound ns (Zext width a) m bound e = made_bound (Zext width a) m (λ w. zext_of w width) (constant_at ns a) refl e
+folded_bound ns (Sext width a) m bound e = made_bound (Sext width a) m (λ w. sext_of w width) (constant_at ns a) refl e
+folded_bound ns (Mux width c a b) m bound e = choice (constant_at ns c) e
+  where
+    choice : (v : Option Bits) → chosen (Mux width c a b) a b v ≡ Make m → is_free m ≡ false
+    choice None e = (let h : Mux width c a b ≡ m = cc in subst (λ k. is_free k ≡ false) h refl)
+    choice (Some w) e = cc
 
 no_names : Naming
 no_names name side cycle = 0
@@ -170,7 +211,8 @@ module _ (old new : List Node) (n : Node) (i : ℕ) (fit : FitFrom [] old) (fits
       let value : HasValueOf old new n i = λ e. ap (λ k. word_at (dag_values e [] k) i) en ∙ ap (word_at (dag_values e [] old)) ei ∙ ap (folded_value e old) (sym fo) ∙ folded_means e old fit n in
       record {
         puts = rw fo (en, ei);
-        keeps = keeps_same old new en;
+        grows = grows_same old new en;
+        keeps = λ bound. keeps_grown old new (grows_same old new en) (frees_same old new en);
         within = omega (arith, ap length en);
         wide = width_at-map new i ∙ wide_by_value (rw en fit) value;
         value = value;
@@ -181,7 +223,8 @@ module _ (old new : List Node) (n : Node) (i : ℕ) (fit : FitFrom [] old) (fits
       let value : HasValueOf old new n i = λ e. ap (λ k. word_at (dag_values e [] k) i) en ∙ value_there e old i m fit at ∙ ap (folded_value e old) (sym fo) ∙ folded_means e old fit n in
       record {
         puts = rw fo (inl (en, at));
-        keeps = keeps_same old new en;
+        grows = grows_same old new en;
+        keeps = λ bound. keeps_grown old new (grows_same old new en) (frees_same old new en);
         within = omega (arith, ap length en, at.0);
         wide = width_at-map new i ∙ wide_by_value (rw en fit) value;
         value = value;
@@ -192,7 +235,8 @@ module _ (old new : List Node) (n : Node) (i : ℕ) (fit : FitFrom [] old) (fits
       let value : HasValueOf old new n i = λ e. (let v = node_value (named e m) (dag_values e [] old) m in let long : i ≡ length (dag_values e [] old) = omega (arith, length-dag_values e [] old) in ap (λ k. word_at (dag_values e [] k) i) en ∙ ap (λ k. word_at k i) (dag_values-push e [] old m) ∙ ap (word_at (dag_values e [] old ++ v ∷ [])) long ∙ word_at-last (dag_values e [] old) v ∙ ap (folded_value e old) (sym fo) ∙ folded_means e old fit n) in
       record {
         puts = rw fo (inr (en, ei, fresh));
-        keeps = keeps_push old new m en;
+        grows = grows_push old new m en;
+        keeps = λ bound. keeps_grown old new (grows_push old new m en) (frees_push old new m (folded_bound old n m bound fo) en);
         within = omega (arith, ap length en, length-append old (m ∷ []));
         wide = width_at-map new i ∙ wide_by_value (rw en (FitFrom-push [] old m fit fm)) value;
         value = value;

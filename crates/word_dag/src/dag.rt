@@ -2,7 +2,7 @@
 ghost use Rattle.std.specs.Prelude.{◌≡◌, ℕ, ◌<◌, ◌++◌, ◌∷◌, [], length, map, get_or, IfOk, OnErr, OnOk};
 ghost use Rattle.word_dag.specs.Nodes.{FitFrom, FitsNode, width_of};
 ghost use Rattle.word_dag.specs.Prints.{print_of};
-ghost use Rattle.word_dag.specs.Adding.{IsFound, IsDistinct, Adds, Keeps};
+ghost use Rattle.word_dag.specs.Adding.{IsFound, IsDistinct, Adds};
 
 use crate::fold::{Folded, fold};
 use crate::index::Index;
