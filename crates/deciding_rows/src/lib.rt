@@ -1,10 +1,12 @@
-//! Rows of the deciding layer: words, their clauses, derivations, the solver and the workers.
+//! Rows of the deciding layer: words, their clauses, derivations, the solver, helpers and the workers.
 #![tactic(auto)]
 
 #[cfg(test)]
 mod clauses;
 #[cfg(test)]
 mod derivations;
+#[cfg(test)]
+mod helpers;
 #[cfg(test)]
 mod jobs;
 #[cfg(test)]

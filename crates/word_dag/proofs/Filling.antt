@@ -15,7 +15,7 @@ pub record FillLoop (us0 us : List ℕ) (words : List Bits) (nodes : List Node) 
   pub fit : FitFrom (widths_of (take i words)) (drop i nodes)
   pub given : AllFit us (drop i nodes)
 
-drop_at : (nodes : List Node) (i : ℕ) (n : Node) → i < length nodes → n ≡ get_or nodes i n → drop i nodes ≡ n ∷ drop (i + 1) nodes
+pub drop_at : (nodes : List Node) (i : ℕ) (n : Node) → i < length nodes → n ≡ get_or nodes i n → drop i nodes ≡ n ∷ drop (i + 1) nodes
 drop_at nodes i n lt e = rw add-one (drop-cons nodes i n lt ∙ ap (λ k. k ∷ drop (suc i) nodes) (sym e))
 
 widths_push : (ws : List Bits) (w : Bits) → widths_of (ws ++ w ∷ []) ≡ widths_of ws ++ w.width ∷ []
@@ -44,7 +44,7 @@ fill_step us0 us words nodes i n w us' lt room e ew eu r =
       given = subst (λ k. AllFit k (drop (i + 1) nodes)) (sym eu) given.1;
     }
 
-drop_all : (nodes : List Node) (i : ℕ) → length nodes ≤ i → drop i nodes ≡ []
+pub drop_all : (nodes : List Node) (i : ℕ) → length nodes ≤ i → drop i nodes ≡ []
 drop_all [] zero le = refl
 drop_all [] (suc i) le = refl
 drop_all (x ∷ xs) zero le = absurd (omega arith)

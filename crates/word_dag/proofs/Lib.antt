@@ -1,6 +1,7 @@
 pub mod Operands
 pub mod Widths
 pub mod Filling
+pub mod Fitting
 pub mod NodeValues
 pub mod Walking
 pub mod IndexKeys

@@ -168,8 +168,8 @@ frees_push : (old new : List Node) (m : Node) → is_free m ≡ false → new �
 frees_push old new m bound e n i free at =
     let there : IsAt (old ++ m ∷ []) i n = subst (λ k. IsAt k i n) e at in
     elim (end_or i (length old) (omega (arith, there.0, length-append old (m ∷ [])))) [
-    | inl lt ↦ at_before old m n i lt there
-    | inr last ↦ (let same : n ≡ m = at_end old m n (subst (λ k. IsAt (old ++ m ∷ []) k n) last there) in let h : true ≡ false = sym free ∙ ap is_free same ∙ bound in cc)
+      | inl lt ↦ at_before old m n i lt there
+      | inr last ↦ (let same : n ≡ m = at_end old m n (subst (λ k. IsAt (old ++ m ∷ []) k n) last there) in let h : true ≡ false = sym free ∙ ap is_free same ∙ bound in cc)
     ]
 
 -- what a node that isn't free is folded to isn't free

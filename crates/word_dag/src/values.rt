@@ -1,5 +1,5 @@
 //! The value of an obligation.
-ghost use Rattle.std.specs.Prelude.{◌≡◌, ◌≤◌, ◌^◌, ◌<◌, ℕ, [], length, take, slice_index, IfOk};
+ghost use Rattle.std.specs.Prelude.{◌≡◌, ◌≤◌, ◌^◌, ◌<◌, ◌↔◌, ℕ, [], length, take, slice_index, IfOk, IsTrue};
 ghost use Rattle.word_core.specs.Words.{Bits};
 ghost use Rattle.word_dag.specs.Nodes.{FitsOp, FitsNode, FitFrom, IsOb, word_at, op_value, node_value, left_after, ob_values, root_value};
 ghost use Rattle.word_dag.specs.Given.{widths_of, FitsFree, AllFit, is_free};
@@ -119,6 +119,37 @@ fn left_over<'a>(node: &Node, left: &'a [u64]) -> &'a [u64]
     } else {
         left
     }
+}
+
+// Whether a number has at most so many bits.
+fn has_width(value: u64, width: u8) -> bool
+    ensures { IsTrue result ↔ (value < 2 ^ width) }
+{
+    width >= 64 || value >> width == 0
+}
+
+// Whether a free node can have this value.
+fn fits_free(node: &Node, value: u64) -> bool
+    ensures { IsTrue result ↔ FitsFree node.now value }
+{
+    match node {
+        Node::Free { width, .. } => has_width(value, *width),
+        _ => true,
+    }
+}
+
+/// Whether the free nodes can have these values, one each in number order: each is within its width.
+pub fn fits(nodes: &[Node], values: &[u64]) -> bool
+    ensures { IsTrue result ↔ AllFit values.now nodes.now }
+{
+    let mut left = values;
+    for node in nodes {
+        if !fits_free(node, first_or_zero(left)) {
+            return false;
+        }
+        left = left_over(node, left);
+    }
+    true
 }
 
 // Writes the words of the nodes into the table, and gives the root's.

@@ -1,0 +1,17 @@
+//! Helpers that may claim how an obligation ends. A claim counts only where it passes a check of our own, so nothing is promised of
+//! what helpers claim.
+#![tactic(auto)]
+
+mod claim;
+mod offering;
+mod passing;
+mod sampler;
+mod source;
+mod table;
+mod units;
+
+pub use claim::{Claim, Helper};
+pub use offering::offer_all;
+pub use sampler::Sampler;
+pub use table::Table;
+pub use units::Units;
