@@ -4,9 +4,9 @@ use Rattle.std.specs.Prelude.{map}
 use Rattle.word_core.specs.Words.{Bits, IsWord}
 use Rattle.word_dag.specs.declared.node.Node.{Node}
 use Rattle.word_dag.specs.Nodes.{FitsNode, FitFrom, width_of, word_at, Naming, named, node_value}
-use Rattle.word_dag.specs.Adding.{Adds, Keeps}
+use Rattle.word_dag.specs.Adding.{Adds, Grows, Keeps}
 use Rattle.word_dag.proofs.NodeValues.{width_at-map}
-use Rattle.word_dag.proofs.Valued.{values_wide, word_wide}
+use Rattle.word_dag.proofs.Valued.{values_wide, word_wide, keeps_grown, grows_kept}
 use Rattle.word_dag.proofs.Widths.{width-node_value}
 use Rattle.vlog_tree.specs.declared.valuation.Entry.{Entry}
 use Rattle.elab_node.specs.declared.leaves.Leaf.{Leaf}
@@ -24,19 +24,22 @@ append_append [] ys zs = refl
 append_append (x ∷ xs) ys zs = ap (λ (r : List Node). x ∷ r) (append_append xs ys zs)
 
 pub keeps_same : (a : List Node) → Keeps a a
-keeps_same a = record { more = ([], sym (append_nil a)); longer = omega arith; widths = λ i lt. refl; values = λ e i lt. refl }
+keeps_same a = record { more = ([], sym (append_nil a)); longer = omega arith; widths = λ i lt. refl; values = λ e i lt. refl; frees = λ n i free at. at }
 
 -- a call that is refused changes nothing
 pub keeps_refused : (a b : List Node) → b ≡ a → Keeps a b
 keeps_refused a b is = subst (λ (k : List Node). Keeps a k) (sym is) (keeps_same a)
 
-pub keeps_then : (a b c : List Node) → Keeps a b → Keeps b c → Keeps a c
-keeps_then a b c h k = record {
+pub grows_then : (a b c : List Node) → Grows a b → Grows b c → Grows a c
+grows_then a b c h k = record {
   more = (h.more.0 ++ k.more.0, k.more.1 ∙ ap (λ (r : List Node). r ++ k.more.0) h.more.1 ∙ append_append a h.more.0 k.more.0);
   longer = omega (arith, h.longer, k.longer);
   widths = λ i lt. k.widths i (omega (arith, lt, h.longer)) ∙ h.widths i lt;
   values = λ e i lt. k.values e i (omega (arith, lt, h.longer)) ∙ h.values e i lt;
 }
+
+pub keeps_then : (a b c : List Node) → Keeps a b → Keeps b c → Keeps a c
+keeps_then a b c h k = keeps_grown a c (grows_then a b c (grows_kept a b h) (grows_kept b c k)) (λ n i free at. h.frees n i free (k.frees n i free at))
 
 pub node_kept : (a b : List Node) (i n : ℕ) → Keeps a b → IsNode a i n → IsNode b i n
 node_kept a b i n k h = (omega (arith, h.0, k.longer), k.widths i h.0 ∙ h.1)
