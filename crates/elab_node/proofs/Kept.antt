@@ -41,11 +41,17 @@ grows_then a b c h k = record {
 pub keeps_then : (a b c : List Node) → Keeps a b → Keeps b c → Keeps a c
 keeps_then a b c h k = keeps_grown a c (grows_then a b c (grows_kept a b h) (grows_kept b c k)) (λ n i free at. h.frees n i free (k.frees n i free at))
 
+pub node_grown : (a b : List Node) (i n : ℕ) → Grows a b → IsNode a i n → IsNode b i n
+node_grown a b i n k h = (omega (arith, h.0, k.longer), k.widths i h.0 ∙ h.1)
+
+pub number_grown : (e : Naming) (a b : List Node) (i n : ℕ) → Grows a b → IsNode a i n → number_at e b i ≡ number_at e a i
+number_grown e a b i n k h = ap (λ (w : Bits). w.value) (k.values e i h.0)
+
 pub node_kept : (a b : List Node) (i n : ℕ) → Keeps a b → IsNode a i n → IsNode b i n
-node_kept a b i n k h = (omega (arith, h.0, k.longer), k.widths i h.0 ∙ h.1)
+node_kept a b i n k h = node_grown a b i n (grows_kept a b k) h
 
 pub number_kept : (e : Naming) (a b : List Node) (i n : ℕ) → Keeps a b → IsNode a i n → number_at e b i ≡ number_at e a i
-number_kept e a b i n k h = ap (λ (w : Bits). w.value) (k.values e i h.0)
+number_kept e a b i n k h = number_grown e a b i n (grows_kept a b k) h
 
 -- a node's word by its parts
 pub word_is : (e : Naming) (ns : List Node) (i n : ℕ) → FitFrom [] ns → IsNode ns i n → word_at (words e ns) i ≡ record { width = n; value = number_at e ns i }
@@ -110,9 +116,12 @@ added old new m i n f fit fits a wide same = record {
     whole b n x h k = ap (λ j. let r : Bits = record { width = j; value = b.value } in r) h ∙ ap (λ j. let r : Bits = record { width = n; value = j } in r) k
 
 -- the leaves in a dag that grows
+pub ready_grown : (ls : List Leaf) (a b : List Node) → Grows a b → AreReady ls a → AreReady ls b
+ready_grown [] a b k h = tt
+ready_grown (l ∷ ls) a b k h = (h.0, node_grown a b l.node l.width k h.1, ready_grown ls a b k h.2)
+
 pub ready_kept : (ls : List Leaf) (a b : List Node) → Keeps a b → AreReady ls a → AreReady ls b
-ready_kept [] a b k h = tt
-ready_kept (l ∷ ls) a b k h = (h.0, node_kept a b l.node l.width k h.1, ready_kept ls a b k h.2)
+ready_kept ls a b k h = ready_grown ls a b (grows_kept a b k) h
 
 pub valued_kept : (e : Naming) (ls : List Leaf) (a b : List Node) → Keeps a b → AreReady ls a → valued ls (words e b) ≡ valued ls (words e a)
 valued_kept e [] a b k h = refl
