@@ -1,0 +1,4 @@
+pub mod Segments
+pub mod Lines
+pub mod Tests
+pub mod Laws
