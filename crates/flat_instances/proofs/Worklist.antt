@@ -260,7 +260,14 @@ module _ (ms : List Module) (top : Name) where
     scopes_are = are_scopes ms top ss (λ s e. listed [] s first_path e) closed (λ s h. let q = has_path s h in (q.0, q.2))
 
     pub are_unfolded : AreUnfolded ms top ss
-    are_unfolded = record { scopes = scopes_are; sound = sound_all }
+    are_unfolded = record {
+      scopes = scopes_are;
+      sound = sound_all;
+      paths = u.paths;
+      lead = u.scopes;
+      in_order = all_unfolded;
+      distinct = u.distinct;
+    }
 
     -- each path that leads to a scope is one of theirs
     path_by : (b : List Name) (s : Scope) (x : Name) (rest : List Name) (t : Scope) → Among u.paths b → scope_at ms top b ≡ Some s →

@@ -91,10 +91,14 @@ pub record IsUnfolding (ms : List Module) (top : Name) (ss : List Scope) (k : �
   pub distinct : AreDistinct paths
   pub sound : (s : Scope) → Among (take k ss) s → HasSoundInners ms s
 
--- all scopes of a list of modules, the instances of each with sound parameters
+-- all scopes of a list of modules, the instances of each with sound parameters. Their paths are the top's and then, path after path, those one instance longer
 pub record AreUnfolded (ms : List Module) (top : Name) (ss : List Scope) : Type 0 where
   pub scopes : AreScopes ms top ss
   pub sound : (s : Scope) → Among ss s → HasSoundInners ms s
+  pub paths : List (List Name)
+  pub lead : map Some ss ≡ map (scope_at ms top) paths
+  pub in_order : paths ≡ [] ∷ flat_map (below ms top) paths
+  pub distinct : AreDistinct paths
 
 -- the scope of a module that is the top
 abbrev pub scope_of_top : Module → Scope

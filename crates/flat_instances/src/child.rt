@@ -16,7 +16,8 @@ use outside::Text;
 use std::alloc::{AllocError, Global};
 use vlog_tree::Module;
 
-fn unfit_fault(name: Text, cause: Unfit) -> FlatFault
+/// The fault of a constant, by its cause.
+pub fn unfit_fault(name: Text, cause: Unfit) -> FlatFault
     ensures { result ≡ unfit_fault name cause }
 {
     match cause {
@@ -26,7 +27,8 @@ fn unfit_fault(name: Text, cause: Unfit) -> FlatFault
     }
 }
 
-fn range_fault(name: Text, cause: BadRange) -> FlatFault
+/// The fault of a range, by its cause.
+pub fn range_fault(name: Text, cause: BadRange) -> FlatFault
     ensures { result ≡ range_fault name cause }
 {
     match cause {

@@ -7,5 +7,7 @@ mod recursion;
 mod scope;
 mod unfold;
 
+pub use child::{full_name, range_fault, unfit_fault};
+pub use recursion::inner_prefix;
 pub use scope::Scope;
 pub use unfold::scopes_of;
