@@ -5,3 +5,7 @@ pub mod Marking
 pub mod Setting
 pub mod Placing
 pub mod Assigning
+pub mod Listing
+pub mod Casing
+pub mod Resting
+pub mod Blocks

@@ -4,6 +4,7 @@ use Rattle.std.specs.Int.{bit_at}
 use Rattle.vlog_tree.specs.declared.expr.Span.{Span}
 use Rattle.vlog_tree.specs.declared.stmt.Lval.{Lval}
 use Rattle.vlog_tree.specs.declared.stmt.Lval.TheVariants as l
+use Rattle.vlog_tree.specs.Valuation.{IsLength}
 use Rattle.vlog_tree.specs.Value.{natural, part_low, part_width}
 use Rattle.vlog_runs.specs.declared.flat.Signal.{Signal}
 use Rattle.vlog_runs.specs.Places.{Among}
@@ -34,6 +35,10 @@ set_word w low (l.Concat' h row) = 0
 
 abbrev pub AreNarrow : List Signal → Type 0
 AreNarrow gs = (g : Signal) → Among gs g → g.width ≤ 64
+
+-- each signal has from 1 to 64 bits
+abbrev pub AreWide : List Signal → Type 0
+AreWide gs = (g : Signal) → Among gs g → IsLength g.width
 
 -- g is the signal at place i
 abbrev pub IsSignalAt : List Signal → ℕ → Signal → Type 0

@@ -2,9 +2,9 @@
 
 ghost use Rattle.std.specs.Prelude.{◌≡◌, ℕ, ◌+◌, ◌*◌, ◌<◌, ◌⊎◌, ◌↔◌, length, IfOk, OnOk};
 ghost use Rattle.elab_flow.specs.Sets.{Has, HasBit, tables, IsSized};
-ghost use Rattle.elab_flow.specs.Passes.{ReadsTo, CountTo, JoinTo};
+ghost use Rattle.elab_flow.specs.Passes.{ReadsTo, CountTo, JoinTo, IsNowhere};
 
-use crate::sets::{add_bits, add_counts, add_open, add_row, add_to_rows, clear_bits};
+use crate::sets::{add_bits, add_counts, add_open, add_row, add_to_rows, clear_bits, none, square};
 use std::alloc::{AllocError, Global};
 
 /// What some path up to a place in a block does. Signals go by their places in a list of n signals.
@@ -19,6 +19,18 @@ pub struct BlockFlow {
 }
 
 impl BlockFlow {
+    /// What no path does, for so many signals. Refused only for want of memory.
+    pub fn nowhere(alloc: Global, count: usize) -> Result<BlockFlow, AllocError>
+        ensures none { IfOk result (λ r. IsNowhere count (tables r)) }
+        ensures sized { IfOk result (λ r. IsSized count (tables r)) }
+    {
+        Ok(BlockFlow {
+            unset: vec![in alloc; 0; count]?,
+            through: square(alloc, count)?,
+            outside: none(alloc, count)?,
+        })
+    }
+
     /// The same tables once more. Refused only for want of memory.
     pub fn copy(&self, alloc: Global) -> Result<BlockFlow, AllocError>
         ensures { IfOk result (λ r. tables r ≡ tables self.now) }
