@@ -1,0 +1,58 @@
+// From a solved module to a design.
+ghost use Rattle.std.specs.Prelude.{◌≡◌, IfOk, map, length};
+ghost use Rattle.std.specs.List.{flat_map};
+ghost use Rattle.vlog_runs.specs.Places.{Name};
+ghost use Rattle.vlog_runs.specs.Cycles.{IsInput, IsRegister};
+ghost use Rattle.elab_faults.specs.Drivers.{DependsOn};
+ghost use Rattle.elab_step.specs.Asked.{CanElaborate};
+ghost use Rattle.elab_step.specs.Boards.{names_of, IsSolution, IsSolved};
+ghost use Rattle.elab_step.specs.Solving.{IsNetOrder};
+ghost use Rattle.elaborate.specs.Parts.{HasHeader};
+ghost use Rattle.elaborate.specs.Sources.{signal_names, clocked_names, flags_among};
+
+use crate::parts::{asyncs_of, clock_of, inputs_of, nets_of, outputs_of, registers_of};
+use elab_step::Solution;
+use flat_scopes::Names;
+use std::alloc::{AllocError, Global};
+use vlog_runs::Flat;
+use word_design::Design;
+
+/// The design of a module whose nets are solved in an order of their dependences. The flags tell the nets and the registers. It is refused for
+/// want of memory alone.
+pub fn design_of(
+    alloc: Global,
+    flat: &Flat,
+    names: &Names<'_>,
+    order: &[usize],
+    nets: &[bool],
+    registers: &[bool],
+    solution: Solution,
+) -> Result<Design, AllocError>
+    requires can { CanElaborate flat.now }
+    requires names { names.now ≡ signal_names flat.now.signals }
+    requires order { IsNetOrder flat.now (DependsOn flat.now) (names_of flat.now.signals order.now) }
+    requires nets { nets.now ≡ flags_among (names_of flat.now.signals order.now) flat.now.signals }
+    requires registers { registers.now ≡ flags_among (clocked_names flat.now) flat.now.signals }
+    requires apart { (x : Name) → IsInput flat.now x → IsRegister flat.now x → ⊥ }
+    requires solution { IsSolution flat.now (names_of flat.now.signals order.now) nets.now solution.dag solution.begun solution.now solution.next }
+    ensures solved { IfOk result (λ d. IsSolved flat.now (names_of flat.now.signals order.now) d) }
+    ensures header { IfOk result (λ d. HasHeader flat.now d) }
+{
+    // the nodes of a dag fit, and no two are the same
+    let _nodes = solution.dag.nodes();
+    let all_registers = registers_of(alloc, registers, &solution.begun, &solution.next)?;
+    let all_inputs = inputs_of(alloc, flat.ports.as_slice(), names, &solution.begun)?;
+    let all_nets = nets_of(alloc, nets, &solution.begun, &solution.now)?;
+    let outputs = outputs_of(alloc, flat.ports.as_slice())?;
+    let clock = clock_of(alloc, &flat.clock)?;
+    let asyncs = asyncs_of(alloc, flat.asyncs.as_slice())?;
+    Ok(Design::new(
+        solution.dag,
+        all_registers,
+        all_inputs,
+        all_nets,
+        outputs,
+        clock,
+        asyncs,
+    ))
+}

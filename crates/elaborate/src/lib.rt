@@ -1,0 +1,5 @@
+//! Modules without instances as designs.
+#![tactic(auto)]
+
+mod design;
+mod parts;
