@@ -11,7 +11,8 @@ use Rattle.set_tree.specs.Lines.{last_row}
 use Rattle.line_laws.specs.Lines.{edge_end, split_end}
 use Rattle.word_dag.specs.declared.node.Node.{Node}
 use Rattle.word_dag.specs.Nodes.{Naming}
-use Rattle.word_dag.specs.Adding.{Keeps}
+use Rattle.word_dag.specs.Adding.{Grows, Keeps}
+use Rattle.word_dag.proofs.Valued.{grows_kept}
 use Rattle.set_tree.specs.declared.set.Name.{Name}
 use Rattle.set_tree.specs.declared.set.Property.{Property}
 use Rattle.set_tree.specs.declared.set.Set.{Set}
@@ -28,14 +29,18 @@ use Rattle.twin_tests.specs.Framing.{AreFrames, IsFrame}
 use Rattle.twin_tests.specs.Reading.{FollowsWithin, HasStructure}
 use Rattle.twin_tests.proofs.Handing.{get_again}
 use Rattle.twin_tests.proofs.Readings.{property_later, same_at}
-use Rattle.twin_tests.proofs.Standing.{shown_length, keeps_all, keeps_both, shows_drop, shows_later, shows_take, tests_later}
+use Rattle.elab_node.proofs.Kept.{keeps_same, keeps_then}
+use Rattle.twin_tests.proofs.Standing.{shown_length, shows_drop, shows_grown, shows_take, tests_grown, tests_later}
+
+pub frame_grown : (a b : List Node) (set : Set) (frame : Frame) → Grows a b → IsFrame set a frame → IsFrame set b frame
+frame_grown a b set frame ab h = record {
+  rows = shows_grown a b set.names frame.rows.items _ ab h.rows;
+  count = h.count;
+  met = λ end d lt. tests_grown a b _ _ ab (h.met end d lt);
+}
 
 pub frame_later : (a b : List Node) (set : Set) (frame : Frame) → Keeps a b → IsFrame set a frame → IsFrame set b frame
-frame_later a b set frame ab h = record {
-  rows = shows_later a b set.names frame.rows.items _ ab h.rows;
-  count = h.count;
-  met = λ end d lt. tests_later a b _ _ ab (h.met end d lt);
-}
+frame_later a b set frame ab h = frame_grown a b set frame (grows_kept a b ab) h
 
 pub frames_later : (a b : List Node) (set : Set) (frames : Frames) → Keeps a b → AreFrames set a frames → AreFrames set b frames
 frames_later a b set frames ab h = record {
@@ -68,11 +73,11 @@ pub record MetLoop (set : Set) (start nodes : List Node) (met : List ℕ) (side 
   pub each : (end d : ℕ) → end < k → Tests nodes (get_or met end d) (λ e. meets_constraints (meaning_of set) set (named_rows set e side end))
 
 pub met_start : (set : Set) (start : List Node) (side : ℕ) → MetLoop set start start [] side 0
-met_start set start side = record { keeps = keeps_all start; count = refl; each = λ end d lt. absurd (omega (arith, lt)) }
+met_start set start side = record { keeps = keeps_same start; count = refl; each = λ end d lt. absurd (omega (arith, lt)) }
 
 pub met_step : (set : Set) (start a b : List Node) (met new : List ℕ) (side k i : ℕ) → new ≡ met ++ i ∷ [] → Keeps a b → Tests b i (λ e. meets_constraints (meaning_of set) set (named_rows set e side k)) → MetLoop set start a met side k → MetLoop set start b new side (k + 1)
 met_step set start a b met new side k i made ab here before = record {
-  keeps = keeps_both start a b before.keeps ab;
+  keeps = keeps_then start a b before.keeps ab;
   count = ap (λ (ns : List ℕ). length ns) made ∙ (length-append met (i ∷ []) ∙ ap (λ n. n + 1) before.count);
   each = λ end d lt. rw made (elim (cases_lt end k) [
     | inl less ↦ rw (get_or-append met (i ∷ []) d end (omega (arith, less, before.count))) (tests_later a b _ _ ab (before.each end d less))

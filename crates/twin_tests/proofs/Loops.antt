@@ -15,7 +15,8 @@ use Rattle.word_dag.specs.Nodes.{Naming}
 use Rattle.word_dag.specs.Adding.{Keeps}
 use Rattle.line_laws.specs.Tests.{all_below}
 use Rattle.twin_tests.specs.Building.{HasWidth, IsReadable, Shows, Tests}
-use Rattle.twin_tests.proofs.Standing.{keeps_both, tests_later, shown_length}
+use Rattle.elab_node.proofs.Kept.{keeps_then}
+use Rattle.twin_tests.proofs.Standing.{tests_later, shown_length}
 
 -- what is built so far, over rows that nodes of the first dag show: the node is the test t of them
 pub record Builds {A : Type 0} (P : (Naming → A) → Type 0) (start nodes : List Node) (node : ℕ) (t : A → Bool) : Type 0 where
@@ -42,14 +43,14 @@ builds_start P start nodes node b t same keeps tests = record {
 
 pub and_step : {A : Type 0} (P : (Naming → A) → Type 0) (start a b c : List Node) (old one new : ℕ) (t u v : A → Bool) → ((x : A) → (t x && u x) ≡ v x) → Builds P start a old t → Keeps a b → Keeps b c → HasWidth c new 1 → ((f : Naming → A) → P f → Tests b one (λ e. u (f e))) → ((f g : Naming → Bool) → Tests b old f → Tests b one g → Tests c new (λ e. f e && g e)) → Builds P start c new v
 and_step P start a b c old one new t u v same before ab bc width made joined = record {
-  keeps = keeps_both start b c (keeps_both start a b before.keeps ab) bc;
+  keeps = keeps_then start b c (keeps_then start a b before.keeps ab) bc;
   width = width;
   tests = λ f shows. same_test c new (λ e. t (f e) && u (f e)) (λ e. v (f e)) (λ e. same (f e)) (joined _ _ (tests_later a b old _ ab (before.tests f shows)) (made f shows));
 }
 
 pub or_step : {A : Type 0} (P : (Naming → A) → Type 0) (start a b c : List Node) (old one new : ℕ) (t u v : A → Bool) → ((x : A) → (t x || u x) ≡ v x) → Builds P start a old t → Keeps a b → Keeps b c → HasWidth c new 1 → ((f : Naming → A) → P f → Tests b one (λ e. u (f e))) → ((f g : Naming → Bool) → Tests b old f → Tests b one g → Tests c new (λ e. f e || g e)) → Builds P start c new v
 or_step P start a b c old one new t u v same before ab bc width made joined = record {
-  keeps = keeps_both start b c (keeps_both start a b before.keeps ab) bc;
+  keeps = keeps_then start b c (keeps_then start a b before.keeps ab) bc;
   width = width;
   tests = λ f shows. same_test c new (λ e. t (f e) || u (f e)) (λ e. v (f e)) (λ e. same (f e)) (joined _ _ (tests_later a b old _ ab (before.tests f shows)) (made f shows));
 }
@@ -99,6 +100,6 @@ pub record Joined (start nodes : List Node) (node : ℕ) (t : Naming → Bool) :
 
 pub joined_step : (start a b c : List Node) (old one new : ℕ) (t u v : Naming → Bool) → ((e : Naming) → (t e || u e) ≡ v e) → Joined start a old t → Keeps a b → Keeps b c → Tests b one u → ((f g : Naming → Bool) → Tests b old f → Tests b one g → Tests c new (λ e. f e || g e)) → Joined start c new v
 joined_step start a b c old one new t u v same before ab bc made joined = record {
-  keeps = keeps_both start b c (keeps_both start a b before.keeps ab) bc;
+  keeps = keeps_then start b c (keeps_then start a b before.keeps ab) bc;
   tests = same_test c new (λ e. t e || u e) v same (joined t u (tests_later a b old t ab before.tests) made);
 }

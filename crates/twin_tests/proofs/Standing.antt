@@ -9,7 +9,9 @@ use Rattle.word_dag.specs.declared.node.Node.{Node}
 use Rattle.word_dag.specs.declared.node.Node.TheVariants.{Const, Two, Not, Zext}
 use Rattle.word_dag.specs.declared.node.Op.TheVariants.{And, Or, Eq}
 use Rattle.word_dag.specs.Nodes.{Naming, FitsNode, width_of}
-use Rattle.word_dag.specs.Adding.{Adds, Keeps}
+use Rattle.word_dag.specs.Adding.{Adds, Grows, Keeps}
+use Rattle.word_dag.proofs.Valued.{grows_kept}
+use Rattle.elab_node.proofs.Kept.{keeps_same, keeps_then}
 use Rattle.set_tree.specs.declared.set.Name.{Name}
 use Rattle.set_tree.specs.Meaning.{Row}
 use Rattle.line_laws.specs.Tests.{same}
@@ -17,63 +19,60 @@ use Rattle.twin_tests.specs.Building.{HasWidth, IsWide, IsLeafRow, Tests, Counts
 
 -- ---- longer dags
 
-pub keeps_all : (a : List Node) → Keeps a a
-keeps_all a = record { more = ([], append_nil a); longer = omega arith; widths = λ i lt. refl; values = λ e i lt. refl }
-  where
-    append_nil : (xs : List Node) → xs ≡ xs ++ []
-    append_nil [] = refl
-    append_nil (x ∷ xs) = ap (λ (ys : List Node). x ∷ ys) (append_nil xs)
-
-pub keeps_both : (a b c : List Node) → Keeps a b → Keeps b c → Keeps a c
-keeps_both a b c ab bc = record {
-  more = (ab.more.0 ++ bc.more.0, bc.more.1 ∙ (ap (λ (ns : List Node). ns ++ bc.more.0) ab.more.1 ∙ append_assoc a ab.more.0 bc.more.0));
-  longer = omega (arith, ab.longer, bc.longer);
-  widths = λ i lt. bc.widths i (omega (arith, ab.longer, lt)) ∙ ab.widths i lt;
-  values = λ e i lt. bc.values e i (omega (arith, ab.longer, lt)) ∙ ab.values e i lt;
-}
+pub has_grown : (a b : List Node) (i w : ℕ) → Grows a b → HasWidth a i w → HasWidth b i w
+has_grown a b i w ab h = record { below = omega (arith, ab.longer, h.below); width = ab.widths i h.below ∙ h.width }
 
 pub has_later : (a b : List Node) (i w : ℕ) → Keeps a b → HasWidth a i w → HasWidth b i w
-has_later a b i w ab h = record { below = omega (arith, ab.longer, h.below); width = ab.widths i h.below ∙ h.width }
+has_later a b i w ab h = has_grown a b i w (grows_kept a b ab) h
 
 pub wide_later : (a b : List Node) (i : ℕ) → Keeps a b → IsWide a i → IsWide b i
 wide_later a b i ab h = record { below = omega (arith, ab.longer, h.below); some = rw (ab.widths i h.below) h.some; most = rw (ab.widths i h.below) h.most }
 
+pub tests_grown : (a b : List Node) (i : ℕ) (f : Naming → Bool) → Grows a b → Tests a i f → Tests b i f
+tests_grown a b i f ab t = record { node = has_grown a b i 1 ab t.node; means = λ e. ab.values e i t.node.below ∙ t.means e }
+
 pub tests_later : (a b : List Node) (i : ℕ) (f : Naming → Bool) → Keeps a b → Tests a i f → Tests b i f
-tests_later a b i f ab t = record { node = has_later a b i 1 ab t.node; means = λ e. ab.values e i t.node.below ∙ t.means e }
+tests_later a b i f ab t = tests_grown a b i f (grows_kept a b ab) t
 
 pub counts_later : (a b : List Node) (i : ℕ) (f : Naming → ℕ) → Keeps a b → Counts a i f → Counts b i f
 counts_later a b i f ab t = record { node = wide_later a b i ab t.node; means = λ e. ap (λ (w : Bits). w.value) (ab.values e i t.node.below) ∙ t.means e }
 
-pub leaf_row_later : (a b : List Node) (names : List Name) (row : List ℕ) → Keeps a b → IsLeafRow names a row → IsLeafRow names b row
-leaf_row_later a b [] [] ab h = h
-leaf_row_later a b [] (i ∷ row) ab h = absurd h
-leaf_row_later a b (name ∷ names) [] ab h = absurd h
-leaf_row_later a b (name ∷ names) (i ∷ row) ab h = (has_later a b i name.width ab h.0, leaf_row_later a b names row ab h.1)
+pub leaf_row_grown : (a b : List Node) (names : List Name) (row : List ℕ) → Grows a b → IsLeafRow names a row → IsLeafRow names b row
+leaf_row_grown a b [] [] ab h = h
+leaf_row_grown a b [] (i ∷ row) ab h = absurd h
+leaf_row_grown a b (name ∷ names) [] ab h = absurd h
+leaf_row_grown a b (name ∷ names) (i ∷ row) ab h = (has_grown a b i name.width ab h.0, leaf_row_grown a b names row ab h.1)
+
+leaves_grown : (a b : List Node) (names : List Name) (rows : List (List ℕ)) → Grows a b → AreLeaves names a rows → AreLeaves names b rows
+leaves_grown a b names rows ab leaves = record { each = λ k d lt. leaf_row_grown a b names _ ab (leaves.each k d lt) }
 
 pub leaves_later : (a b : List Node) (names : List Name) (rows : List (List ℕ)) → Keeps a b → AreLeaves names a rows → AreLeaves names b rows
-leaves_later a b names rows ab leaves = record { each = λ k d lt. leaf_row_later a b names _ ab (leaves.each k d lt) }
+leaves_later a b names rows ab leaves = leaves_grown a b names rows (grows_kept a b ab) leaves
 
-pub row_later : (a b : List Node) (names : List Name) (e : Naming) (row : List ℕ) → Keeps a b → IsLeafRow names a row → row_in b e row ≡ row_in a e row
-row_later a b [] e [] ab h = refl
-row_later a b [] e (i ∷ row) ab h = absurd h
-row_later a b (name ∷ names) e [] ab h = absurd h
-row_later a b (name ∷ names) e (i ∷ row) ab h =
+pub row_grown : (a b : List Node) (names : List Name) (e : Naming) (row : List ℕ) → Grows a b → IsLeafRow names a row → row_in b e row ≡ row_in a e row
+row_grown a b [] e [] ab h = refl
+row_grown a b [] e (i ∷ row) ab h = absurd h
+row_grown a b (name ∷ names) e [] ab h = absurd h
+row_grown a b (name ∷ names) e (i ∷ row) ab h =
     let here : (word_in b e i).value ≡ (word_in a e i).value = ap (λ (w : Bits). w.value) (ab.values e i h.0.below) in
-    let rest : row_in b e row ≡ row_in a e row = row_later a b names e row ab h.1 in
+    let rest : row_in b e row ≡ row_in a e row = row_grown a b names e row ab h.1 in
     cc
 
-rows_later : (a b : List Node) (names : List Name) (e : Naming) (rows : List (List ℕ)) → Keeps a b → All (IsLeafRow names a) rows → map (row_in b e) rows ≡ map (row_in a e) rows
-rows_later a b names e [] ab h = refl
-rows_later a b names e (row ∷ rows) ab h =
-    let here = row_later a b names e row ab (All-head (IsLeafRow names a) row rows h) in
-    let rest = rows_later a b names e rows ab (All-tail (IsLeafRow names a) row rows h) in
+rows_grown : (a b : List Node) (names : List Name) (e : Naming) (rows : List (List ℕ)) → Grows a b → All (IsLeafRow names a) rows → map (row_in b e) rows ≡ map (row_in a e) rows
+rows_grown a b names e [] ab h = refl
+rows_grown a b names e (row ∷ rows) ab h =
+    let here = row_grown a b names e row ab (All-head (IsLeafRow names a) row rows h) in
+    let rest = rows_grown a b names e rows ab (All-tail (IsLeafRow names a) row rows h) in
     cc
+
+pub shows_grown : (a b : List Node) (names : List Name) (rows : List (List ℕ)) (f : Naming → List Row) → Grows a b → Shows names a rows f → Shows names b rows f
+shows_grown a b names rows f ab s = record {
+  leaves = leaves_grown a b names rows ab s.leaves;
+  means = λ e. rows_grown a b names e rows ab s.leaves.each ∙ s.means e;
+}
 
 pub shows_later : (a b : List Node) (names : List Name) (rows : List (List ℕ)) (f : Naming → List Row) → Keeps a b → Shows names a rows f → Shows names b rows f
-shows_later a b names rows f ab s = record {
-  leaves = leaves_later a b names rows ab s.leaves;
-  means = λ e. rows_later a b names e rows ab s.leaves.each ∙ s.means e;
-}
+shows_later a b names rows f ab s = shows_grown a b names rows f (grows_kept a b ab) s
 
 -- the rows from t on, and the first k rows
 pub leaves_drop : (names : List Name) (nodes : List Node) (rows : List (List ℕ)) (t : ℕ) → AreLeaves names nodes rows → AreLeaves names nodes (drop t rows)
@@ -188,6 +187,6 @@ number_is a b i n w is some most made = record {
   means = λ e. ap (λ (k : Bits). k.value) (made.value e) ∙ is;
 }
 
-pub ruleset kept = (keeps_all, keeps_both, has_later, wide_later, leaves_later)
+pub ruleset kept = (keeps_same, keeps_then, has_later, wide_later, leaves_later)
 
-pub ruleset words = (keeps_all, keeps_both, has_later, wide_later, bits_fit, equal_fits, not_fits, zext_fits, added)
+pub ruleset words = (keeps_same, keeps_then, has_later, wide_later, bits_fit, equal_fits, not_fits, zext_fits, added)

@@ -1,18 +1,33 @@
 -- Two windows as nodes, and the lines over them.
-use Rattle.std.specs.Prelude.{◌≡◌, ℕ, ◌+◌, ◌<◌, Bool, false, not, List, length, get_or}
+use Rattle.std.specs.Prelude.{◌≡◌, ℕ, pos, ◌+◌, ◌<◌, ◌⊎◌, Bool, false, not, List, [], ◌∷◌, length, get_or}
 use Rattle.set_tree.specs.declared.line.Line.{Line}
 use Rattle.set_tree.specs.declared.line.Line.TheVariants.{Base, Step, Reset, Operation, End, Split, SameEnd, Choose, Hand, Determine}
+use Rattle.set_tree.specs.declared.set.Name.{Name}
 use Rattle.set_tree.specs.declared.set.Set.{Set}
 use Rattle.set_tree.specs.Formulas.{meaning_of}
 use Rattle.set_tree.specs.Parts.{IsPosition, window_of}
 use Rattle.word_dag.specs.declared.node.Node.{Node}
+use Rattle.word_dag.specs.declared.node.Node.TheVariants.{Free}
 use Rattle.word_dag.specs.Nodes.{Naming}
 use Rattle.line_laws.specs.Lines.{edge_end, split_end}
 use Rattle.line_laws.specs.Tests.{ends_at, meets_constraints, same, violates_choose, violates_determine, violates_hand, violates_split}
-use Rattle.line_laws.specs.Windows.{named_rows, rows_from}
+use Rattle.line_laws.specs.Windows.{named_rows, rows_from, side_of}
 use Rattle.twin_tests.specs.declared.frame.Frame.{Frame}
 use Rattle.twin_tests.specs.declared.frame.Frames.{Frames}
 use Rattle.twin_tests.specs.Building.{Shows, Tests}
+
+-- the free word of a name at a cycle of one side; inputs have side 0 in both windows
+abbrev pub free_of : Name → ℕ → ℕ → Node
+free_of x side cycle = Free x.name x.width (side_of x.role side) (pos cycle)
+
+-- a node is the free word of one of the names
+abbrev pub IsWordOf : List Name → ℕ → ℕ → Node → Type 0
+IsWordOf [] side cycle n = ⊥
+IsWordOf (x ∷ xs) side cycle n = (n ≡ free_of x side cycle) ⊎ IsWordOf xs side cycle n
+
+-- in some cycle
+abbrev pub IsWindowWord : List Name → ℕ → Node → Type 0
+IsWindowWord xs side n = (cycle : ℕ) × IsWordOf xs side cycle n
 
 -- The first cycles of one side as nodes, and for each cycle a node that tells whether the constraints hold in the window that ends there.
 pub record IsFrame (set : Set) (nodes : List Node) (frame : Frame) : Type 0 where

@@ -94,7 +94,7 @@ pub fn formula_node(
 }
 
 /// Whether a formula of a set holds in the first row.
-#[tactic(auto, using(crate::proofs::Standing::keeps_both))]
+#[tactic(auto, using(elab_node::proofs::Kept::keeps_then))]
 pub fn test_node(
     alloc: Global,
     dag: &mut Dag,

@@ -1,13 +1,14 @@
 // Two windows as nodes.
-ghost use Rattle.std.specs.Prelude.{◌≡◌, ℕ, ◌+◌, ◌<◌, ◌≤◌, List, length, take, get_or, IfOk};
+ghost use Rattle.std.specs.Prelude.{◌≡◌, ℕ, ◌+◌, ◌<◌, ◌≤◌, ◌⊎◌, List, length, take, get_or, IfOk};
 ghost use Rattle.set_tree.specs.Formulas.{meaning_of};
 ghost use Rattle.set_tree.specs.Parts.{IsPosition, window_of};
 ghost use Rattle.line_laws.specs.Tests.{meets_constraints};
 ghost use Rattle.line_laws.specs.Windows.{named_rows, rows_from};
 ghost use Rattle.twin_tests.specs.Building.{AreLeaves, HasWidth, Shows, Tests};
-ghost use Rattle.twin_tests.specs.Framing.{AreFrames, IsFrame};
+ghost use Rattle.twin_tests.specs.Framing.{AreFrames, IsFrame, IsWindowWord};
 ghost use Rattle.twin_tests.specs.Reading.{HasStructure};
-ghost use Rattle.word_dag.specs.Adding.{Keeps};
+ghost use Rattle.word_dag.specs.Adding.{Grows, Keeps};
+ghost use Rattle.elab_node.specs.Nodes.{AddsFrees};
 
 use crate::formula::constraints_node;
 use crate::window::{NodeRow, rows_before, window_nodes};
@@ -61,7 +62,8 @@ fn frame_of(
     count: u8,
 ) -> Result<Frame, AllocError>
     requires { HasStructure set.now }
-    ensures keeps { IfOk result (λ _. Keeps dag.old dag.new) }
+    ensures grows { IfOk result (λ _. Grows dag.old dag.new) }
+    ensures frees { IfOk result (λ _. AddsFrees (IsWindowWord set.now.names side) dag.old dag.new) }
     ensures frame { IfOk result (λ frame. IsFrame set.now dag.new frame) }
     ensures side { IfOk result (λ frame. frame.side ≡ side) }
     ensures count { IfOk result (λ frame. length frame.rows.items ≡ count) }
@@ -87,7 +89,8 @@ fn largest_window(set: &Set) -> u8
 /// Both sides, so far that the windows of each line of the set fit.
 pub fn frames_of(alloc: Global, dag: &mut Dag, set: &Set) -> Result<Frames, AllocError>
     requires { HasStructure set.now }
-    ensures keeps { IfOk result (λ _. Keeps dag.old dag.new) }
+    ensures grows { IfOk result (λ _. Grows dag.old dag.new) }
+    ensures frees { IfOk result (λ _. AddsFrees (λ n. IsWindowWord set.now.names 0 n ⊎ IsWindowWord set.now.names 1 n) dag.old dag.new) }
     ensures frames { IfOk result (λ frames. AreFrames set.now dag.new frames) }
 {
     let window = largest_window(set);

@@ -3,9 +3,11 @@ ghost use Rattle.std.specs.Prelude.{◌≡◌, ◌≤◌, ℕ, List, map, length
 ghost use Rattle.std.specs.List.{All};
 ghost use Rattle.vlog_tree.specs.Valuation.{IsLength};
 ghost use Rattle.word_dag.specs.Nodes.{Naming};
-ghost use Rattle.word_dag.specs.Adding.{Keeps};
+ghost use Rattle.word_dag.specs.Adding.{Grows};
+ghost use Rattle.elab_node.specs.Nodes.{AddsFrees};
 ghost use Rattle.line_laws.specs.Windows.{side_of, named_value, rows_from};
 ghost use Rattle.twin_tests.specs.Building.{Counts, HasWidth, Shows, ShowsRow};
+ghost use Rattle.twin_tests.specs.Framing.{free_of, IsWordOf, IsWindowWord};
 
 use outside::Text;
 use set_tree::{Name, Role};
@@ -54,6 +56,7 @@ fn side_of(role: Role, side: u8) -> u8
 }
 
 // The free word of a name at a cycle of one side.
+#[tactic(auto, using(elab_node::proofs::Kept::free_added))]
 fn free_node(
     alloc: Global,
     dag: &mut Dag,
@@ -62,7 +65,8 @@ fn free_node(
     cycle: u8,
 ) -> Result<u64, AllocError>
     requires { IsLength name.now.width }
-    ensures keeps { IfOk result (λ _. Keeps dag.old dag.new) }
+    ensures grows { IfOk result (λ _. Grows dag.old dag.new) }
+    ensures frees { IfOk result (λ _. AddsFrees (λ n. n ≡ free_of name.now side cycle) dag.old dag.new) }
     ensures width { IfOk result (λ i. HasWidth dag.new i name.now.width) }
     ensures node { IfOk result (λ i. Counts dag.new i (λ e. named_value e side cycle name.now)) }
 {
@@ -84,7 +88,8 @@ fn row_nodes(
     cycle: u8,
 ) -> Result<NodeRow, AllocError>
     requires { All (λ n. IsLength n.width) names.now }
-    ensures keeps { IfOk result (λ _. Keeps dag.old dag.new) }
+    ensures grows { IfOk result (λ _. Grows dag.old dag.new) }
+    ensures frees { IfOk result (λ _. AddsFrees (IsWordOf names.now side cycle) dag.old dag.new) }
     ensures row { IfOk result (λ row. ShowsRow names.now dag.new row (λ e. map (named_value e side cycle) names.now)) }
 {
     let mut nodes = Vec::new(alloc);
@@ -104,7 +109,8 @@ pub fn window_nodes(
     count: u8,
 ) -> Result<Vec<NodeRow>, AllocError>
     requires { All (λ n. IsLength n.width) names.now }
-    ensures keeps { IfOk result (λ _. Keeps dag.old dag.new) }
+    ensures grows { IfOk result (λ _. Grows dag.old dag.new) }
+    ensures frees { IfOk result (λ _. AddsFrees (IsWindowWord names.now side) dag.old dag.new) }
     ensures rows { IfOk result (λ rows. Shows names.now dag.new rows.items (λ e. rows_from names.now e side 0 count)) }
 {
     let mut rows = Vec::new(alloc);

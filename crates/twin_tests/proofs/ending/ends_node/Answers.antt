@@ -10,7 +10,8 @@ use Rattle.twin_tests.specs.Building.{AreLeaves, Shows}
 use Rattle.twin_tests.proofs.Ends.{until_end_at}
 use Rattle.twin_tests.proofs.Loops.{same_test}
 use Rattle.twin_tests.proofs.Readings.{reads_window, readable_more}
-use Rattle.twin_tests.proofs.Standing.{keeps_both, leaves_drop, leaves_later, shows_drop, shows_later, tests_later}
+use Rattle.elab_node.proofs.Kept.{keeps_then}
+use Rattle.twin_tests.proofs.Standing.{leaves_drop, leaves_later, shows_drop, shows_later, tests_later}
 use Rattle.twin_tests.proofs.ending.ends_node.Goals as goal
 
 pub earlier_node-requires-clause-readable : goal.earlier_node-requires-clause-readable
@@ -30,15 +31,15 @@ pub test_node-requires-clause-leaves : goal.test_node-requires-clause-leaves
 test_node-requires-clause-leaves c =
     let names = c.args.set.now.names in
     let d = c.negated.new.dag in
-    let keeps = keeps_both c.args.dag.now c.earlier_node.new.dag d c.in_ok-earlier-in-Some.ensures.keeps c.in_ok-first-in-Some.ensures.keeps in
+    let keeps = keeps_then c.args.dag.now c.earlier_node.new.dag d c.in_ok-earlier-in-Some.ensures.keeps c.in_ok-first-in-Some.ensures.keeps in
     subst (λ z. AreLeaves names d z) (sym c.rows_after.ensures) (leaves_drop names d c.args.rows.now c.args.n (leaves_later c.args.dag.now d names c.args.rows.now keeps c.requires.leaves))
 
 pub returns-in_ok-node-in-Some-clause-keeps : goal.returns-in_ok-node-in-Some-clause-keeps
 returns-in_ok-node-in-Some-clause-keeps c =
     let one = c.negated.new.dag in
     let two = c.test_node.new.dag in
-    let keeps = keeps_both c.args.dag.now c.earlier_node.new.dag one c.in_ok-earlier-in-Some.ensures.keeps c.in_ok-first-in-Some.ensures.keeps in
-    keeps_both c.args.dag.now two c.both.new.dag (keeps_both c.args.dag.now one two keeps c.in_ok-here-in-Some.ensures.keeps) c.in_ok-node-in-Some.ensures.keeps
+    let keeps = keeps_then c.args.dag.now c.earlier_node.new.dag one c.in_ok-earlier-in-Some.ensures.keeps c.in_ok-first-in-Some.ensures.keeps in
+    keeps_then c.args.dag.now two c.both.new.dag (keeps_then c.args.dag.now one two keeps c.in_ok-here-in-Some.ensures.keeps) c.in_ok-node-in-Some.ensures.keeps
 
 pub returns-in_ok-node-in-Some-clause-node : goal.returns-in_ok-node-in-Some-clause-node
 returns-in_ok-node-in-Some-clause-node c = λ f shows.
@@ -52,7 +53,7 @@ returns-in_ok-node-in-Some-clause-node c = λ f shows.
     let one = c.negated.new.dag in
     let two = c.test_node.new.dag in
     let low = c.property_of-property.result.now.length.low in
-    let keeps = keeps_both c.args.dag.now c.earlier_node.new.dag one c.in_ok-earlier-in-Some.ensures.keeps c.in_ok-first-in-Some.ensures.keeps in
+    let keeps = keeps_then c.args.dag.now c.earlier_node.new.dag one c.in_ok-earlier-in-Some.ensures.keeps c.in_ok-first-in-Some.ensures.keeps in
     let until : (property_at set p).length.until ≡ Some e = ap (λ (y : Property). y.length.until) (sym c.property_of-property.ensures) ∙ c.in-Some.is in
     let first = c.in_ok-first-in-Some.ensures.node (λ x. any_from low (n - low) (λ t. holds m e (drop t (f x)))) (c.in_ok-earlier-in-Some.ensures.node f shows) in
     let later = subst (λ z. Shows names one z (λ x. drop n (f x))) (sym c.rows_after.ensures) (shows_drop names one rows n f (shows_later c.args.dag.now one names rows f keeps shows)) in

@@ -5,7 +5,8 @@ use Rattle.twin_tests.specs.Building.{AreLeaves, Shows}
 use Rattle.twin_tests.proofs.Ends.{any_next, any_none, any_same}
 use Rattle.twin_tests.proofs.Handing.{some_left}
 use Rattle.twin_tests.proofs.Loops.{Pair, ShowBoth, or_step, builds_start, builds_end}
-use Rattle.twin_tests.proofs.Standing.{has_later, keeps_both, leaves_drop, leaves_later, shows_drop, shows_later}
+use Rattle.elab_node.proofs.Kept.{keeps_then}
+use Rattle.twin_tests.proofs.Standing.{has_later, leaves_drop, leaves_later, shows_drop, shows_later}
 use Rattle.twin_tests.proofs.hands.apart_node.Goals as goal
 
 pub loop-t-init : goal.loop-t-init
@@ -39,7 +40,7 @@ determined_node-requires-clause-second_leaves c =
     subst (λ z. AreLeaves names d z) (sym c.rows_after-in-loop-t.ensures) (leaves_drop names d c.args.ys.now c.loop-t.t (leaves_later c.args.dag.now d names c.args.ys.now c.loop-t.invariant.keeps c.requires.second_leaves))
 
 pub either-requires-clause-first : goal.either-requires-clause-first
-either-requires-clause-first c = has_later c.loop-t.dag c.negated.new.dag c.loop-t.any 1 (keeps_both c.loop-t.dag c.determined_node.new.dag c.negated.new.dag c.in_ok-one.ensures.keeps c.in_ok-apart.ensures.keeps) c.loop-t.invariant.width
+either-requires-clause-first c = has_later c.loop-t.dag c.negated.new.dag c.loop-t.any 1 (keeps_then c.loop-t.dag c.determined_node.new.dag c.negated.new.dag c.in_ok-one.ensures.keeps c.in_ok-apart.ensures.keeps) c.loop-t.invariant.width
 
 pub loop-t-preserved : goal.loop-t-preserved
 loop-t-preserved c =
@@ -56,7 +57,7 @@ loop-t-preserved c =
     let le : n ≤ t = omega (arith, c.loop-t.auto.t) in
     or_step (ShowBoth names start xs ys) start d c.negated.new.dag c.either.new.dag c.loop-t.any c.in_ok-apart.apart c.in_ok-any-2.any
     (λ (r : Pair). any_from n (t - n) (λ j. not (determined m set o (drop j r.0) (drop j r.1)))) (λ (r : Pair). not (determined m set o (drop t r.0) (drop t r.1))) (λ (r : Pair). any_from n (t + 1 - n) (λ j. not (determined m set o (drop j r.0) (drop j r.1))))
-    (λ (r : Pair). any_next n t (λ j. not (determined m set o (drop j r.0) (drop j r.1))) le) c.loop-t.invariant (keeps_both d c.determined_node.new.dag c.negated.new.dag c.in_ok-one.ensures.keeps c.in_ok-apart.ensures.keeps) c.in_ok-any-2.ensures.keeps c.in_ok-any-2.ensures.width
+    (λ (r : Pair). any_next n t (λ j. not (determined m set o (drop j r.0) (drop j r.1))) le) c.loop-t.invariant (keeps_then d c.determined_node.new.dag c.negated.new.dag c.in_ok-one.ensures.keeps c.in_ok-apart.ensures.keeps) c.in_ok-any-2.ensures.keeps c.in_ok-any-2.ensures.width
     (λ f shows. c.in_ok-apart.ensures.node (λ e. determined m set o (drop t (f e).0) (drop t (f e).1)) (c.in_ok-one.ensures.node (λ e. drop t (f e).0) (λ e. drop t (f e).1)
     (subst (λ z. Shows names d z (λ e. drop t (f e).0)) (sym c.rows_after.ensures) (shows_drop names d xs t (λ e. (f e).0) (shows_later start d names xs (λ e. (f e).0) c.loop-t.invariant.keeps shows.0)))
     (subst (λ z. Shows names d z (λ e. drop t (f e).1)) (sym c.rows_after-in-loop-t.ensures) (shows_drop names d ys t (λ e. (f e).1) (shows_later start d names ys (λ e. (f e).1) c.loop-t.invariant.keeps shows.1))))) c.in_ok-any-2.ensures.node

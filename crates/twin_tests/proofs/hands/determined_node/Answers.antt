@@ -4,7 +4,8 @@ use Rattle.line_laws.specs.Tests.{same}
 use Rattle.set_tree.specs.Formulas.{meaning_of}
 use Rattle.set_tree.specs.Parts.{in_domain, value_of}
 use Rattle.twin_tests.proofs.Handing.{rows_long, value_counts, value_wide}
-use Rattle.twin_tests.proofs.Standing.{keeps_both, leaves_later, shows_later, tests_later}
+use Rattle.elab_node.proofs.Kept.{keeps_then}
+use Rattle.twin_tests.proofs.Standing.{leaves_later, shows_later, tests_later}
 use Rattle.twin_tests.proofs.hands.determined_node.Goals as goal
 
 pub domain_node-requires-2-clause-leaves : goal.domain_node-requires-2-clause-leaves
@@ -23,8 +24,8 @@ equal-requires-clause-first c =
     let d2 = c.domain_node-2.new.dag in
     let d3 = c.same.new.dag in
     let d4 = c.negated.new.dag in
-    let k2 = keeps_both d0 c.domain_node.new.dag d2 c.in_ok-here.ensures.keeps c.in_ok-there.ensures.keeps in
-    let k4 = keeps_both d0 d3 d4 (keeps_both d0 d2 d3 k2 c.in_ok-domains.ensures.keeps) c.in_ok-outside.ensures.keeps in
+    let k2 = keeps_then d0 c.domain_node.new.dag d2 c.in_ok-here.ensures.keeps c.in_ok-there.ensures.keeps in
+    let k4 = keeps_then d0 d3 d4 (keeps_then d0 d2 d3 k2 c.in_ok-domains.ensures.keeps) c.in_ok-outside.ensures.keeps in
     value_wide set.names d4 c.args.xs.now c.args.output c.value_node.result c.requires.structure.formed.bounds.widths c.requires.output c.requires.first c.value_node.ensures (leaves_later d0 d4 set.names c.args.xs.now k4 c.requires.first_leaves)
 
 pub equal-requires-clause-second : goal.equal-requires-clause-second
@@ -34,8 +35,8 @@ equal-requires-clause-second c =
     let d2 = c.domain_node-2.new.dag in
     let d3 = c.same.new.dag in
     let d4 = c.negated.new.dag in
-    let k2 = keeps_both d0 c.domain_node.new.dag d2 c.in_ok-here.ensures.keeps c.in_ok-there.ensures.keeps in
-    let k4 = keeps_both d0 d3 d4 (keeps_both d0 d2 d3 k2 c.in_ok-domains.ensures.keeps) c.in_ok-outside.ensures.keeps in
+    let k2 = keeps_then d0 c.domain_node.new.dag d2 c.in_ok-here.ensures.keeps c.in_ok-there.ensures.keeps in
+    let k4 = keeps_then d0 d3 d4 (keeps_then d0 d2 d3 k2 c.in_ok-domains.ensures.keeps) c.in_ok-outside.ensures.keeps in
     value_wide set.names d4 c.args.ys.now c.args.output c.value_node-2.result c.requires.structure.formed.bounds.widths c.requires.output c.requires.second c.value_node-2.ensures (leaves_later d0 d4 set.names c.args.ys.now k4 c.requires.second_leaves)
 
 pub returns-clause-keeps : goal.returns-clause-keeps
@@ -46,9 +47,9 @@ returns-clause-keeps c =
     let d4 = c.negated.new.dag in
     let d5 = c.equal.new.dag in
     let d6 = c.either.new.dag in
-    let k2 = keeps_both d0 c.domain_node.new.dag d2 c.in_ok-here.ensures.keeps c.in_ok-there.ensures.keeps in
-    let k4 = keeps_both d0 d3 d4 (keeps_both d0 d2 d3 k2 c.in_ok-domains.ensures.keeps) c.in_ok-outside.ensures.keeps in
-    keeps_both d0 d6 c.both.new.dag (keeps_both d0 d5 d6 (keeps_both d0 d4 d5 k4 c.in_ok-values.ensures.keeps) c.in_ok-claimed.ensures.keeps) c.in_ok-node.ensures.keeps
+    let k2 = keeps_then d0 c.domain_node.new.dag d2 c.in_ok-here.ensures.keeps c.in_ok-there.ensures.keeps in
+    let k4 = keeps_then d0 d3 d4 (keeps_then d0 d2 d3 k2 c.in_ok-domains.ensures.keeps) c.in_ok-outside.ensures.keeps in
+    keeps_then d0 d6 c.both.new.dag (keeps_then d0 d5 d6 (keeps_then d0 d4 d5 k4 c.in_ok-values.ensures.keeps) c.in_ok-claimed.ensures.keeps) c.in_ok-node.ensures.keeps
 
 pub returns-clause-node : goal.returns-clause-node
 returns-clause-node c = λ f g first second.
@@ -64,9 +65,9 @@ returns-clause-node c = λ f g first second.
     let d4 = c.negated.new.dag in
     let d5 = c.equal.new.dag in
     let d6 = c.either.new.dag in
-    let k2 = keeps_both d0 d1 d2 c.in_ok-here.ensures.keeps c.in_ok-there.ensures.keeps in
-    let k4 = keeps_both d0 d3 d4 (keeps_both d0 d2 d3 k2 c.in_ok-domains.ensures.keeps) c.in_ok-outside.ensures.keeps in
-    let k36 = keeps_both d3 d5 d6 (keeps_both d3 d4 d5 c.in_ok-outside.ensures.keeps c.in_ok-values.ensures.keeps) c.in_ok-claimed.ensures.keeps in
+    let k2 = keeps_then d0 d1 d2 c.in_ok-here.ensures.keeps c.in_ok-there.ensures.keeps in
+    let k4 = keeps_then d0 d3 d4 (keeps_then d0 d2 d3 k2 c.in_ok-domains.ensures.keeps) c.in_ok-outside.ensures.keeps in
+    let k36 = keeps_then d3 d5 d6 (keeps_then d3 d4 d5 c.in_ok-outside.ensures.keeps c.in_ok-values.ensures.keeps) c.in_ok-claimed.ensures.keeps in
     let here = tests_later d1 d2 c.in_ok-here.here (λ e. in_domain m set o (f e)) c.in_ok-there.ensures.keeps (c.in_ok-here.ensures.node f first) in
     let there = c.in_ok-there.ensures.node g (shows_later d0 d1 set.names ys g c.in_ok-here.ensures.keeps second) in
     let domains = c.in_ok-domains.ensures.node (λ e. in_domain m set o (f e)) (λ e. in_domain m set o (g e)) here there in

@@ -8,7 +8,8 @@ use Rattle.set_tree.specs.Parts.{property_at}
 use Rattle.twin_tests.specs.Building.{IsReadable}
 use Rattle.twin_tests.proofs.Loops.{Pair, ShowBoth, and_step, builds_start, builds_end, all_more, all_taken, member_is}
 use Rattle.twin_tests.proofs.Readings.{hands_read}
-use Rattle.twin_tests.proofs.Standing.{counts_later, has_later, keeps_both, leaves_later, shows_later, wide_later}
+use Rattle.elab_node.proofs.Kept.{keeps_then}
+use Rattle.twin_tests.proofs.Standing.{counts_later, has_later, leaves_later, shows_later, wide_later}
 use Rattle.twin_tests.proofs.hands.same_hands_node.Goals as goal
 
 pub loop-formula-init : goal.loop-formula-init
@@ -38,7 +39,7 @@ pub formula_node-requires-in-loop-formula-clause-leaves : goal.formula_node-requ
 formula_node-requires-in-loop-formula-clause-leaves c =
     let d = c.loop-formula.dag in
     let one = c.formula_node.new.dag in
-    leaves_later c.args.dag.now one c.args.set.now.names c.args.ys.now (keeps_both c.args.dag.now d one c.loop-formula.invariant.keeps c.formula_node.ensures.keeps) c.requires.second_leaves
+    leaves_later c.args.dag.now one c.args.set.now.names c.args.ys.now (keeps_then c.args.dag.now d one c.loop-formula.invariant.keeps c.formula_node.ensures.keeps) c.requires.second_leaves
 
 pub equal-requires-clause-first : goal.equal-requires-clause-first
 equal-requires-clause-first c = wide_later c.formula_node.new.dag c.formula_node-in-loop-formula.new.dag c.in_ok-one.one c.formula_node-in-loop-formula.ensures.keeps c.in_ok-one.ensures.wide
@@ -48,7 +49,7 @@ both-requires-clause-first c =
     let d = c.loop-formula.dag in
     let one = c.formula_node.new.dag in
     let two = c.formula_node-in-loop-formula.new.dag in
-    has_later d c.equal.new.dag c.loop-formula.all 1 (keeps_both d two c.equal.new.dag (keeps_both d one two c.formula_node.ensures.keeps c.formula_node-in-loop-formula.ensures.keeps) c.in_ok-agree.ensures.keeps) c.loop-formula.invariant.width
+    has_later d c.equal.new.dag c.loop-formula.all 1 (keeps_then d two c.equal.new.dag (keeps_then d one two c.formula_node.ensures.keeps c.formula_node-in-loop-formula.ensures.keeps) c.in_ok-agree.ensures.keeps) c.loop-formula.invariant.width
 
 pub loop-formula-preserved : goal.loop-formula-preserved
 loop-formula-preserved c =
@@ -64,10 +65,10 @@ loop-formula-preserved c =
     let one = c.formula_node.new.dag in
     let two = c.formula_node-in-loop-formula.new.dag in
     let lt : i < length es = omega arith in
-    let to_one = keeps_both start d one c.loop-formula.invariant.keeps c.formula_node.ensures.keeps in
+    let to_one = keeps_then start d one c.loop-formula.invariant.keeps c.formula_node.ensures.keeps in
     and_step (ShowBoth set.names start xs ys) start d c.equal.new.dag c.both.new.dag c.loop-formula.all c.in_ok-agree.agree c.in_ok-all-2.all
     (λ (r : Pair). list_all (λ e. m.value e r.0 == m.value e r.1) (take i es)) (λ (r : Pair). m.value x r.0 == m.value x r.1) (λ (r : Pair). list_all (λ e. m.value e r.0 == m.value e r.1) (take (i + 1) es)) (λ (r : Pair). all_more (λ e. m.value e r.0 == m.value e r.1) es i x c.formula-item.is lt) c.loop-formula.invariant
-    (keeps_both d two c.equal.new.dag (keeps_both d one two c.formula_node.ensures.keeps c.formula_node-in-loop-formula.ensures.keeps) c.in_ok-agree.ensures.keeps) c.in_ok-all-2.ensures.keeps c.in_ok-all-2.ensures.width
+    (keeps_then d two c.equal.new.dag (keeps_then d one two c.formula_node.ensures.keeps c.formula_node-in-loop-formula.ensures.keeps) c.in_ok-agree.ensures.keeps) c.in_ok-all-2.ensures.keeps c.in_ok-all-2.ensures.width
     (λ f shows. c.in_ok-agree.ensures.node (λ e. m.value x (f e).0) (λ e. m.value x (f e).1)
     (counts_later one two c.in_ok-one.one (λ e. m.value x (f e).0) c.formula_node-in-loop-formula.ensures.keeps (c.in_ok-one.ensures.node (λ e. (f e).0) (shows_later start d set.names xs (λ e. (f e).0) c.loop-formula.invariant.keeps shows.0)))
     (c.in_ok-other.ensures.node (λ e. (f e).1) (shows_later start one set.names ys (λ e. (f e).1) to_one shows.1))) c.in_ok-all-2.ensures.node

@@ -6,7 +6,8 @@ use Rattle.set_tree.specs.Parts.{window_of}
 use Rattle.word_dag.specs.Nodes.{Naming}
 use Rattle.twin_tests.specs.Building.{Tests}
 use Rattle.twin_tests.proofs.Framed.{frame_later}
-use Rattle.twin_tests.proofs.Standing.{keeps_both, tests_later}
+use Rattle.elab_node.proofs.Kept.{keeps_then}
+use Rattle.twin_tests.proofs.Standing.{tests_later}
 use Rattle.twin_tests.proofs.line.end_apart_node.Goals as goal
 
 pub end_node-requires-2-clause-frame : goal.end_node-requires-2-clause-frame
@@ -17,7 +18,7 @@ returns-clause-keeps c =
     let d0 = c.args.dag.now in
     let d2 = c.end_node-2.new.dag in
     let d3 = c.same.new.dag in
-    keeps_both d0 d3 c.negated.new.dag (keeps_both d0 d2 d3 (keeps_both d0 c.end_node.new.dag d2 c.in_ok-first.ensures.keeps c.in_ok-second.ensures.keeps) c.in_ok-agree.ensures.keeps) c.in_ok-node.ensures.keeps
+    keeps_then d0 d3 c.negated.new.dag (keeps_then d0 d2 d3 (keeps_then d0 c.end_node.new.dag d2 c.in_ok-first.ensures.keeps c.in_ok-second.ensures.keeps) c.in_ok-agree.ensures.keeps) c.in_ok-node.ensures.keeps
 
 pub returns-clause-node : goal.returns-clause-node
 returns-clause-node c =

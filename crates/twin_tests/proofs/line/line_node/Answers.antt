@@ -9,12 +9,13 @@ use Rattle.word_dag.specs.Nodes.{Naming}
 use Rattle.twin_tests.specs.Building.{Tests}
 use Rattle.twin_tests.specs.Framing.{end_test}
 use Rattle.twin_tests.proofs.Framed.{frame_later, frames_later}
-use Rattle.twin_tests.proofs.Standing.{keeps_both, tests_later}
+use Rattle.elab_node.proofs.Kept.{keeps_then}
+use Rattle.twin_tests.proofs.Standing.{tests_later}
 use Rattle.twin_tests.proofs.line.line_node.Goals as goal
 
 pub opens_node-requires-clause-frame : goal.opens_node-requires-clause-frame
 opens_node-requires-clause-frame c =
-    frame_later c.args.dag.now c.negated.new.dag c.args.set.now c.args.frames.now.first (keeps_both c.args.dag.now c.any_end_node.new.dag c.negated.new.dag c.in_ok-any-in-End.ensures.keeps c.in_ok-none-in-End.ensures.keeps) c.requires.frames.first
+    frame_later c.args.dag.now c.negated.new.dag c.args.set.now c.args.frames.now.first (keeps_then c.args.dag.now c.any_end_node.new.dag c.negated.new.dag c.in_ok-any-in-End.ensures.keeps c.in_ok-none-in-End.ensures.keeps) c.requires.frames.first
 
 pub pairs_node-requires-clause-frames : goal.pairs_node-requires-clause-frames
 pairs_node-requires-clause-frames c = frames_later c.args.dag.now c.any_end_node-in-SameEnd.new.dag c.args.set.now c.args.frames.now c.in_ok-any-in-SameEnd.ensures.keeps c.requires.frames
@@ -24,7 +25,7 @@ returns-in_ok-node-in-End-clause-keeps c =
     let d0 = c.args.dag.now in
     let d2 = c.negated.new.dag in
     let d3 = c.opens_node.new.dag in
-    keeps_both d0 d3 c.both.new.dag (keeps_both d0 d2 d3 (keeps_both d0 c.any_end_node.new.dag d2 c.in_ok-any-in-End.ensures.keeps c.in_ok-none-in-End.ensures.keeps) c.in_ok-opens-in-End.ensures.keeps) c.in_ok-node-in-End.ensures.keeps
+    keeps_then d0 d3 c.both.new.dag (keeps_then d0 d2 d3 (keeps_then d0 c.any_end_node.new.dag d2 c.in_ok-any-in-End.ensures.keeps c.in_ok-none-in-End.ensures.keeps) c.in_ok-opens-in-End.ensures.keeps) c.in_ok-node-in-End.ensures.keeps
 
 pub returns-in_ok-node-in-End-clause-node : goal.returns-in_ok-node-in-End-clause-node
 returns-in_ok-node-in-End-clause-node c =
@@ -47,7 +48,7 @@ pub returns-in_ok-node-in-SameEnd-clause-keeps : goal.returns-in_ok-node-in-Same
 returns-in_ok-node-in-SameEnd-clause-keeps c =
     let d0 = c.args.dag.now in
     let d2 = c.pairs_node.new.dag in
-    keeps_both d0 d2 c.both-in-SameEnd.new.dag (keeps_both d0 c.any_end_node-in-SameEnd.new.dag d2 c.in_ok-any-in-SameEnd.ensures.keeps c.in_ok-pairs-in-SameEnd.ensures.keeps) c.in_ok-node-in-SameEnd.ensures.keeps
+    keeps_then d0 d2 c.both-in-SameEnd.new.dag (keeps_then d0 c.any_end_node-in-SameEnd.new.dag d2 c.in_ok-any-in-SameEnd.ensures.keeps c.in_ok-pairs-in-SameEnd.ensures.keeps) c.in_ok-node-in-SameEnd.ensures.keeps
 
 pub returns-in_ok-node-in-SameEnd-clause-node : goal.returns-in_ok-node-in-SameEnd-clause-node
 returns-in_ok-node-in-SameEnd-clause-node c =

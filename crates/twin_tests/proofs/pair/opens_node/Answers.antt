@@ -5,11 +5,12 @@ use Rattle.set_tree.specs.Formulas.{meaning_of}
 use Rattle.word_dag.specs.Nodes.{Naming}
 use Rattle.twin_tests.specs.Building.{Tests}
 use Rattle.twin_tests.proofs.Framed.{rows_show}
-use Rattle.twin_tests.proofs.Standing.{keeps_both, tests_later}
+use Rattle.elab_node.proofs.Kept.{keeps_then}
+use Rattle.twin_tests.proofs.Standing.{tests_later}
 use Rattle.twin_tests.proofs.pair.opens_node.Goals as goal
 
 pub returns-clause-keeps : goal.returns-clause-keeps
-returns-clause-keeps c = keeps_both c.args.dag.now c.starts_node.new.dag c.both.new.dag c.in_ok-starts.ensures.keeps c.in_ok-node.ensures.keeps
+returns-clause-keeps c = keeps_then c.args.dag.now c.starts_node.new.dag c.both.new.dag c.in_ok-starts.ensures.keeps c.in_ok-node.ensures.keeps
 
 pub returns-clause-node : goal.returns-clause-node
 returns-clause-node c =

@@ -5,7 +5,8 @@ use Rattle.line_laws.specs.Windows.{named_rows}
 use Rattle.set_tree.specs.Formulas.{meaning_of}
 use Rattle.twin_tests.specs.Building.{Tests}
 use Rattle.twin_tests.proofs.Framed.{first_shows, follows_to, frame_later, frames_later, second_shows}
-use Rattle.twin_tests.proofs.Standing.{has_later, keeps_both, tests_later}
+use Rattle.elab_node.proofs.Kept.{keeps_then}
+use Rattle.twin_tests.proofs.Standing.{has_later, tests_later}
 use Rattle.twin_tests.proofs.pair.pairs_node.Goals as goal
 
 pub opens_node-requires-2-clause-frame : goal.opens_node-requires-2-clause-frame
@@ -23,7 +24,7 @@ same_hands_node-requires-clause-first_leaves c =
     let d0 = c.args.dag.now in
     let d2 = c.opens_node-2.new.dag in
     let d3 = c.both.new.dag in
-    let k3 = keeps_both d0 d2 d3 (keeps_both d0 c.opens_node.new.dag d2 c.in_ok-first.ensures.keeps c.in_ok-second.ensures.keeps) c.in_ok-open.ensures.keeps in
+    let k3 = keeps_then d0 d2 d3 (keeps_then d0 c.opens_node.new.dag d2 c.in_ok-first.ensures.keeps c.in_ok-second.ensures.keeps) c.in_ok-open.ensures.keeps in
     (first_shows set d3 c.args.frames.now c.args.end c.args.end c.rows_to-xs.result.now c.rows_to-xs.ensures refl c.requires.first (frames_later d0 d3 set c.args.frames.now k3 c.requires.frames)).leaves
 
 pub same_hands_node-requires-clause-second_leaves : goal.same_hands_node-requires-clause-second_leaves
@@ -32,7 +33,7 @@ same_hands_node-requires-clause-second_leaves c =
     let d0 = c.args.dag.now in
     let d2 = c.opens_node-2.new.dag in
     let d3 = c.both.new.dag in
-    let k3 = keeps_both d0 d2 d3 (keeps_both d0 c.opens_node.new.dag d2 c.in_ok-first.ensures.keeps c.in_ok-second.ensures.keeps) c.in_ok-open.ensures.keeps in
+    let k3 = keeps_then d0 d2 d3 (keeps_then d0 c.opens_node.new.dag d2 c.in_ok-first.ensures.keeps c.in_ok-second.ensures.keeps) c.in_ok-open.ensures.keeps in
     (second_shows set d3 c.args.frames.now c.args.end c.args.end c.rows_to-ys.result.now c.rows_to-ys.ensures refl c.requires.second (frames_later d0 d3 set c.args.frames.now k3 c.requires.frames)).leaves
 
 pub both-requires-2-clause-first : goal.both-requires-2-clause-first
@@ -44,8 +45,8 @@ returns-clause-keeps c =
     let d2 = c.opens_node-2.new.dag in
     let d3 = c.both.new.dag in
     let d4 = c.same_hands_node.new.dag in
-    let k3 = keeps_both d0 d2 d3 (keeps_both d0 c.opens_node.new.dag d2 c.in_ok-first.ensures.keeps c.in_ok-second.ensures.keeps) c.in_ok-open.ensures.keeps in
-    keeps_both d0 d4 c.both-2.new.dag (keeps_both d0 d3 d4 k3 c.in_ok-hands.ensures.keeps) c.in_ok-node.ensures.keeps
+    let k3 = keeps_then d0 d2 d3 (keeps_then d0 c.opens_node.new.dag d2 c.in_ok-first.ensures.keeps c.in_ok-second.ensures.keeps) c.in_ok-open.ensures.keeps in
+    keeps_then d0 d4 c.both-2.new.dag (keeps_then d0 d3 d4 k3 c.in_ok-hands.ensures.keeps) c.in_ok-node.ensures.keeps
 
 pub returns-clause-node : goal.returns-clause-node
 returns-clause-node c =
@@ -59,7 +60,7 @@ returns-clause-node c =
     let d2 = c.opens_node-2.new.dag in
     let d3 = c.both.new.dag in
     let d4 = c.same_hands_node.new.dag in
-    let k3 = keeps_both d0 d2 d3 (keeps_both d0 d1 d2 c.in_ok-first.ensures.keeps c.in_ok-second.ensures.keeps) c.in_ok-open.ensures.keeps in
+    let k3 = keeps_then d0 d2 d3 (keeps_then d0 d1 d2 c.in_ok-first.ensures.keeps c.in_ok-second.ensures.keeps) c.in_ok-open.ensures.keeps in
     let later = frames_later d0 d3 set frames k3 c.requires.frames in
     let first = subst (λ s. Tests d1 c.in_ok-first.first (λ e. opens m set at (named_rows set e s end))) c.requires.frames.first_side c.in_ok-first.ensures.node in
     let second = subst (λ s. Tests d2 c.in_ok-second.second (λ e. opens m set at (named_rows set e s end))) c.requires.frames.second_side c.in_ok-second.ensures.node in

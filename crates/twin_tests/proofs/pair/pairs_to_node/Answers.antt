@@ -5,7 +5,8 @@ use Rattle.line_laws.specs.Windows.{named_rows}
 use Rattle.set_tree.specs.Formulas.{meaning_of}
 use Rattle.word_dag.specs.Nodes.{Naming}
 use Rattle.twin_tests.proofs.Framed.{first_shows, follows_to, frames_later, second_shows}
-use Rattle.twin_tests.proofs.Standing.{has_later, keeps_both, tests_later}
+use Rattle.elab_node.proofs.Kept.{keeps_then}
+use Rattle.twin_tests.proofs.Standing.{has_later, tests_later}
 use Rattle.twin_tests.proofs.pair.pairs_to_node.Goals as goal
 
 pub ends_node-requires-clause-follows : goal.ends_node-requires-clause-follows
@@ -26,7 +27,7 @@ ends_node-requires-2-clause-leaves c =
     let d0 = c.args.dag.now in
     let d2 = c.ends_node.new.dag in
     let d3 = c.both.new.dag in
-    let k3 = keeps_both d0 d2 d3 (keeps_both d0 c.pairs_node.new.dag d2 c.in_ok-pairs.ensures.keeps c.in_ok-first.ensures.keeps) c.in_ok-one.ensures.keeps in
+    let k3 = keeps_then d0 d2 d3 (keeps_then d0 c.pairs_node.new.dag d2 c.in_ok-pairs.ensures.keeps c.in_ok-first.ensures.keeps) c.in_ok-one.ensures.keeps in
     (second_shows set d3 c.args.frames.now c.args.end c.args.end c.rows_to-2.result.now c.rows_to-2.ensures refl c.requires.second (frames_later d0 d3 set c.args.frames.now k3 c.requires.frames)).leaves
 
 pub both-requires-clause-first : goal.both-requires-clause-first
@@ -41,8 +42,8 @@ returns-clause-keeps c =
     let d2 = c.ends_node.new.dag in
     let d3 = c.both.new.dag in
     let d4 = c.ends_node-2.new.dag in
-    let k3 = keeps_both d0 d2 d3 (keeps_both d0 c.pairs_node.new.dag d2 c.in_ok-pairs.ensures.keeps c.in_ok-first.ensures.keeps) c.in_ok-one.ensures.keeps in
-    keeps_both d0 d4 c.both-2.new.dag (keeps_both d0 d3 d4 k3 c.in_ok-second.ensures.keeps) c.in_ok-node.ensures.keeps
+    let k3 = keeps_then d0 d2 d3 (keeps_then d0 c.pairs_node.new.dag d2 c.in_ok-pairs.ensures.keeps c.in_ok-first.ensures.keeps) c.in_ok-one.ensures.keeps in
+    keeps_then d0 d4 c.both-2.new.dag (keeps_then d0 d3 d4 k3 c.in_ok-second.ensures.keeps) c.in_ok-node.ensures.keeps
 
 pub returns-clause-node : goal.returns-clause-node
 returns-clause-node c =
@@ -57,7 +58,7 @@ returns-clause-node c =
     let d2 = c.ends_node.new.dag in
     let d3 = c.both.new.dag in
     let d4 = c.ends_node-2.new.dag in
-    let k3 = keeps_both d0 d2 d3 (keeps_both d0 d1 d2 c.in_ok-pairs.ensures.keeps c.in_ok-first.ensures.keeps) c.in_ok-one.ensures.keeps in
+    let k3 = keeps_then d0 d2 d3 (keeps_then d0 d1 d2 c.in_ok-pairs.ensures.keeps c.in_ok-first.ensures.keeps) c.in_ok-one.ensures.keeps in
     let pair : Naming → Bool = λ e. pairs m set at (named_rows set e 0 end) (named_rows set e 1 end) in
     let ends : Naming → Bool = λ e. ends_at m set at n (named_rows set e 0 end) in
     let first = c.in_ok-first.ensures.node (λ e. named_rows set e 0 end) (first_shows set d1 frames end end c.rows_to.result.now c.rows_to.ensures refl c.requires.first (frames_later d0 d1 set frames c.in_ok-pairs.ensures.keeps c.requires.frames)) in

@@ -9,7 +9,8 @@ use Rattle.word_dag.specs.Nodes.{Naming}
 use Rattle.twin_tests.specs.Building.{Tests}
 use Rattle.twin_tests.proofs.Framed.{after_shows, edge_reach, first_shows, frames_later, second_shows, taken_long}
 use Rattle.twin_tests.proofs.Readings.{edge_next}
-use Rattle.twin_tests.proofs.Standing.{has_later, keeps_both, tests_later}
+use Rattle.elab_node.proofs.Kept.{keeps_then}
+use Rattle.twin_tests.proofs.Standing.{has_later, tests_later}
 use Rattle.twin_tests.proofs.part.choose_node.Goals as goal
 
 pub assumed_node-requires-clause-follows : goal.assumed_node-requires-clause-follows
@@ -81,16 +82,16 @@ assumed_node-requires-2-clause-leaves c =
     let d1 = c.pairs_to_node.new.dag in
     let k1 = c.in_ok-pairs.ensures.keeps in
     let d2 = c.assumed_node.new.dag in
-    let k2 = keeps_both d0 d1 d2 k1 c.in_ok-chosen.ensures.keeps in
+    let k2 = keeps_then d0 d1 d2 k1 c.in_ok-chosen.ensures.keeps in
     let d3 = c.both.new.dag in
-    let k3 = keeps_both d0 d2 d3 k2 c.in_ok-first.ensures.keeps in
+    let k3 = keeps_then d0 d2 d3 k2 c.in_ok-first.ensures.keeps in
     (after_shows set.names d3 c.rows_to-2.result.now c.rows_after-ys.result.now n (λ e. named_rows set e 1 (edge_end set p q n)) c.rows_after-ys.ensures (second_shows set d3 frames end (edge_end set p q n) c.rows_to-2.result.now c.rows_to-2.ensures end_is lt' (frames_later d0 d3 set frames k3 c.requires.frames))).leaves
 
 pub both-requires-clause-first : goal.both-requires-clause-first
 both-requires-clause-first c = has_later c.pairs_to_node.new.dag c.assumed_node.new.dag c.in_ok-pairs.pairs 1 c.in_ok-chosen.ensures.keeps c.in_ok-pairs.ensures.width
 
 pub both-requires-2-clause-first : goal.both-requires-2-clause-first
-both-requires-2-clause-first c = has_later c.both.new.dag c.negated.new.dag c.in_ok-first.first 1 (keeps_both c.both.new.dag c.assumed_node-2.new.dag c.negated.new.dag c.in_ok-other.ensures.keeps c.in_ok-refused.ensures.keeps) c.in_ok-first.ensures.width
+both-requires-2-clause-first c = has_later c.both.new.dag c.negated.new.dag c.in_ok-first.first 1 (keeps_then c.both.new.dag c.assumed_node-2.new.dag c.negated.new.dag c.in_ok-other.ensures.keeps c.in_ok-refused.ensures.keeps) c.in_ok-first.ensures.width
 
 pub returns-clause-keeps : goal.returns-clause-keeps
 returns-clause-keeps c =
@@ -98,15 +99,15 @@ returns-clause-keeps c =
     let d1 = c.pairs_to_node.new.dag in
     let k1 = c.in_ok-pairs.ensures.keeps in
     let d2 = c.assumed_node.new.dag in
-    let k2 = keeps_both d0 d1 d2 k1 c.in_ok-chosen.ensures.keeps in
+    let k2 = keeps_then d0 d1 d2 k1 c.in_ok-chosen.ensures.keeps in
     let d3 = c.both.new.dag in
-    let k3 = keeps_both d0 d2 d3 k2 c.in_ok-first.ensures.keeps in
+    let k3 = keeps_then d0 d2 d3 k2 c.in_ok-first.ensures.keeps in
     let d4 = c.assumed_node-2.new.dag in
-    let k4 = keeps_both d0 d3 d4 k3 c.in_ok-other.ensures.keeps in
+    let k4 = keeps_then d0 d3 d4 k3 c.in_ok-other.ensures.keeps in
     let d5 = c.negated.new.dag in
-    let k5 = keeps_both d0 d4 d5 k4 c.in_ok-refused.ensures.keeps in
+    let k5 = keeps_then d0 d4 d5 k4 c.in_ok-refused.ensures.keeps in
     let d6 = c.both-2.new.dag in
-    let k6 = keeps_both d0 d5 d6 k5 c.in_ok-node.ensures.keeps in
+    let k6 = keeps_then d0 d5 d6 k5 c.in_ok-node.ensures.keeps in
     k6
 
 pub returns-clause-node : goal.returns-clause-node
@@ -126,9 +127,9 @@ returns-clause-node c =
     let d1 = c.pairs_to_node.new.dag in
     let k1 = c.in_ok-pairs.ensures.keeps in
     let d2 = c.assumed_node.new.dag in
-    let k2 = keeps_both d0 d1 d2 k1 c.in_ok-chosen.ensures.keeps in
+    let k2 = keeps_then d0 d1 d2 k1 c.in_ok-chosen.ensures.keeps in
     let d3 = c.both.new.dag in
-    let k3 = keeps_both d0 d2 d3 k2 c.in_ok-first.ensures.keeps in
+    let k3 = keeps_then d0 d2 d3 k2 c.in_ok-first.ensures.keeps in
     let d4 = c.assumed_node-2.new.dag in
     let d5 = c.negated.new.dag in
     let m = meaning_of set in
@@ -141,4 +142,4 @@ returns-clause-node c =
     let first = c.in_ok-first.ensures.node pair goes (tests_later d1 d2 c.in_ok-pairs.pairs pair c.in_ok-chosen.ensures.keeps paired) chosen in
     let second = c.in_ok-other.ensures.node (λ e. drop n (named_rows set e 1 last)) (after_shows set.names d3 c.rows_to-2.result.now c.rows_after-ys.result.now n (λ e. named_rows set e 1 last) c.rows_after-ys.ensures (second_shows set d3 frames end last c.rows_to-2.result.now c.rows_to-2.ensures end_is lt' (frames_later d0 d3 set frames k3 c.requires.frames))) in
     let refused = c.in_ok-refused.ensures.node other second in
-    c.in_ok-node.ensures.node (λ e. pair e && goes e) (λ e. not (other e)) (tests_later d3 d5 c.in_ok-first.first (λ e. pair e && goes e) (keeps_both d3 d4 d5 c.in_ok-other.ensures.keeps c.in_ok-refused.ensures.keeps) first) refused
+    c.in_ok-node.ensures.node (λ e. pair e && goes e) (λ e. not (other e)) (tests_later d3 d5 c.in_ok-first.first (λ e. pair e && goes e) (keeps_then d3 d4 d5 c.in_ok-other.ensures.keeps c.in_ok-refused.ensures.keeps) first) refused

@@ -9,7 +9,8 @@ use Rattle.set_tree.specs.Parts.{cover_end, property_at, window_of}
 use Rattle.word_dag.specs.Nodes.{Naming}
 use Rattle.twin_tests.specs.Building.{Tests}
 use Rattle.twin_tests.proofs.Framed.{first_shows, frames_later, second_shows}
-use Rattle.twin_tests.proofs.Standing.{keeps_both, tests_later}
+use Rattle.elab_node.proofs.Kept.{keeps_then}
+use Rattle.twin_tests.proofs.Standing.{tests_later}
 use Rattle.twin_tests.proofs.part.determine_node.Goals as goal
 
 pub covers_node-requires-clause-first_leaves : goal.covers_node-requires-clause-first_leaves
@@ -52,9 +53,9 @@ returns-clause-keeps c =
     let d1 = c.pairs_to_node.new.dag in
     let k1 = c.in_ok-pairs.ensures.keeps in
     let d2 = c.covers_node.new.dag in
-    let k2 = keeps_both d0 d1 d2 k1 c.in_ok-apart.ensures.keeps in
+    let k2 = keeps_then d0 d1 d2 k1 c.in_ok-apart.ensures.keeps in
     let d3 = c.both.new.dag in
-    let k3 = keeps_both d0 d2 d3 k2 c.in_ok-node.ensures.keeps in
+    let k3 = keeps_then d0 d2 d3 k2 c.in_ok-node.ensures.keeps in
     k3
 
 pub returns-clause-node : goal.returns-clause-node
@@ -73,7 +74,7 @@ returns-clause-node c =
     let d1 = c.pairs_to_node.new.dag in
     let k1 = c.in_ok-pairs.ensures.keeps in
     let d2 = c.covers_node.new.dag in
-    let k2 = keeps_both d0 d1 d2 k1 c.in_ok-apart.ensures.keeps in
+    let k2 = keeps_then d0 d1 d2 k1 c.in_ok-apart.ensures.keeps in
     let m = meaning_of set in
     let last = window_of set p in
     let pair : Naming → Bool = λ e. pairs_to m set p n (named_rows set e 0 last) (named_rows set e 1 last) in

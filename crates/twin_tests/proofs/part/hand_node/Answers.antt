@@ -8,7 +8,8 @@ use Rattle.word_dag.specs.Nodes.{Naming}
 use Rattle.twin_tests.specs.Building.{Tests}
 use Rattle.twin_tests.proofs.Framed.{after_shows, edge_reach, first_shows, frames_later, second_shows, taken_long}
 use Rattle.twin_tests.proofs.Readings.{edge_next}
-use Rattle.twin_tests.proofs.Standing.{has_later, keeps_both, tests_later}
+use Rattle.elab_node.proofs.Kept.{keeps_then}
+use Rattle.twin_tests.proofs.Standing.{has_later, tests_later}
 use Rattle.twin_tests.proofs.part.hand_node.Goals as goal
 
 pub starts_node-requires-clause-follows : goal.starts_node-requires-clause-follows
@@ -80,9 +81,9 @@ starts_node-requires-2-clause-leaves c =
     let d1 = c.pairs_to_node.new.dag in
     let k1 = c.in_ok-pairs.ensures.keeps in
     let d2 = c.starts_node.new.dag in
-    let k2 = keeps_both d0 d1 d2 k1 c.in_ok-here.ensures.keeps in
+    let k2 = keeps_then d0 d1 d2 k1 c.in_ok-here.ensures.keeps in
     let d3 = c.both.new.dag in
-    let k3 = keeps_both d0 d2 d3 k2 c.in_ok-first.ensures.keeps in
+    let k3 = keeps_then d0 d2 d3 k2 c.in_ok-first.ensures.keeps in
     (after_shows set.names d3 c.rows_to-2.result.now c.rows_after-ys.result.now n (λ e. named_rows set e 1 (edge_end set p q n)) c.rows_after-ys.ensures (second_shows set d3 frames end (edge_end set p q n) c.rows_to-2.result.now c.rows_to-2.ensures end_is lt' (frames_later d0 d3 set frames k3 c.requires.frames))).leaves
 
 pub same_hands_node-requires-clause-first : goal.same_hands_node-requires-clause-first
@@ -136,13 +137,13 @@ same_hands_node-requires-clause-first_leaves c =
     let d1 = c.pairs_to_node.new.dag in
     let k1 = c.in_ok-pairs.ensures.keeps in
     let d2 = c.starts_node.new.dag in
-    let k2 = keeps_both d0 d1 d2 k1 c.in_ok-here.ensures.keeps in
+    let k2 = keeps_then d0 d1 d2 k1 c.in_ok-here.ensures.keeps in
     let d3 = c.both.new.dag in
-    let k3 = keeps_both d0 d2 d3 k2 c.in_ok-first.ensures.keeps in
+    let k3 = keeps_then d0 d2 d3 k2 c.in_ok-first.ensures.keeps in
     let d4 = c.starts_node-2.new.dag in
-    let k4 = keeps_both d0 d3 d4 k3 c.in_ok-there.ensures.keeps in
+    let k4 = keeps_then d0 d3 d4 k3 c.in_ok-there.ensures.keeps in
     let d5 = c.both-2.new.dag in
-    let k5 = keeps_both d0 d4 d5 k4 c.in_ok-second.ensures.keeps in
+    let k5 = keeps_then d0 d4 d5 k4 c.in_ok-second.ensures.keeps in
     (after_shows set.names d5 c.rows_to.result.now c.rows_after-xs.result.now n (λ e. named_rows set e 0 (edge_end set p q n)) c.rows_after-xs.ensures (first_shows set d5 frames end (edge_end set p q n) c.rows_to.result.now c.rows_to.ensures end_is lt (frames_later d0 d5 set frames k5 c.requires.frames))).leaves
 
 pub same_hands_node-requires-clause-second_leaves : goal.same_hands_node-requires-clause-second_leaves
@@ -162,13 +163,13 @@ same_hands_node-requires-clause-second_leaves c =
     let d1 = c.pairs_to_node.new.dag in
     let k1 = c.in_ok-pairs.ensures.keeps in
     let d2 = c.starts_node.new.dag in
-    let k2 = keeps_both d0 d1 d2 k1 c.in_ok-here.ensures.keeps in
+    let k2 = keeps_then d0 d1 d2 k1 c.in_ok-here.ensures.keeps in
     let d3 = c.both.new.dag in
-    let k3 = keeps_both d0 d2 d3 k2 c.in_ok-first.ensures.keeps in
+    let k3 = keeps_then d0 d2 d3 k2 c.in_ok-first.ensures.keeps in
     let d4 = c.starts_node-2.new.dag in
-    let k4 = keeps_both d0 d3 d4 k3 c.in_ok-there.ensures.keeps in
+    let k4 = keeps_then d0 d3 d4 k3 c.in_ok-there.ensures.keeps in
     let d5 = c.both-2.new.dag in
-    let k5 = keeps_both d0 d4 d5 k4 c.in_ok-second.ensures.keeps in
+    let k5 = keeps_then d0 d4 d5 k4 c.in_ok-second.ensures.keeps in
     (after_shows set.names d5 c.rows_to-2.result.now c.rows_after-ys.result.now n (λ e. named_rows set e 1 (edge_end set p q n)) c.rows_after-ys.ensures (second_shows set d5 frames end (edge_end set p q n) c.rows_to-2.result.now c.rows_to-2.ensures end_is lt' (frames_later d0 d5 set frames k5 c.requires.frames))).leaves
 
 pub both-requires-clause-first : goal.both-requires-clause-first
@@ -178,7 +179,7 @@ pub both-requires-2-clause-first : goal.both-requires-2-clause-first
 both-requires-2-clause-first c = has_later c.both.new.dag c.starts_node-2.new.dag c.in_ok-first.first 1 c.in_ok-there.ensures.keeps c.in_ok-first.ensures.width
 
 pub both-requires-3-clause-first : goal.both-requires-3-clause-first
-both-requires-3-clause-first c = has_later c.both-2.new.dag c.negated.new.dag c.in_ok-second.second 1 (keeps_both c.both-2.new.dag c.same_hands_node.new.dag c.negated.new.dag c.in_ok-hands.ensures.keeps c.in_ok-differ.ensures.keeps) c.in_ok-second.ensures.width
+both-requires-3-clause-first c = has_later c.both-2.new.dag c.negated.new.dag c.in_ok-second.second 1 (keeps_then c.both-2.new.dag c.same_hands_node.new.dag c.negated.new.dag c.in_ok-hands.ensures.keeps c.in_ok-differ.ensures.keeps) c.in_ok-second.ensures.width
 
 pub returns-clause-keeps : goal.returns-clause-keeps
 returns-clause-keeps c =
@@ -186,19 +187,19 @@ returns-clause-keeps c =
     let d1 = c.pairs_to_node.new.dag in
     let k1 = c.in_ok-pairs.ensures.keeps in
     let d2 = c.starts_node.new.dag in
-    let k2 = keeps_both d0 d1 d2 k1 c.in_ok-here.ensures.keeps in
+    let k2 = keeps_then d0 d1 d2 k1 c.in_ok-here.ensures.keeps in
     let d3 = c.both.new.dag in
-    let k3 = keeps_both d0 d2 d3 k2 c.in_ok-first.ensures.keeps in
+    let k3 = keeps_then d0 d2 d3 k2 c.in_ok-first.ensures.keeps in
     let d4 = c.starts_node-2.new.dag in
-    let k4 = keeps_both d0 d3 d4 k3 c.in_ok-there.ensures.keeps in
+    let k4 = keeps_then d0 d3 d4 k3 c.in_ok-there.ensures.keeps in
     let d5 = c.both-2.new.dag in
-    let k5 = keeps_both d0 d4 d5 k4 c.in_ok-second.ensures.keeps in
+    let k5 = keeps_then d0 d4 d5 k4 c.in_ok-second.ensures.keeps in
     let d6 = c.same_hands_node.new.dag in
-    let k6 = keeps_both d0 d5 d6 k5 c.in_ok-hands.ensures.keeps in
+    let k6 = keeps_then d0 d5 d6 k5 c.in_ok-hands.ensures.keeps in
     let d7 = c.negated.new.dag in
-    let k7 = keeps_both d0 d6 d7 k6 c.in_ok-differ.ensures.keeps in
+    let k7 = keeps_then d0 d6 d7 k6 c.in_ok-differ.ensures.keeps in
     let d8 = c.both-3.new.dag in
-    let k8 = keeps_both d0 d7 d8 k7 c.in_ok-node.ensures.keeps in
+    let k8 = keeps_then d0 d7 d8 k7 c.in_ok-node.ensures.keeps in
     k8
 
 pub returns-clause-node : goal.returns-clause-node
@@ -218,13 +219,13 @@ returns-clause-node c =
     let d1 = c.pairs_to_node.new.dag in
     let k1 = c.in_ok-pairs.ensures.keeps in
     let d2 = c.starts_node.new.dag in
-    let k2 = keeps_both d0 d1 d2 k1 c.in_ok-here.ensures.keeps in
+    let k2 = keeps_then d0 d1 d2 k1 c.in_ok-here.ensures.keeps in
     let d3 = c.both.new.dag in
-    let k3 = keeps_both d0 d2 d3 k2 c.in_ok-first.ensures.keeps in
+    let k3 = keeps_then d0 d2 d3 k2 c.in_ok-first.ensures.keeps in
     let d4 = c.starts_node-2.new.dag in
-    let k4 = keeps_both d0 d3 d4 k3 c.in_ok-there.ensures.keeps in
+    let k4 = keeps_then d0 d3 d4 k3 c.in_ok-there.ensures.keeps in
     let d5 = c.both-2.new.dag in
-    let k5 = keeps_both d0 d4 d5 k4 c.in_ok-second.ensures.keeps in
+    let k5 = keeps_then d0 d4 d5 k4 c.in_ok-second.ensures.keeps in
     let d6 = c.same_hands_node.new.dag in
     let d7 = c.negated.new.dag in
     let m = meaning_of set in
@@ -240,4 +241,4 @@ returns-clause-node c =
     let second = c.in_ok-second.ensures.node (λ e. pair e && here e) there (tests_later d3 d4 c.in_ok-first.first (λ e. pair e && here e) c.in_ok-there.ensures.keeps first) starts_there in
     let hands = c.in_ok-hands.ensures.node (λ e. drop n (named_rows set e 0 last)) (λ e. drop n (named_rows set e 1 last)) (after_shows set.names d5 c.rows_to.result.now c.rows_after-xs.result.now n (λ e. named_rows set e 0 last) c.rows_after-xs.ensures (first_shows set d5 frames end last c.rows_to.result.now c.rows_to.ensures end_is lt (frames_later d0 d5 set frames k5 c.requires.frames))) (after_shows set.names d5 c.rows_to-2.result.now c.rows_after-ys.result.now n (λ e. named_rows set e 1 last) c.rows_after-ys.ensures (second_shows set d5 frames end last c.rows_to-2.result.now c.rows_to-2.ensures end_is lt' (frames_later d0 d5 set frames k5 c.requires.frames))) in
     let differ = c.in_ok-differ.ensures.node agree hands in
-    c.in_ok-node.ensures.node (λ e. (pair e && here e) && there e) (λ e. not (agree e)) (tests_later d5 d7 c.in_ok-second.second (λ e. (pair e && here e) && there e) (keeps_both d5 d6 d7 c.in_ok-hands.ensures.keeps c.in_ok-differ.ensures.keeps) second) differ
+    c.in_ok-node.ensures.node (λ e. (pair e && here e) && there e) (λ e. not (agree e)) (tests_later d5 d7 c.in_ok-second.second (λ e. (pair e && here e) && there e) (keeps_then d5 d6 d7 c.in_ok-hands.ensures.keeps c.in_ok-differ.ensures.keeps) second) differ

@@ -13,7 +13,8 @@ use Rattle.twin_tests.specs.Building.{Tests}
 use Rattle.twin_tests.specs.Reading.{FollowsWithin}
 use Rattle.twin_tests.proofs.Framed.{after_shows, end_of_property, first_shows, follows_to, frames_later, next_positions, split_reach, taken_long}
 use Rattle.twin_tests.proofs.Readings.{split_follow, split_window}
-use Rattle.twin_tests.proofs.Standing.{has_later, keeps_both, tests_later}
+use Rattle.elab_node.proofs.Kept.{keeps_then}
+use Rattle.twin_tests.proofs.Standing.{has_later, tests_later}
 use Rattle.twin_tests.proofs.part.split_node.Goals as goal
 
 pub last_row-end-requires-clause-positions : goal.last_row-end-requires-clause-positions
@@ -151,16 +152,16 @@ any_assumed_node-requires-clause-leaves c =
     let d1 = c.opens_node.new.dag in
     let k1 = c.in_ok-opens.ensures.keeps in
     let d2 = c.ends_node.new.dag in
-    let k2 = keeps_both d0 d1 d2 k1 c.in_ok-ends.ensures.keeps in
+    let k2 = keeps_then d0 d1 d2 k1 c.in_ok-ends.ensures.keeps in
     let d3 = c.both.new.dag in
-    let k3 = keeps_both d0 d2 d3 k2 c.in_ok-ended.ensures.keeps in
+    let k3 = keeps_then d0 d2 d3 k2 c.in_ok-ended.ensures.keeps in
     (after_shows set.names d3 c.rows_to-rows.result.now c.rows_after.result.now n (λ e. named_rows set e 0 end) c.rows_after.ensures (first_shows set d3 frames end end c.rows_to-rows.result.now c.rows_to-rows.ensures refl lt (frames_later d0 d3 set frames k3 c.requires.frames))).leaves
 
 pub both-requires-clause-first : goal.both-requires-clause-first
 both-requires-clause-first c = has_later c.opens_node.new.dag c.ends_node.new.dag c.in_ok-opens.opens 1 c.in_ok-ends.ensures.keeps c.in_ok-opens.ensures.width
 
 pub both-requires-2-clause-first : goal.both-requires-2-clause-first
-both-requires-2-clause-first c = has_later c.both.new.dag c.negated.new.dag c.in_ok-ended.ended 1 (keeps_both c.both.new.dag c.any_assumed_node.new.dag c.negated.new.dag c.in_ok-some.ensures.keeps c.in_ok-none.ensures.keeps) c.in_ok-ended.ensures.width
+both-requires-2-clause-first c = has_later c.both.new.dag c.negated.new.dag c.in_ok-ended.ended 1 (keeps_then c.both.new.dag c.any_assumed_node.new.dag c.negated.new.dag c.in_ok-some.ensures.keeps c.in_ok-none.ensures.keeps) c.in_ok-ended.ensures.width
 
 pub returns-clause-keeps : goal.returns-clause-keeps
 returns-clause-keeps c =
@@ -168,15 +169,15 @@ returns-clause-keeps c =
     let d1 = c.opens_node.new.dag in
     let k1 = c.in_ok-opens.ensures.keeps in
     let d2 = c.ends_node.new.dag in
-    let k2 = keeps_both d0 d1 d2 k1 c.in_ok-ends.ensures.keeps in
+    let k2 = keeps_then d0 d1 d2 k1 c.in_ok-ends.ensures.keeps in
     let d3 = c.both.new.dag in
-    let k3 = keeps_both d0 d2 d3 k2 c.in_ok-ended.ensures.keeps in
+    let k3 = keeps_then d0 d2 d3 k2 c.in_ok-ended.ensures.keeps in
     let d4 = c.any_assumed_node.new.dag in
-    let k4 = keeps_both d0 d3 d4 k3 c.in_ok-some.ensures.keeps in
+    let k4 = keeps_then d0 d3 d4 k3 c.in_ok-some.ensures.keeps in
     let d5 = c.negated.new.dag in
-    let k5 = keeps_both d0 d4 d5 k4 c.in_ok-none.ensures.keeps in
+    let k5 = keeps_then d0 d4 d5 k4 c.in_ok-none.ensures.keeps in
     let d6 = c.both-2.new.dag in
-    let k6 = keeps_both d0 d5 d6 k5 c.in_ok-node.ensures.keeps in
+    let k6 = keeps_then d0 d5 d6 k5 c.in_ok-node.ensures.keeps in
     k6
 
 pub returns-clause-node : goal.returns-clause-node
@@ -196,9 +197,9 @@ returns-clause-node c =
     let d1 = c.opens_node.new.dag in
     let k1 = c.in_ok-opens.ensures.keeps in
     let d2 = c.ends_node.new.dag in
-    let k2 = keeps_both d0 d1 d2 k1 c.in_ok-ends.ensures.keeps in
+    let k2 = keeps_then d0 d1 d2 k1 c.in_ok-ends.ensures.keeps in
     let d3 = c.both.new.dag in
-    let k3 = keeps_both d0 d2 d3 k2 c.in_ok-ended.ensures.keeps in
+    let k3 = keeps_then d0 d2 d3 k2 c.in_ok-ended.ensures.keeps in
     let d4 = c.any_assumed_node.new.dag in
     let d5 = c.negated.new.dag in
     let m = meaning_of set in
@@ -212,4 +213,4 @@ returns-clause-node c =
     let some = c.in_ok-some.ensures.node (λ e. drop n (named_rows set e 0 last)) (after_shows set.names d3 c.rows_to-rows.result.now c.rows_after.result.now n (λ e. named_rows set e 0 last) c.rows_after.ensures (first_shows set d3 frames end last c.rows_to-rows.result.now c.rows_to-rows.ensures end_is lt (frames_later d0 d3 set frames k3 c.requires.frames))) in
     let listed = subst (λ (qs : List ℕ). Tests d4 c.in_ok-some.some (λ e. list_any (λ q. assumed m set q (drop n (named_rows set e 0 last))) qs)) next_is some in
     let none = c.in_ok-none.ensures.node follows listed in
-    c.in_ok-node.ensures.node (λ e. is_open e && is_end e) (λ e. not (follows e)) (tests_later d3 d5 c.in_ok-ended.ended (λ e. is_open e && is_end e) (keeps_both d3 d4 d5 c.in_ok-some.ensures.keeps c.in_ok-none.ensures.keeps) both) none
+    c.in_ok-node.ensures.node (λ e. is_open e && is_end e) (λ e. not (follows e)) (tests_later d3 d5 c.in_ok-ended.ended (λ e. is_open e && is_end e) (keeps_then d3 d4 d5 c.in_ok-some.ensures.keeps c.in_ok-none.ensures.keeps) both) none

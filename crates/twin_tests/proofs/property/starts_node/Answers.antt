@@ -6,7 +6,8 @@ use Rattle.set_tree.specs.Meaning.{all_hold}
 use Rattle.set_tree.specs.Parts.{assumed, committed, property_at}
 use Rattle.twin_tests.proofs.Loops.{same_test}
 use Rattle.twin_tests.proofs.Readings.{commitments_read}
-use Rattle.twin_tests.proofs.Standing.{keeps_both, leaves_later, shows_later, tests_later}
+use Rattle.elab_node.proofs.Kept.{keeps_then}
+use Rattle.twin_tests.proofs.Standing.{leaves_later, shows_later, tests_later}
 use Rattle.twin_tests.proofs.property.starts_node.Goals as goal
 
 pub all_node-requires-clause-readable : goal.all_node-requires-clause-readable
@@ -19,7 +20,7 @@ pub returns-clause-keeps : goal.returns-clause-keeps
 returns-clause-keeps c =
     let one = c.assumed_node.new.dag in
     let two = c.all_node.new.dag in
-    keeps_both c.args.dag.now two c.both.new.dag (keeps_both c.args.dag.now one two c.in_ok-assumed.ensures.keeps c.in_ok-committed.ensures.keeps) c.in_ok-node.ensures.keeps
+    keeps_then c.args.dag.now two c.both.new.dag (keeps_then c.args.dag.now one two c.in_ok-assumed.ensures.keeps c.in_ok-committed.ensures.keeps) c.in_ok-node.ensures.keeps
 
 pub returns-clause-node : goal.returns-clause-node
 returns-clause-node c = λ f shows.
