@@ -1,0 +1,5 @@
+//! The obligations of a design's lines.
+#![tactic(auto)]
+
+mod copies;
+mod leaves;
