@@ -1,0 +1,6 @@
+pub mod Ports
+pub mod Searches
+pub mod Seconds
+pub mod Signals
+pub mod Using
+pub mod Words
