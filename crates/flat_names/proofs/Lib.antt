@@ -1,3 +1,5 @@
+pub mod Assigning
+pub mod Fitting
 pub mod Ports
 pub mod Searches
 pub mod Seconds

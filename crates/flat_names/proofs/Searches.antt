@@ -1,5 +1,5 @@
 -- Searches through names, one after another.
-use Rattle.std.proofs.Common.{◌≡◌, ℕ, ◌+◌, ◌<◌, true, false, ◌⊎◌, inl, inr, List, [], ◌∷◌, map, length, drop, get_or, add-one, Bor, Option, Some, None, Result, Ok, Err, ⊎_elim, refl, sym, ap, subst, ◌∙◌}
+use Rattle.std.proofs.Common.{◌≡◌, ℕ, ◌+◌, ◌<◌, ◌≤◌, drop_of_length-le, true, false, ◌⊎◌, inl, inr, List, [], ◌∷◌, map, length, drop, get_or, add-one, Bor, Option, Some, None, Result, Ok, Err, ⊎_elim, refl, sym, ap, subst, ◌∙◌}
 use Rattle.std.specs.Prelude.{IfOk}
 use Rattle.std.specs.Option.{option_copied}
 use Rattle.vlog_runs.specs.Places.{Name, Among}
@@ -8,7 +8,7 @@ use Rattle.flat_faults.specs.Declaring.{Repeats}
 use Rattle.flat_scopes.specs.Borrowed.{name_meant}
 use Rattle.flat_scopes.proofs.Finding.{cut}
 use Rattle.elab_drive.proofs.Naming.{of_among, meant_at}
-use Rattle.flat_names.specs.Searching.{Finds}
+use Rattle.flat_names.specs.Searching.{Finds, IsAbsent}
 
 -- a name stands again: after those before it, or twice among those that follow
 abbrev pub Again : List Name → List Name → Name → Type 0
@@ -68,3 +68,17 @@ nothing_found P (Some y) found no' = λ x p. no' y refl
 
 pub one_found : (P : Name → Type 0) (o : Option (Bor Name)) (x : Bor Name) → Finds P (option_copied o) → o ≡ Some x → P x.now
 one_found P o x found is = subst (λ z. Finds P (option_copied z)) is found
+
+pub lacks_none : (xs xs' ys ys' : List Name) → xs ≡ xs' → ys ≡ ys' → (o : Option (Bor Name)) → Finds (IsAbsent xs ys) (option_copied o) → ((x : Bor Name) → o ≡ Some x → ⊥) → (x : Name) → IsAbsent xs' ys' x → ⊥
+lacks_none xs xs' ys ys' e g o found no' x h = none_found (IsAbsent xs ys) o found no' x (subst (λ zs. Among zs x) (sym e) h.0, λ a. h.1 (subst (λ zs. Among zs x) g a))
+
+pub one_lacks : (xs xs' ys ys' : List Name) → xs ≡ xs' → ys ≡ ys' → (o : Option (Bor Name)) (x : Bor Name) → Finds (IsAbsent xs ys) (option_copied o) → o ≡ Some x → IsAbsent xs' ys' x.now
+one_lacks xs xs' ys ys' e g o x found is =
+    let h = one_found (IsAbsent xs ys) o x found is in (subst (λ zs. Among zs x.now) e h.0, λ a. h.1 (subst (λ zs. Among zs x.now) (sym g) a))
+
+pub repeats_none : (xs xs' : List Name) → xs ≡ xs' → (o : Option (Bor Name)) → Finds (Repeats xs) (option_copied o) → ((x : Bor Name) → o ≡ Some x → ⊥) → (x : Name) → Repeats xs' x → ⊥
+repeats_none xs xs' e o found no' x h = none_found (Repeats xs) o found no' x (subst (λ zs. Repeats zs x) (sym e) h)
+
+-- nothing stands past the end
+pub none_left : {A B : Type 0} (f : A → B) (xs : List A) (i : ℕ) → length xs ≤ i → (y : B) → Among (map f (drop i xs)) y → ⊥
+none_left f xs i le y a = subst (λ zs. Among (map f zs) y) (drop_of_length-le xs {i = i} le) a

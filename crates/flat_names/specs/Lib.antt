@@ -1,2 +1,3 @@
+pub mod Assignable
 pub mod Rows
 pub mod Searching

@@ -2,6 +2,7 @@
 use Rattle.std.specs.Prelude.{◌≡◌, ◌≤◌, ◌⊎◌, nat_eq, true, false, List, [], ◌∷◌, ◌++◌, Option, Some, None, map, filter, if◌then◌else◌}
 use Rattle.std.specs.List.{flat_map}
 use Rattle.vlog_tree.specs.declared.expr.Expr.{Expr}
+use Rattle.vlog_tree.specs.declared.item.Connection.{Connection}
 use Rattle.vlog_tree.specs.declared.module.Module.{Module}
 use Rattle.vlog_tree.specs.declared.valuation.Entry.{Entry}
 use Rattle.vlog_runs.specs.Places.{Name, Among}
@@ -19,6 +20,8 @@ use Rattle.flat_params.specs.declared.unfit.BadWords.TheVariants as w
 use Rattle.flat_instances.specs.Unfolding.{unfit_fault, range_fault, StandsIn}
 use Rattle.flat_scopes.specs.Borrowed.{param_name}
 use Rattle.flat_scopes.specs.Finding.{decl_name}
+use Rattle.flat_names.specs.Assignable.{is_assignable}
+use Rattle.flat_names.specs.Searching.{IsAbsent}
 
 -- ---- names
 
@@ -112,16 +115,57 @@ IsWordOf s x = Among (map param_name (params_in s.module')) x × Among (flat_map
 
 -- ---- instances
 
--- the connections and the overrides of an instance fit its module
-pub record FitsModule (s : Scope) (i : Inner) (m : Module) : Type 0 where
-  pub ports : (x : Name) → Among (arg_names i.args) x → (Among (port_names m) x → ⊥) → ⊥
-  pub params : (x : Name) → Among (arg_names i.overrides) x → (Among (open_params m) x → ⊥) → ⊥
-  pub few : Overshoots (open_params m) i.overrides → ⊥
-  pub overridden_once : (x : Name) → Repeats (arg_names i.overrides) x → ⊥
-  pub all_ports : MissesPorts (port_names m) i.args → ⊥
-  pub connected_once : (x : Name) → Repeats (arg_names i.args) x → ⊥
-  pub outputs : (d : Given) → Among (given_to (port_names m) i.args) d → (port : Decl) → decl_at (signals_in m) d.name ≡ Some port → port.input ≡ false → port.output ≡ true →
-      (IsAssignable (place_of s) d.value → ⊥) → ⊥
+abbrev pub connection_name : Connection → Name
+connection_name n = n.port
 
-abbrev pub FitsInner : List Module → Scope → Inner → Type 0
-FitsInner ms s i = (m : Module) × (module_at ms i.of_module ≡ Some m) × FitsModule s i m
+-- a fault stands at a scope, whatever modules there are beside this one of an instance in it
+abbrev pub StandsInside : Scope → Inner → Module → FlatFault → Type 0
+StandsInside s i m fault = (ms : List Module) → module_at ms i.of_module ≡ Some m → StandsIn ms s fault
+
+-- the overrides of an instance name parameters of its module that can be overridden, each once
+pub record HasFitOverrides (i : Inner) (m : Module) : Type 0 where
+  pub named : (x : Name) → IsAbsent (arg_names i.overrides) (open_params m) x → ⊥
+  pub few : Overshoots (open_params m) i.overrides → ⊥
+  pub once : (x : Name) → Repeats (arg_names i.overrides) x → ⊥
+
+-- its connections name ports of its module, each once, or are as many as they
+pub record HasFitConnections (i : Inner) (m : Module) : Type 0 where
+  pub named : (x : Name) → IsAbsent (arg_names i.args) (port_names m) x → ⊥
+  pub all_ports : MissesPorts (port_names m) i.args → ⊥
+  pub once : (x : Name) → Repeats (arg_names i.args) x → ⊥
+
+-- an output is connected to an expression that can't be assigned
+abbrev pub IsBadGiven : List Decl → List Name → Given → Type 0
+IsBadGiven ports signals d = (port : Decl) × (decl_at ports d.name ≡ Some port) × (port.input ≡ false) × (port.output ≡ true) × (is_assignable signals d.value ≡ false)
+
+abbrev pub IsBadOutput : List Given → List Decl → List Name → Name → Type 0
+IsBadOutput ds ports signals x = (d : Given) × Among ds d × (d.name ≡ x) × IsBadGiven ports signals d
+
+-- its outputs are connected to expressions that can be assigned
+abbrev pub HasFitOutputs : Scope → Inner → Module → Type 0
+HasFitOutputs s i m =
+    (d : Given) → Among (given_to (port_names m) i.args) d → (port : Decl) → decl_at (signals_in m) d.name ≡ Some port → port.input ≡ false → port.output ≡ true →
+    (IsAssignable (place_of s) d.value → ⊥) → ⊥
+
+-- an instance has a module, which its overrides and its connections fit
+pub record FitsInner (ms : List Module) (s : Scope) (i : Inner) : Type 0 where
+  pub module' : Module
+  pub found : module_at ms i.of_module ≡ Some module'
+  pub overrides : HasFitOverrides i module'
+  pub connections : HasFitConnections i module'
+  pub outputs : HasFitOutputs s i module'
+
+-- ---- all together
+
+-- a fault of names or ports
+abbrev pub IsOfNames : FlatFault → Type 0
+IsOfNames (f.Unknown n) = Unit {0}
+IsOfNames (f.Twice n) = Unit {0}
+IsOfNames (f.Port n) = Unit {0}
+IsOfNames f.NoTop = ⊥
+IsOfNames (f.Recursion n) = ⊥
+IsOfNames f.Instances = ⊥
+IsOfNames (f.Constant n) = ⊥
+IsOfNames (f.Width n) = ⊥
+IsOfNames (f.Clock n) = ⊥
+IsOfNames f.Memory = ⊥

@@ -1,19 +1,24 @@
 // The rules on the names and the ports of a scope's own text.
 
-ghost use Rattle.std.specs.Prelude.{◌≡◌, ◌⊎◌, ◌++◌, IfOk, IfErr, OnOk, false};
-ghost use Rattle.vlog_runs.specs.Places.{Name};
+ghost use Rattle.std.specs.Prelude.{◌≡◌, ◌⊎◌, ◌++◌, IfOk, IfErr, OnOk, false, map};
+ghost use Rattle.vlog_runs.specs.Places.{Name, Among};
+ghost use Rattle.vlog_runs.specs.Contents.{Inner as Instance, instances_in, signals_in};
+ghost use Rattle.flat_faults.specs.declared.fault.FlatFault.{FlatFault as Fault};
 ghost use Rattle.flat_faults.specs.Declaring.{IsDeclaredTwice, LacksDirection, IsUnlisted};
-ghost use Rattle.flat_faults.specs.Stands.{Refuses};
-ghost use Rattle.flat_instances.specs.Unfolding.{scope_meant};
-ghost use Rattle.flat_names.specs.Rows.{StandsAlone, IsUsedUnknown};
+ghost use Rattle.flat_faults.specs.Stands.{Refuses, StandsAt};
+ghost use Rattle.flat_scopes.specs.Borrowed.{inner_meant};
+ghost use Rattle.flat_scopes.specs.Finding.{decl_name};
+ghost use Rattle.flat_instances.specs.Unfolding.{scope_meant, StandsIn};
+ghost use Rattle.flat_names.specs.Rows.{StandsAlone, IsUsedUnknown, FitsInner, IsOfNames};
 
 use crate::again::declared_again;
 use crate::declared::{scope_names, signal_names};
+use crate::inner::check_inner;
 use crate::module::{listed_twice, named_twice, unassignable, undeclared, undirected, unlisted};
 use crate::word::named_as_word;
 use flat_faults::FlatFault;
 use flat_instances::{Scope, full_name};
-use flat_scopes::Names;
+use flat_scopes::{Inner, Modules, Names, instances_in};
 use outside::Text;
 use std::alloc::{AllocError, Global};
 
@@ -79,4 +84,68 @@ pub fn check_ports(alloc: Global, scope: &Scope<'_>) -> Result<(), FlatFault>
         return Err(FlatFault::Port(scoped(alloc, scope, name.bytes())?));
     }
     Ok(())
+}
+
+fn check_inners(
+    alloc: Global,
+    modules: &Modules<'_>,
+    scope: &Scope<'_>,
+    signals: &Names<'_>,
+    instances: &[Inner<'_>],
+) -> Result<(), FlatFault>
+    requires instances { map inner_meant instances.now ≡ instances_in scope.now.text.now }
+    requires signals { signals.now ≡ map decl_name (signals_in scope.now.text.now) }
+    ensures ok { OnOk result ((i : Instance) → Among (instances_in scope.now.text.now) i → FitsInner modules.now (scope_meant scope.now) i) }
+    ensures err { IfErr result (Refuses (StandsIn modules.now (scope_meant scope.now))) }
+{
+    for inner in instances {
+        match check_inner(alloc, modules, scope, signals, inner) {
+            Ok(()) => {}
+            Err(fault) => return Err(fault),
+        }
+    }
+    Ok(())
+}
+
+/// The instances in a scope have modules, which their overrides and their connections fit. A refusal's fault stands at the scope.
+pub fn check_instances(
+    alloc: Global,
+    modules: &Modules<'_>,
+    scope: &Scope<'_>,
+) -> Result<(), FlatFault>
+    ensures ok { OnOk result ((i : Instance) → Among (instances_in scope.now.text.now) i → FitsInner modules.now (scope_meant scope.now) i) }
+    ensures err { IfErr result (Refuses (StandsIn modules.now (scope_meant scope.now))) }
+{
+    let instances = instances_in(alloc, scope.text)?;
+    let signals = Names::of(alloc, signal_names(alloc, scope.text)?)?;
+    check_inners(alloc, modules, scope, &signals, &instances)
+}
+
+/// The rules on names and ports hold in a scope: neither `Unknown` nor `Twice` nor `Port` stands there. A refusal's fault stands at the scope; it is
+/// `Constant` or `Width` where the range of a signal that is declared again, or of a memory, declares nothing. Its time is linear in the scope's text
+/// and in the modules of its instances.
+pub fn check_names(
+    alloc: Global,
+    modules: &Modules<'_>,
+    scope: &Scope<'_>,
+) -> Result<(), FlatFault>
+    ensures none { OnOk result ((fault : Fault) → IsOfNames fault → (path : Name) → StandsAt modules.now path (scope_meant scope.now) fault → ⊥) }
+    ensures err { IfErr result (Refuses (StandsIn modules.now (scope_meant scope.now))) }
+{
+    match check_used(alloc, scope) {
+        Ok(()) => {}
+        Err(fault) => return Err(fault),
+    }
+    match check_declared(alloc, scope) {
+        Ok(()) => {}
+        Err(fault) => return Err(fault),
+    }
+    match check_ports(alloc, scope) {
+        Ok(()) => {}
+        Err(fault) => return Err(fault),
+    }
+    match check_instances(alloc, modules, scope) {
+        Ok(()) => Ok(()),
+        Err(fault) => Err(fault),
+    }
 }

@@ -1,8 +1,8 @@
 // The names that modules and scopes declare.
 
 ghost use Rattle.std.specs.Prelude.{◌≡◌, ◌++◌, OnOk, IfOk, map, filter};
-ghost use Rattle.vlog_runs.specs.Contents.{signals_in, params_in};
-ghost use Rattle.flat_faults.specs.Declaring.{is_port, declared_names};
+ghost use Rattle.vlog_runs.specs.Contents.{signals_in, params_in, is_open};
+ghost use Rattle.flat_faults.specs.Declaring.{is_port, declared_names, open_params};
 ghost use Rattle.flat_scopes.specs.Borrowed.{name_meant, decl_meant, param_meant, inner_meant, param_name};
 ghost use Rattle.flat_scopes.specs.Finding.{decl_name};
 ghost use Rattle.flat_instances.specs.Graph.{inner_name};
@@ -10,7 +10,9 @@ ghost use Rattle.flat_instances.specs.Unfolding.{scope_meant};
 ghost use Rattle.flat_names.specs.Rows.{entry_names, scope_names, directed_names};
 
 use flat_instances::Scope;
-use flat_scopes::{Decl, Inner, Names, Param, decls_in, instances_in, params_in, signals_in};
+use flat_scopes::{
+    Decl, Inner, Names, Param, decls_in, instances_in, is_open, params_in, signals_in,
+};
 use outside::Text;
 use std::alloc::{AllocError, Global};
 use vlog_tree::{Entry, Module};
@@ -65,6 +67,31 @@ fn add_port_names<'a>(all: &mut Vec<&'a Text>, decls: &[Decl<'a>]) -> Result<(),
         }
     }
     Ok(())
+}
+
+fn add_open_names<'a>(
+    all: &mut Vec<&'a Text>,
+    text: &Module,
+    params: &[Param<'a>],
+) -> Result<(), AllocError>
+    ensures { OnOk result (map name_meant all.new.items ≡ map name_meant all.old.items ++ map param_name (filter (is_open text.now) (map param_meant params.now))) }
+{
+    for param in params {
+        if is_open(text, param) {
+            all.push(param.name)?;
+        }
+    }
+    Ok(())
+}
+
+/// The names of the parameters that an instance may override. Refused only for want of memory.
+pub fn open_names(alloc: Global, text: &Module) -> Result<Vec<&Text>, AllocError>
+    ensures { IfOk result (λ r. map name_meant r.items ≡ open_params text.now) }
+{
+    let params = params_in(alloc, text)?;
+    let mut all = Vec::new(alloc);
+    add_open_names(&mut all, text, &params)?;
+    Ok(all)
 }
 
 /// The names of declarations. Refused only for want of memory.

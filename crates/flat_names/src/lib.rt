@@ -2,12 +2,14 @@
 #![tactic(auto)]
 
 mod again;
+mod assignable;
 mod check;
 mod declared;
+mod inner;
 mod module;
 mod search;
 mod signal;
 mod word;
 
-pub use check::{check_declared, check_ports, check_used};
+pub use check::{check_declared, check_instances, check_names, check_ports, check_used};
 pub use signal::declared_signal;
