@@ -1,0 +1,3 @@
+pub mod Assignable
+pub mod Rows
+pub mod Searching
