@@ -42,17 +42,17 @@ only : (g w : Signal) → Among (g ∷ []) w → g ≡ w
 only g w (inl e) = e
 only g w (inr h) = absurd h
 
-abbrev registers : Flat → List Name
+abbrev pub registers : Flat → List Name
 registers m = flat_map (chosen_names true v.Any) m.blocks
 
 module _ (m : Flat) (narrow : AreNarrow m.signals) (x : Name) where
-  register_name : IsRegister m x → Among (flat_map (chosen_names true v.Any) m.blocks) x
+  pub register_name : IsRegister m x → Among (flat_map (chosen_names true v.Any) m.blocks) x
   register_name (k, a, e, (y, n, g, ga, (same, w, wa, is))) =
       let one : g ≡ w = only g w (subst (λ z. Among z w) (holders_one g (narrow g ga).depth) wa) in
       let named : y ≡ x = sym same ∙ (ap (λ (z : Signal). z.name) one ∙ sym is) in
       is_blocked m x true v.Any (k, a, e, subst (λ z. Names (lefts k.body) z) named n)
 
-  name_register : (s : Spot) → spot_in m.signals x ≡ Some s → Among (flat_map (chosen_names true v.Any) m.blocks) x → IsRegister m x
+  pub name_register : (s : Spot) → spot_in m.signals x ≡ Some s → Among (flat_map (chosen_names true v.Any) m.blocks) x → IsRegister m x
   name_register s e h =
       let k = blocked_is m x true v.Any h in
       let r = shown 0 m.signals x s e in

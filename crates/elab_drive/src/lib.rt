@@ -12,9 +12,11 @@ mod parts;
 mod pieces;
 mod wanted;
 
-pub use claims::{Run, bit_run, clipped, known, ones, span_run};
-pub use drivers::driven_twice;
+pub use claims::{Claim, Run, bit_run, clipped, known, ones, span_run};
+pub use declared::Declared;
+pub use drivers::{Driver, driven_twice, driver_claims};
 pub use kind::wrongly_assigned;
 pub use lacking::undriven;
-pub use parts::{Part, parts_of, reads_of};
+pub use names::{Form, block_names};
+pub use parts::{Part, name_of, parts_of, reads_of};
 pub use pieces::{Piece, pieces_of};
