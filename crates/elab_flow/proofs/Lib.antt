@@ -9,3 +9,5 @@ pub mod Listing
 pub mod Casing
 pub mod Resting
 pub mod Blocks
+pub mod Starting
+pub mod Finding

@@ -161,3 +161,9 @@ module _ (gs : List Signal) where
 pub named_signal : (gs : List Signal) → AreDistinct gs → (x : Name) (i : ℕ) → IsAt gs i x → (g : Signal) × Among gs g × (signal_at gs x ≡ Some g)
 named_signal gs d x i a =
     let g = signal_of gs i x a in (g.0, among_signals gs i g.0 g.1, shape_of gs x i g.0 (place_of_name gs d x i a) g.1)
+
+-- the signal at a place has the length of its name
+pub shown_signal : (gs : List Signal) → AreDistinct gs → (x : Name) (i : ℕ) → IsAt gs i x → (g : Signal) × IsSignalAt gs i g × (width_in (place_over gs) x ≡ g.width)
+shown_signal gs d x i a =
+    let g = signal_of gs i x a in
+    (g.0, g.1, ap (λ o. unwrap_or (option_map (λ (g : Signal). g.width) o) 0) (shape_of gs x i g.0 (place_of_name gs d x i a) g.1))

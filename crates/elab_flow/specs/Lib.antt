@@ -5,3 +5,4 @@ pub mod Passes
 pub mod Ready
 pub mod Marks
 pub mod Words
+pub mod Asked

@@ -65,6 +65,12 @@ pub record IsNowhere (n : ℕ) (s : Tables) : Type 0 where
   pub through : (i j : ℕ) → i < n → j < n → at s.through (i * n + j) ≡ false
   pub outside : (i : ℕ) → i < n → at s.outside i ≡ false
 
+-- before the first statement
+pub record IsStart (gs : List Signal) (s : Tables) : Type 0 where
+  pub unset : (i b : ℕ) (x : Name) → IsAt gs i x → HasBit s.unset i b ↔ (b < width_in (place_over gs) x)
+  pub through : (i j : ℕ) → i < length gs → j < length gs → at s.through (i * length gs + j) ≡ false
+  pub outside : (i : ℕ) → i < length gs → at s.outside i ≡ false
+
 -- a path leads past the items of a case statement
 abbrev pub LeadsPast : {m : _} → List Signal → CaseKind → Expr → Row_of-CaseItem m → Type 0
 LeadsPast gs kind a row = (HasDefault row → ⊥) × (IsFull (place_over gs) kind a (labels_in row) → ⊥)

@@ -26,6 +26,10 @@ span_word w low span None j = 0
 span_word w low span (Some i) None = 0
 span_word w low span (Some i) (Some j) = run_word w low (part_low span i j) (part_low span i j +ℤ pos (part_width span i j))
 
+-- a 1 for each bit of a signal
+abbrev pub all_ones : Signal → ℕ
+all_ones g = ones 0 g.width
+
 -- a 1 for each bit that a part surely sets
 abbrev pub set_word : ℕ → ℕ → Lval → ℕ
 set_word w low (l.Name x) = ones 0 w

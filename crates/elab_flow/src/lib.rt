@@ -1,8 +1,11 @@
 //! What the bits of a combinational block depend on, over all its paths, in one pass through its text.
 #![tactic(auto)]
 
+mod block;
 mod cases;
 mod flow;
+mod latch;
+mod listed;
 mod marks;
 mod pass;
 mod places;
@@ -10,4 +13,8 @@ mod scope;
 mod sets;
 mod words;
 
+pub use block::flow_of;
 pub use flow::BlockFlow;
+pub use latch::latch_of;
+pub use listed::unlisted_in;
+pub use scope::Scope;
