@@ -4,9 +4,9 @@ use Rattle.std.specs.Prelude.{map}
 use Rattle.word_core.specs.Words.{Bits, IsWord}
 use Rattle.word_dag.specs.declared.node.Node.{Node}
 use Rattle.word_dag.specs.Nodes.{FitsNode, FitFrom, width_of, word_at, Naming, named, node_value}
-use Rattle.word_dag.specs.Adding.{Adds, Keeps}
+use Rattle.word_dag.specs.Adding.{Adds, Grows, Keeps}
 use Rattle.word_dag.proofs.NodeValues.{width_at-map}
-use Rattle.word_dag.proofs.Valued.{values_wide, word_wide}
+use Rattle.word_dag.proofs.Valued.{values_wide, word_wide, keeps_grown, grows_kept}
 use Rattle.word_dag.proofs.Widths.{width-node_value}
 use Rattle.vlog_tree.specs.declared.valuation.Entry.{Entry}
 use Rattle.elab_node.specs.declared.leaves.Leaf.{Leaf}
@@ -24,25 +24,34 @@ append_append [] ys zs = refl
 append_append (x ∷ xs) ys zs = ap (λ (r : List Node). x ∷ r) (append_append xs ys zs)
 
 pub keeps_same : (a : List Node) → Keeps a a
-keeps_same a = record { more = ([], sym (append_nil a)); longer = omega arith; widths = λ i lt. refl; values = λ e i lt. refl }
+keeps_same a = record { more = ([], sym (append_nil a)); longer = omega arith; widths = λ i lt. refl; values = λ e i lt. refl; frees = λ n i free at. at }
 
 -- a call that is refused changes nothing
 pub keeps_refused : (a b : List Node) → b ≡ a → Keeps a b
 keeps_refused a b is = subst (λ (k : List Node). Keeps a k) (sym is) (keeps_same a)
 
-pub keeps_then : (a b c : List Node) → Keeps a b → Keeps b c → Keeps a c
-keeps_then a b c h k = record {
+pub grows_then : (a b c : List Node) → Grows a b → Grows b c → Grows a c
+grows_then a b c h k = record {
   more = (h.more.0 ++ k.more.0, k.more.1 ∙ ap (λ (r : List Node). r ++ k.more.0) h.more.1 ∙ append_append a h.more.0 k.more.0);
   longer = omega (arith, h.longer, k.longer);
   widths = λ i lt. k.widths i (omega (arith, lt, h.longer)) ∙ h.widths i lt;
   values = λ e i lt. k.values e i (omega (arith, lt, h.longer)) ∙ h.values e i lt;
 }
 
+pub keeps_then : (a b c : List Node) → Keeps a b → Keeps b c → Keeps a c
+keeps_then a b c h k = keeps_grown a c (grows_then a b c (grows_kept a b h) (grows_kept b c k)) (λ n i free at. h.frees n i free (k.frees n i free at))
+
+pub node_grown : (a b : List Node) (i n : ℕ) → Grows a b → IsNode a i n → IsNode b i n
+node_grown a b i n k h = (omega (arith, h.0, k.longer), k.widths i h.0 ∙ h.1)
+
+pub number_grown : (e : Naming) (a b : List Node) (i n : ℕ) → Grows a b → IsNode a i n → number_at e b i ≡ number_at e a i
+number_grown e a b i n k h = ap (λ (w : Bits). w.value) (k.values e i h.0)
+
 pub node_kept : (a b : List Node) (i n : ℕ) → Keeps a b → IsNode a i n → IsNode b i n
-node_kept a b i n k h = (omega (arith, h.0, k.longer), k.widths i h.0 ∙ h.1)
+node_kept a b i n k h = node_grown a b i n (grows_kept a b k) h
 
 pub number_kept : (e : Naming) (a b : List Node) (i n : ℕ) → Keeps a b → IsNode a i n → number_at e b i ≡ number_at e a i
-number_kept e a b i n k h = ap (λ (w : Bits). w.value) (k.values e i h.0)
+number_kept e a b i n k h = number_grown e a b i n (grows_kept a b k) h
 
 -- a node's word by its parts
 pub word_is : (e : Naming) (ns : List Node) (i n : ℕ) → FitFrom [] ns → IsNode ns i n → word_at (words e ns) i ≡ record { width = n; value = number_at e ns i }
@@ -107,9 +116,12 @@ added old new m i n f fit fits a wide same = record {
     whole b n x h k = ap (λ j. let r : Bits = record { width = j; value = b.value } in r) h ∙ ap (λ j. let r : Bits = record { width = n; value = j } in r) k
 
 -- the leaves in a dag that grows
+pub ready_grown : (ls : List Leaf) (a b : List Node) → Grows a b → AreReady ls a → AreReady ls b
+ready_grown [] a b k h = tt
+ready_grown (l ∷ ls) a b k h = (h.0, node_grown a b l.node l.width k h.1, ready_grown ls a b k h.2)
+
 pub ready_kept : (ls : List Leaf) (a b : List Node) → Keeps a b → AreReady ls a → AreReady ls b
-ready_kept [] a b k h = tt
-ready_kept (l ∷ ls) a b k h = (h.0, node_kept a b l.node l.width k h.1, ready_kept ls a b k h.2)
+ready_kept ls a b k h = ready_grown ls a b (grows_kept a b k) h
 
 pub valued_kept : (e : Naming) (ls : List Leaf) (a b : List Node) → Keeps a b → AreReady ls a → valued ls (words e b) ≡ valued ls (words e a)
 valued_kept e [] a b k h = refl

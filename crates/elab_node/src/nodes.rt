@@ -1,7 +1,8 @@
 // Single nodes of a dag, each with the number that it has whatever the free words are.
-ghost use Rattle.std.specs.Prelude.{◌≡◌, ◌+◌, ◌-◌, ◌/◌, ◌%◌, ◌^◌, ◌<◌, ◌≤◌, [], map, IfOk, nat_eq, if◌then◌else◌};
+ghost use Rattle.std.specs.Prelude.{false, ◌≡◌, ◌+◌, ◌-◌, ◌/◌, ◌%◌, ◌^◌, ◌<◌, ◌≤◌, [], map, IfOk, nat_eq, if◌then◌else◌};
 ghost use Rattle.word_dag.specs.Nodes.{FitFrom, FitsNode, FitsOp, op_value, width_of};
 ghost use Rattle.word_dag.specs.Adding.{Adds, Keeps};
+ghost use Rattle.word_dag.specs.Given.{is_free};
 ghost use Rattle.vlog_tree.specs.Value.{extend};
 ghost use Rattle.elab_node.specs.Nodes.{Makes, IsNode, IsWire, number_at, wire_word};
 
@@ -16,10 +17,11 @@ pub struct Wire {
     pub width: u8,
 }
 
-// Adds a node; the older ones are kept also where it is refused.
+// Adds a node that isn't a free word; the older ones are kept also where it is refused.
 #[tactic(auto, using(crate::proofs::Kept::keeps_refused))]
 fn put(dag: &mut Dag, node: Node) -> Result<u64, AllocError>
-    requires { FitsNode (map width_of dag.old) node }
+    requires fits { FitsNode (map width_of dag.old) node }
+    requires bound { is_free node ≡ false }
     ensures fit { FitFrom [] dag.old }
     ensures keeps { Keeps dag.old dag.new }
     ensures adds { IfOk result (λ i. Adds dag.old dag.new node i) }

@@ -239,6 +239,10 @@ own_node-returns-clause-node t c =
 pub row_node-returns-in_err-all-clause-ready : goal.row_node-returns-in_err-all-clause-ready
 row_node-returns-in_err-all-clause-ready t c = ready_kept c.args.leaves.now c.own_node.new.dag c.appended.new.dag c.appended.ensures.keeps c.in_ok-low.ensures.ready
 
+pub row_node-returns-in_err-all-clause-keeps : goal.row_node-returns-in_err-all-clause-keeps
+row_node-returns-in_err-all-clause-keeps t c =
+    keeps_then c.args.dag.now c.loop-item.dag c.appended.new.dag c.loop-item.invariant.keeps (keeps_then c.loop-item.dag c.own_node.new.dag c.appended.new.dag c.in_ok-low.ensures.keeps c.appended.ensures.keeps)
+
 pub row_node-loop-item-preserved : goal.row_node-loop-item-preserved
 row_node-loop-item-preserved t c =
     let ls = c.args.leaves.now in
