@@ -1,1 +1,6 @@
 mod Listing
+mod Asking
+mod Comparing
+mod Holding
+mod Driven
+mod Tests
