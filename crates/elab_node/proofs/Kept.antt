@@ -1,17 +1,18 @@
 -- Nodes and numbers in a dag that grows.
-use Rattle.std.proofs.Common.{◌≡◌, ℕ, ◌^◌, ◌<◌, ◌≤◌, List, [], ◌∷◌, ◌++◌, refl, sym, ap, ◌∙◌, subst, arith}
-use Rattle.std.specs.Prelude.{map}
+use Rattle.std.proofs.Common.{◌≡◌, ℕ, zero, suc, ℤ, ◌^◌, ◌<◌, ◌≤◌, List, [], ◌∷◌, ◌++◌, refl, sym, ap, ◌∙◌, subst, arith, inl, inr}
+use Rattle.std.specs.Prelude.{◌⊎◌, map}
 use Rattle.word_core.specs.Words.{Bits, IsWord}
 use Rattle.word_dag.specs.declared.node.Node.{Node}
 use Rattle.word_dag.specs.Nodes.{FitsNode, FitFrom, width_of, word_at, Naming, named, node_value}
-use Rattle.word_dag.specs.Adding.{Adds, Grows, Keeps}
+use Rattle.word_dag.specs.declared.node.Node.TheVariants.{Free}
+use Rattle.word_dag.specs.Adding.{Adds, Grows, IsAt, Keeps}
 use Rattle.word_dag.proofs.NodeValues.{width_at-map}
 use Rattle.word_dag.proofs.Valued.{values_wide, word_wide, keeps_grown, grows_kept}
 use Rattle.word_dag.proofs.Widths.{width-node_value}
 use Rattle.vlog_tree.specs.declared.valuation.Entry.{Entry}
 use Rattle.elab_node.specs.declared.leaves.Leaf.{Leaf}
 use Rattle.elab_node.specs.Leaves.{entry_of, valued, AreReady}
-use Rattle.elab_node.specs.Nodes.{words, number_at, IsNode, IsWire, Makes, wire_word}
+use Rattle.elab_node.specs.Nodes.{words, number_at, AddsFrees, IsNode, IsWire, Makes, wire_word}
 use Rattle.elab_node.specs.declared.nodes.Wire.{Wire}
 use Rattle.elab_node.proofs.Fits.{words_fit}
 
@@ -40,6 +41,29 @@ grows_then a b c h k = record {
 
 pub keeps_then : (a b c : List Node) → Keeps a b → Keeps b c → Keeps a c
 keeps_then a b c h k = keeps_grown a c (grows_then a b c (grows_kept a b h) (grows_kept b c k)) (λ n i free at. h.frees n i free (k.frees n i free at))
+
+at_push : (ns : List Node) (m n : Node) (i : ℕ) → IsAt (ns ++ m ∷ []) i n → IsAt ns i n ⊎ (n ≡ m)
+at_push [] m n zero at = inr at.1
+at_push [] m n (suc i) at = absurd (omega (arith, at.0))
+at_push (x ∷ ns) m n zero at = inl (omega arith, at.1)
+at_push (x ∷ ns) m n (suc i) at = elim (at_push ns m n i (omega (arith, at.0), at.1)) [ inl r ↦ inl (omega (arith, r.0), r.1) | inr e ↦ inr e ]
+
+-- a free word that is added
+pub free_added : (old new : List Node) (name : List ℕ) (width side : ℕ) (cycle : ℤ) (i : ℕ) → Adds old new (Free name width side cycle) i → AddsFrees (λ n. n ≡ Free name width side cycle) old new
+free_added old new name width side cycle i a n j free at = elim a.puts [
+  | inl k ↦ inl (subst (λ (z : List Node). IsAt z j n) k.0 at)
+  | inr k ↦ at_push old (Free name width side cycle) n j (subst (λ (z : List Node). IsAt z j n) k.0 at)
+]
+
+pub frees_then : (p q : Node → Type 0) (a b c : List Node) → AddsFrees p a b → AddsFrees q b c → AddsFrees (λ n. p n ⊎ q n) a c
+frees_then p q a b c h k n i free at = elim (k n i free at) [
+  | inl m ↦ elim (h n i free m) [ inl o ↦ inl o | inr s ↦ inr (inl s) ]
+  | inr s ↦ inr (inr s)
+]
+
+-- and where none is added
+pub frees_kept : (p : Node → Type 0) (a b c : List Node) → AddsFrees p a b → Keeps b c → AddsFrees p a c
+frees_kept p a b c h k n i free at = h n i free (k.frees n i free at)
 
 pub node_grown : (a b : List Node) (i n : ℕ) → Grows a b → IsNode a i n → IsNode b i n
 node_grown a b i n k h = (omega (arith, h.0, k.longer), k.widths i h.0 ∙ h.1)

@@ -1,8 +1,10 @@
 -- What a node of a dag is, whatever values the free words have.
-use Rattle.std.specs.Prelude.{ℕ, ◌≡◌, ◌<◌, List, [], length, map, slice_index}
+use Rattle.std.specs.Prelude.{ℕ, true, ◌≡◌, ◌<◌, ◌⊎◌, List, [], length, map, slice_index}
 use Rattle.word_core.specs.Words.{Bits}
 use Rattle.word_dag.specs.declared.node.Node.{Node}
 use Rattle.elab_node.specs.declared.nodes.Wire.{Wire}
+use Rattle.word_dag.specs.Given.{is_free}
+use Rattle.word_dag.specs.Adding.{IsAt}
 use Rattle.word_dag.specs.Nodes.{Naming, width_of, word_at, dag_values}
 
 -- the words of a dag's nodes, the free ones having these values
@@ -30,3 +32,7 @@ IsWire ns a = IsNode ns a.node a.width
 -- its word
 abbrev pub wire_word : Naming → List Node → Wire → Bits
 wire_word e ns a = record { width = a.width; value = number_at e ns a.node }
+
+-- each free word is an old one or one of these
+abbrev pub AddsFrees : (Node → Type 0) → List Node → List Node → Type 0
+AddsFrees p old new = (n : Node) (i : ℕ) → is_free n ≡ true → IsAt new i n → IsAt old i n ⊎ p n

@@ -14,18 +14,20 @@ use Rattle.vlog_runs.specs.Blocks.{run}
 use Rattle.vlog_runs.specs.Cycles.{flat_place}
 use Rattle.word_dag.specs.declared.node.Node.{Node}
 use Rattle.word_dag.specs.Nodes.{Naming}
-use Rattle.word_dag.specs.Adding.{Keeps, IsAt}
+use Rattle.std.specs.Prelude.{◌⊎◌}
+use Rattle.word_dag.specs.Adding.{Grows, Keeps, IsAt}
+use Rattle.word_dag.proofs.Valued.{grows_kept}
 use Rattle.vlog_tree.specs.Valuation.{IsLength}
 use Rattle.word_design.specs.Designs.{free}
 use Rattle.elab_node.specs.declared.leaves.Leaf.{Leaf}
 use Rattle.elab_node.specs.Leaves.{entry_of, declared, AreReady, AreWide, with_node}
-use Rattle.elab_node.specs.Nodes.{IsNode, number_at}
-use Rattle.elab_node.proofs.Kept.{node_kept, number_kept, ready_kept, keeps_then, keeps_same}
+use Rattle.elab_node.specs.Nodes.{AddsFrees, IsNode, number_at}
+use Rattle.elab_node.proofs.Kept.{node_kept, number_kept, ready_kept, keeps_then, keeps_same, grows_then, frees_then, number_grown, ready_grown}
 use Rattle.elab_block.specs.Standing.{AreLeavesOf, IsLeafOf, Lacks, AreApart, AreShown, nodes_of, with_nodes}
 use Rattle.elab_block.specs.Runs.{AreSet, Runs}
 use Rattle.flow_laws.specs.Laws.{place_over}
 use Rattle.elab_step.specs.Solving.{taking, driven, settled, solved, processes, drivers_of, AreDistinct}
-use Rattle.elab_step.specs.Boards.{IsBoard, IsBegun, AreBegun, Shows, Follows, statements, statement_at, picked, node_at, name_of, names_of, list_at, ArePlacesOf}
+use Rattle.elab_step.specs.Boards.{IsBoard, IsBegun, AreBegun, IsFreeOf, Shows, Follows, statements, statement_at, picked, node_at, name_of, names_of, list_at, ArePlacesOf}
 use Rattle.elab_step.proofs.Solving.{taken, kept}
 use Rattle.elab_step.proofs.Fitting.{one_entry}
 
@@ -176,23 +178,23 @@ rest_is (g ∷ gs) (l ∷ ls) h =
 
 -- ---- leaves that are begun
 
-at_kept : (a b : List Node) (i : ℕ) (n : Node) → Keeps a b → IsAt a i n → IsAt b i n
-at_kept a b i n k h =
+at_grown : (a b : List Node) (i : ℕ) (n : Node) → Grows a b → IsAt a i n → IsAt b i n
+at_grown a b i n k h =
     let m = k.longer in
     let l = h.0 in
     (omega (arith, m, l), subst (λ z. n ≡ get_or z i n) (sym k.more.1) (h.1 ∙ sym (get_or-append_left a k.more.0 i n l)))
 
-pub begun_kept : (a b : List Node) (gs : List Signal) (ts : List Bool) (ls : List Leaf) → Keeps a b → AreReady ls a → AreBegun a gs ts ls → AreBegun b gs ts ls
-begun_kept a b [] [] [] k r h = tt
-begun_kept a b [] [] (l ∷ ls) k r h = absurd h
-begun_kept a b [] (t ∷ ts) ls k r h = absurd h
-begun_kept a b (g ∷ gs) [] ls k r h = absurd h
-begun_kept a b (g ∷ gs) (t ∷ ts) [] k r h = absurd h
-begun_kept a b (g ∷ gs) (t ∷ ts) (l ∷ ls) k r h = (h.0, one t h.1, begun_kept a b gs ts ls k r.2 h.2)
+pub begun_grown : (a b : List Node) (gs : List Signal) (ts : List Bool) (ls : List Leaf) → Grows a b → AreReady ls a → AreBegun a gs ts ls → AreBegun b gs ts ls
+begun_grown a b [] [] [] k r h = tt
+begun_grown a b [] [] (l ∷ ls) k r h = absurd h
+begun_grown a b [] (t ∷ ts) ls k r h = absurd h
+begun_grown a b (g ∷ gs) [] ls k r h = absurd h
+begun_grown a b (g ∷ gs) (t ∷ ts) [] k r h = absurd h
+begun_grown a b (g ∷ gs) (t ∷ ts) (l ∷ ls) k r h = (h.0, one t h.1, begun_grown a b gs ts ls k r.2 h.2)
   where
     one : (t : Bool) → IsBegun a g t l → IsBegun b g t l
-    one true z = λ e. number_kept e a b l.node l.width k r.1 ∙ z e
-    one false z = (at_kept a b l.node (free g.name g.width) k z.0, λ e. number_kept e a b l.node l.width k r.1 ∙ z.1 e)
+    one true z = λ e. number_grown e a b l.node l.width k r.1 ∙ z e
+    one false z = (at_grown a b l.node (free g.name g.width) k z.0, λ e. number_grown e a b l.node l.width k r.1 ∙ z.1 e)
 
 begun_push : (ns : List Node) (gs : List Signal) (ts : List Bool) (ls : List Leaf) (g : Signal) (t : Bool) (l : Leaf) → AreBegun ns gs ts ls → IsLeafOf g l → IsBegun ns g t l → AreBegun ns (gs ++ g ∷ []) (ts ++ t ∷ []) (ls ++ l ∷ [])
 begun_push ns [] [] [] g t l h k b = (k, b, tt)
@@ -206,25 +208,52 @@ ready_push : (ns : List Node) (ls : List Leaf) (l : Leaf) → AreReady ls ns →
 ready_push ns [] l r w n = (w, n, tt)
 ready_push ns (m ∷ ls) l r w n = (r.0, r.1, ready_push ns ls l r.2 w n)
 
+-- free words of some signals, and of one more
+free_before : (gs hs : List Signal) (ts us : List Bool) (n : Node) → IsFreeOf gs ts n → IsFreeOf (gs ++ hs) (ts ++ us) n
+free_before [] hs ts us n h = absurd h
+free_before (g ∷ gs) hs [] us n h = absurd h
+free_before (g ∷ gs) hs (true ∷ ts) us n h = free_before gs hs ts us n h
+free_before (g ∷ gs) hs (false ∷ ts) us n h = elim h [ inl e ↦ inl e | inr k ↦ inr (free_before gs hs ts us n k) ]
+
+free_last : (ns : List Node) (gs hs : List Signal) (ts us : List Bool) (ls : List Leaf) (n : Node) → AreBegun ns gs ts ls → IsFreeOf hs us n → IsFreeOf (gs ++ hs) (ts ++ us) n
+free_last ns [] hs [] us [] n h k = k
+free_last ns [] hs [] us (l ∷ ls) n h k = absurd h
+free_last ns [] hs (t ∷ ts) us ls n h k = absurd h
+free_last ns (g ∷ gs) hs [] us ls n h k = absurd h
+free_last ns (g ∷ gs) hs (t ∷ ts) us [] n h k = absurd h
+free_last ns (g ∷ gs) hs (true ∷ ts) us (l ∷ ls) n h k = free_last ns gs hs ts us ls n h.2 k
+free_last ns (g ∷ gs) hs (false ∷ ts) us (l ∷ ls) n h k = inr (free_last ns gs hs ts us ls n h.2 k)
+
 pub record Beginning (gs : List Signal) (ts : List Bool) (i : ℕ) (a b : List Node) (ls : List Leaf) : Type 0 where
-  pub keeps : Keeps a b
+  pub grows : Grows a b
+  pub frees : AddsFrees (IsFreeOf (take i gs) (take i ts)) a b
   pub begun : AreBegun b (take i gs) (take i ts) ls
   pub ready : AreReady ls b
 
 pub beginning : (gs : List Signal) (ts : List Bool) (i : ℕ) (a b : List Node) (ls : List Leaf) → i ≡ 0 → b ≡ a → ls ≡ [] → Beginning gs ts i a b ls
 beginning gs ts i a b ls e d q = record {
-  keeps = subst (λ z. Keeps a z) (sym d) (keeps_same a);
+  grows = subst (λ z. Grows a z) (sym d) (grows_kept a a (keeps_same a));
+  frees = λ n k free at. inl (subst (λ z. IsAt z k n) d at);
   begun = subst (λ z. AreBegun b (take z gs) (take z ts) ls) (sym e) (subst (λ z. AreBegun b [] [] z) (sym q) tt);
   ready = subst (λ z. AreReady z b) (sym q) tt;
 }
 
-pub beginning_next : (gs : List Signal) (ts : List Bool) (i : ℕ) (a b d : List Node) (ls : List Leaf) (g u : Signal) (t v : Bool) (l : Leaf) → Beginning gs ts i a b ls → i < length gs → i < length ts → g ≡ get_or gs i u → t ≡ get_or ts i v → Keeps b d
-    → IsLength g.width → IsLeafOf g l → IsNode d l.node l.width → IsBegun d g t l → Beginning gs ts (i + 1) a d (ls ++ l ∷ [])
-beginning_next gs ts i a b d ls g u t v l h lt mt eg et k w is node begun = record {
-  keeps = keeps_then a b d h.keeps k;
-  begun = subst (λ z. AreBegun d z (take (i + 1) ts) (ls ++ l ∷ [])) (sym (take_next gs i g u lt eg)) (subst (λ z. AreBegun d (take i gs ++ g ∷ []) z (ls ++ l ∷ [])) (sym (take_next ts i t v mt et)) (begun_push d (take i gs) (take i ts) ls g t l (begun_kept b d (take i gs) (take i ts) ls k h.ready h.begun) is begun));
-  ready = ready_push d ls l (ready_kept ls b d k h.ready) (subst (λ n. IsLength n) (sym is.width) w) node;
-}
+pub beginning_next : (gs : List Signal) (ts : List Bool) (i : ℕ) (a b d : List Node) (ls : List Leaf) (g u : Signal) (t v : Bool) (l : Leaf) → Beginning gs ts i a b ls → i < length gs → i < length ts → g ≡ get_or gs i u → t ≡ get_or ts i v → Grows b d
+    → AddsFrees (IsFreeOf (g ∷ []) (t ∷ [])) b d → IsLength g.width → IsLeafOf g l → IsNode d l.node l.width → IsBegun d g t l → Beginning gs ts (i + 1) a d (ls ++ l ∷ [])
+beginning_next gs ts i a b d ls g u t v l h lt mt eg et k more w is node begun =
+    let es = take_next gs i g u lt eg in
+    let et = take_next ts i t v mt et in
+    record {
+      grows = grows_then a b d h.grows k;
+      frees = λ n j free at. subst (λ z. IsAt a j n ⊎ IsFreeOf z (take (i + 1) ts) n) (sym es) (subst (λ z. IsAt a j n ⊎ IsFreeOf (take i gs ++ g ∷ []) z n) (sym et) (one n (frees_then (IsFreeOf (take i gs) (take i ts)) (IsFreeOf (g ∷ []) (t ∷ [])) a b d h.frees more n j free at)));
+      begun = subst (λ z. AreBegun d z (take (i + 1) ts) (ls ++ l ∷ [])) (sym es) (subst (λ z. AreBegun d (take i gs ++ g ∷ []) z (ls ++ l ∷ [])) (sym et) (begun_push d (take i gs) (take i ts) ls g t l (begun_grown b d (take i gs) (take i ts) ls k h.ready h.begun) is begun));
+      ready = ready_push d ls l (ready_grown ls b d k h.ready) (subst (λ n. IsLength n) (sym is.width) w) node;
+    }
+  where
+    one : {X : Type 0} (n : Node) → X ⊎ (IsFreeOf (take i gs) (take i ts) n ⊎ IsFreeOf (g ∷ []) (t ∷ []) n) → X ⊎ IsFreeOf (take i gs ++ g ∷ []) (take i ts ++ t ∷ []) n
+    one n (inl x) = inl x
+    one n (inr (inl x)) = inr (free_before (take i gs) (g ∷ []) (take i ts) (t ∷ []) n x)
+    one n (inr (inr x)) = inr (free_last b (take i gs) (g ∷ []) (take i ts) (t ∷ []) ls n h.begun x)
 
 all_begun : (gs : List Signal) (ts : List Bool) (i : ℕ) (a b : List Node) (ls : List Leaf) → Beginning gs ts i a b ls → length gs ≤ i → length ts ≤ i → AreBegun b gs ts ls
 all_begun gs ts i a b ls h l m = subst (λ z. AreBegun b z ts ls) (take_all i gs l) (subst (λ z. AreBegun b (take i gs) z ls) (take_all i ts m) h.begun)
@@ -254,6 +283,9 @@ board_begun gs ts i a b ls h l m d =
     let k = all_begun gs ts i a b ls h l m in
     let are = begun_leaves b gs ts ls k in
     (record { leaves = are; ready = h.ready; apart = leaves_apart gs ls are d }, k)
+
+pub frees_begun : (gs : List Signal) (ts : List Bool) (i : ℕ) (a b : List Node) (ls : List Leaf) → Beginning gs ts i a b ls → length gs ≤ i → length ts ≤ i → AddsFrees (IsFreeOf gs ts) a b
+frees_begun gs ts i a b ls h l m = subst (λ z. AddsFrees (IsFreeOf z ts) a b) (take_all i gs l) (subst (λ z. AddsFrees (IsFreeOf (take i gs) z) a b) (take_all i ts m) h.frees)
 
 pub signal_among : (gs : List Signal) (i : ℕ) (g u : Signal) → i < length gs → g ≡ get_or gs i u → Among gs g
 signal_among [] i g u l e = absurd (omega arith)

@@ -9,17 +9,18 @@ use Rattle.vlog_runs.specs.Cycles.{flat_place}
 use Rattle.word_dag.specs.declared.node.Node.{Node}
 use Rattle.word_dag.specs.Nodes.{Naming}
 use Rattle.word_dag.specs.Adding.{Keeps}
+use Rattle.word_dag.proofs.Valued.{grows_kept}
 use Rattle.word_design.specs.Designs.{naming_of}
 use Rattle.elab_node.specs.declared.leaves.Leaf.{Leaf}
 use Rattle.elab_node.specs.Leaves.{AreReady}
-use Rattle.elab_node.specs.Nodes.{number_at}
+use Rattle.elab_node.specs.Nodes.{AddsFrees, number_at}
 use Rattle.elab_node.proofs.Kept.{number_kept, ready_kept, keeps_then}
 use Rattle.elab_block.specs.Standing.{AreLeavesOf, AreShown}
 use Rattle.elab_block.specs.Runs.{AreSet}
 use Rattle.flow_laws.specs.Laws.{AreFit}
 use Rattle.elab_step.specs.Solving.{clocked, processes, after_edge, solved}
-use Rattle.elab_step.specs.Boards.{IsBoard, AreBegun, Shows, ShowsEdge, IsSolution, node_at, name_of, unset}
-use Rattle.elab_step.proofs.Boards.{shown_kept, shown_at, begun_kept, leaves_long}
+use Rattle.elab_step.specs.Boards.{IsBoard, AreBegun, IsFreeOf, Shows, ShowsEdge, IsSolution, node_at, name_of, unset}
+use Rattle.elab_step.proofs.Boards.{shown_kept, shown_at, begun_grown, leaves_long}
 
 shown_before : (e : Naming) (ls : List Leaf) (a b : List Node) (c : Cycle) → Keeps a b → AreReady ls a → AreShown e b ls c → AreShown e a ls c
 shown_before e [] a b c k r h = tt
@@ -28,15 +29,16 @@ shown_before e (l ∷ ls) a b c k r h = (h.0 ∙ number_kept e a b l.node l.widt
 board_kept : (gs : List Signal) (ls : List Leaf) (a b : List Node) → Keeps a b → IsBoard gs ls a → IsBoard gs ls b
 board_kept gs ls a b k h = record { leaves = h.leaves; ready = ready_kept ls a b k h.ready; apart = h.apart }
 
-pub solution : (f : Flat) (xs : List Name) (ts : List Bool) (a b d : List Node) (first start now next : List Leaf) → IsBoard f.signals first a → AreBegun a f.signals ts first → start ≡ first → Keeps a b → IsBoard f.signals now b
+pub solution : (f : Flat) (xs : List Name) (ts : List Bool) (a b d : List Node) (first start now next : List Leaf) → IsBoard f.signals first a → AreBegun a f.signals ts first → AddsFrees (IsFreeOf f.signals ts) [] a → start ≡ first → Keeps a b → IsBoard f.signals now b
     → Shows (solved (flat_place f) (processes f) xs) start a now b → Keeps b d → AreSet (Some now) next d → ShowsEdge f now b next d → IsSolution f xs ts d first now next
-solution f xs ts a b d first start now next board begun e k nb shows m set edge =
+solution f xs ts a b d first start now next board begun frees e k nb shows m set edge =
     let km = keeps_then a b d k m in
     let P : List Leaf → Type 0 = λ z. Shows (solved (flat_place f) (processes f) xs) z a now b in
     let sh = subst P e shows in
     record {
       first_board = board_kept f.signals first a d km board;
-      begun = begun_kept a d f.signals ts first km board.ready begun;
+      begun = begun_grown a d f.signals ts first (grows_kept a d km) board.ready begun;
+      frees = λ n i free at. elim (frees n i free (km.frees n i free at)) [ inl none ↦ absurd (omega (arith, none.0)) | inr g ↦ g ];
       board = board_kept f.signals now b d m nb;
       set = set;
       shows = λ e c s. shown_kept e now b d (solved (flat_place f) (processes f) xs c) m nb.ready (sh e c (shown_before e first a d c km board.ready s));

@@ -1,5 +1,5 @@
 -- Leaves of a module that show its cycles.
-use Rattle.std.specs.Prelude.{ℕ, zero, suc, ◌≡◌, ◌<◌, ◌%◌, ◌^◌, pos, Bool, true, false, if◌then◌else◌, List, [], ◌∷◌, ◌++◌, map, length, Some}
+use Rattle.std.specs.Prelude.{ℕ, zero, suc, ◌≡◌, ◌<◌, ◌⊎◌, ◌%◌, ◌^◌, pos, Bool, true, false, if◌then◌else◌, List, [], ◌∷◌, ◌++◌, map, length, Some}
 use Rattle.std.proofs.Common.{Vec, Global}
 use Rattle.vlog_tree.specs.declared.item.Assign.{Assign}
 use Rattle.vlog_tree.specs.declared.stmt.Stmt.{Stmt}
@@ -11,6 +11,7 @@ use Rattle.vlog_runs.specs.Places.{Name, Cycle, Among}
 use Rattle.vlog_runs.specs.Contents.{is_among}
 use Rattle.vlog_runs.specs.Cycles.{flat_place, IsRegister}
 use Rattle.word_dag.specs.declared.node.Node.{Node}
+use Rattle.word_dag.specs.Given.{is_free}
 use Rattle.word_dag.specs.Nodes.{FitFrom, Naming}
 use Rattle.elab_node.specs.declared.leaves.Leaf.{Leaf}
 use Rattle.word_dag.specs.Adding.{IsAt}
@@ -81,6 +82,13 @@ AreBegun ns [] [] [] = Unit {0}
 AreBegun ns (g ∷ gs) (t ∷ ts) (l ∷ ls) = IsLeafOf g l × IsBegun ns g t l × AreBegun ns gs ts ls
 AreBegun ns gs ts ls = ⊥
 
+-- a node is the free word of one of the signals that are no nets
+abbrev pub IsFreeOf : List Signal → List Bool → Node → Type 0
+IsFreeOf [] ts n = ⊥
+IsFreeOf (g ∷ gs) [] n = ⊥
+IsFreeOf (g ∷ gs) (true ∷ ts) n = IsFreeOf gs ts n
+IsFreeOf (g ∷ gs) (false ∷ ts) n = (n ≡ free g.name g.width) ⊎ IsFreeOf gs ts n
+
 -- a cycle in which these names have the value 0
 abbrev pub unset : List Name → Cycle → Cycle
 unset xs c z = if is_among xs z then 0 else c z
@@ -112,6 +120,7 @@ ShowsEdge f ls a ms b = (e : Naming) (c : Cycle) → AreShown e a ls c → AreSh
 pub record IsSolution (f : Flat) (xs : List Name) (nets : List Bool) (ns : List Node) (first now next : List Leaf) : Type 0 where
   pub first_board : IsBoard f.signals first ns
   pub begun : AreBegun ns f.signals nets first
+  pub frees : (n : Node) (i : ℕ) → is_free n ≡ true → IsAt ns i n → IsFreeOf f.signals nets n
   pub board : IsBoard f.signals now ns
   pub set : AreSet (Some now) next ns
   pub shows : (e : Naming) (c : Cycle) → AreShown e ns first c → AreShown e ns now (solved (flat_place f) (processes f) xs c)

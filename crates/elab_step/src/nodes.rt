@@ -1,28 +1,14 @@
 // Nodes of a dag: constants and free words.
 ghost use Rattle.std.specs.Prelude.{◌≡◌, ◌%◌, ◌^◌, ◌<◌, ◌≤◌, pos, [], map, IfOk};
 ghost use Rattle.word_dag.specs.Nodes.{FitFrom, FitsNode, width_of};
-ghost use Rattle.word_dag.specs.Adding.{Adds, IsAt, Keeps};
+ghost use Rattle.word_dag.specs.Adding.{Adds, Grows, IsAt, Keeps};
 ghost use Rattle.word_design.specs.Designs.{free};
-ghost use Rattle.elab_node.specs.Nodes.{Makes, IsNode, number_at};
+ghost use Rattle.elab_node.specs.Nodes.{AddsFrees, Makes, IsNode, number_at};
 
 use outside::Text;
 use std::alloc::{AllocError, Global};
 use word_core::Word;
 use word_dag::{Dag, Node};
-
-// Adds a node; the older ones are kept also where it is refused.
-#[tactic(auto, using(elab_node::proofs::Kept::keeps_refused))]
-fn put(dag: &mut Dag, node: Node) -> Result<u64, AllocError>
-    requires { FitsNode (map width_of dag.old) node }
-    ensures fit { FitFrom [] dag.old }
-    ensures keeps { Keeps dag.old dag.new }
-    ensures adds { IfOk result (λ i. Adds dag.old dag.new node i) }
-{
-    // the nodes of a dag fit
-    let _fit = dag.nodes();
-    let number = dag.add(node)?;
-    Ok(number)
-}
 
 /// The number 0.
 #[tactic(auto, using(elab_node::proofs::Making::made_const))]
@@ -32,7 +18,9 @@ pub fn zero(dag: &mut Dag, width: u8) -> Result<u64, AllocError>
     ensures keeps { Keeps dag.old dag.new }
     ensures makes { IfOk result (λ r. Makes dag.new r width (λ e. 0)) }
 {
-    let number = put(dag, Node::Const(Word::new(width, 0)))?;
+    // the nodes of a dag fit
+    let _fit = dag.nodes();
+    let number = dag.add(Node::Const(Word::new(width, 0)))?;
     Ok(number)
 }
 
@@ -40,18 +28,16 @@ pub fn zero(dag: &mut Dag, width: u8) -> Result<u64, AllocError>
 pub fn free(alloc: Global, dag: &mut Dag, name: &[u8], width: u8) -> Result<u64, AllocError>
     requires some { 1 ≤ width }
     requires most { width ≤ 64 }
-    ensures keeps { Keeps dag.old dag.new }
+    ensures grows { Grows dag.old dag.new }
+    ensures frees { IfOk result (λ r. AddsFrees (λ n. n ≡ free name.now width) dag.old dag.new) }
     ensures at { IfOk result (λ r. IsAt dag.new r (free name.now width)) }
     ensures makes { IfOk result (λ r. Makes dag.new r width (λ e. e name.now 0 (pos 0) % 2 ^ width)) }
 {
-    let number = put(
-        dag,
-        Node::Free {
-            name: Text::copy(alloc, name)?,
-            width,
-            side: 0,
-            cycle: 0,
-        },
-    )?;
+    let number = dag.add(Node::Free {
+        name: Text::copy(alloc, name)?,
+        width,
+        side: 0,
+        cycle: 0,
+    })?;
     Ok(number)
 }

@@ -1,13 +1,13 @@
 // The leaves with which the nets of a module are begun.
-ghost use Rattle.std.specs.Prelude.{◌≡◌, ◌≤◌, ◌<◌, length, map, IfOk, [], ℕ, Bool};
-ghost use Rattle.word_dag.specs.Adding.{Keeps};
+ghost use Rattle.std.specs.Prelude.{◌≡◌, ◌≤◌, ◌<◌, length, map, IfOk, [], ◌∷◌, ℕ, Bool};
+ghost use Rattle.word_dag.specs.Adding.{Grows};
 ghost use Rattle.vlog_tree.specs.Valuation.{IsLength};
 ghost use Rattle.vlog_runs.specs.Places.{Among};
-ghost use Rattle.elab_node.specs.Nodes.{IsNode};
+ghost use Rattle.elab_node.specs.Nodes.{AddsFrees, IsNode};
 ghost use Rattle.elab_node.specs.Leaves.{AreReady};
 ghost use Rattle.elab_block.specs.Standing.{IsLeafOf};
 ghost use Rattle.elab_step.specs.Solving.{AreDistinct, ArePlain};
-ghost use Rattle.elab_step.specs.Boards.{IsBoard, IsBegun, AreBegun};
+ghost use Rattle.elab_step.specs.Boards.{IsBoard, IsBegun, AreBegun, IsFreeOf};
 ghost use Rattle.vlog_runs.specs.declared.flat.Signal.{Signal as OneSignal};
 
 use crate::nodes::{free, zero};
@@ -22,7 +22,8 @@ use word_dag::Dag;
 fn leaf(alloc: Global, dag: &mut Dag, signal: &Signal, is_net: bool) -> Result<Leaf, AllocError>
     requires long { IsLength signal.now.width }
     requires plain { signal.now.depth ≡ 0 }
-    ensures keeps { Keeps dag.old dag.new }
+    ensures grows { Grows dag.old dag.new }
+    ensures frees { IfOk result (λ l. AddsFrees (IsFreeOf (signal.now ∷ []) (is_net ∷ [])) dag.old dag.new) }
     ensures leaf { IfOk result (λ l. IsLeafOf signal.now l) }
     ensures long { IfOk result (λ l. IsLength l.width) }
     ensures node { IfOk result (λ l. IsNode dag.new l.node l.width) }
@@ -55,7 +56,8 @@ pub fn begun(
     requires plain { ArePlain signals.now }
     requires long { (g : OneSignal) → Among signals.now g → IsLength g.width }
     requires nets { length nets.now ≡ length signals.now }
-    ensures keeps { Keeps dag.old dag.new }
+    ensures grows { Grows dag.old dag.new }
+    ensures frees { IfOk result (λ ls. AddsFrees (IsFreeOf signals.now nets.now) dag.old dag.new) }
     ensures board { IfOk result (λ ls. IsBoard signals.now ls dag.new) }
     ensures begun { IfOk result (λ ls. AreBegun dag.new signals.now nets.now ls) }
 {

@@ -1,6 +1,6 @@
 use Rattle.std.proofs.Common.{arith, ◌+◌, ◌<◌, List, length, drop, get_or, refl, sym, subst}
 use Rattle.elab_node.specs.declared.leaves.Leaf.{Leaf}
-use Rattle.elab_node.proofs.Kept.{made_node, made_number}
+use Rattle.elab_node.proofs.Kept.{keeps_then, made_node, made_number}
 use Rattle.vlog_tree.specs.declared.stmt.Stmt.{Stmt}
 use Rattle.elab_step.specs.Boards.{statements, statement_at, picked, name_of}
 use Rattle.elab_step.proofs.Boards.{Settling, leaf_wide, settling_start, settling_next, picked_at, number_among}
@@ -24,6 +24,9 @@ loop-place-init c =
 
 pub drive-requires-clause-within : goal.drive-requires-clause-within
 drive-requires-clause-within c = c.requires.within _ (number_among c.args.places.now c.loop-place.place-index 0 (omega arith))
+
+pub returns-in_err-drive-clause-keeps : goal.returns-in_err-drive-clause-keeps
+returns-in_err-drive-clause-keeps c = keeps_then c.args.dag.now c.loop-place.dag c.drive.new.dag c.loop-place.invariant.keeps c.drive.ensures.keeps
 
 pub loop-place-preserved : goal.loop-place-preserved
 loop-place-preserved c =

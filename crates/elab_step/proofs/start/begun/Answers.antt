@@ -1,6 +1,6 @@
 use Rattle.std.proofs.Common.{arith, ◌+◌, ◌<◌, ◌≤◌, List, length, refl, sym, subst}
 use Rattle.elab_node.specs.declared.leaves.Leaf.{Leaf}
-use Rattle.elab_step.proofs.Boards.{Beginning, signal_among, beginning_next, board_begun}
+use Rattle.elab_step.proofs.Boards.{Beginning, signal_among, beginning_next, board_begun, frees_begun}
 use Rattle.elab_step.proofs.Cycles.{plain_signal}
 use Rattle.elab_step.proofs.start.begun.Goals as goal
 
@@ -20,10 +20,16 @@ loop-i-preserved c =
     let P : List Leaf → Type 0 = λ z. Beginning gs ts (c.loop-i.i + 1) c.args.dag.now c.leaf.new.dag z in
     subst P (sym c.in_ok-push.ensures.ok)
     (beginning_next gs ts c.loop-i.i c.args.dag.now c.loop-i.dag c.leaf.new.dag c.loop-i.leaves g g _ _ c.in_ok-next.next c.loop-i.invariant lt (omega (arith, n, lt)) c.index-signals-i.is refl
-    c.in_ok-next.ensures.keeps (c.requires.long g (signal_among gs c.loop-i.i g g lt c.index-signals-i.is)) c.in_ok-next.ensures.leaf c.in_ok-next.ensures.node c.in_ok-next.ensures.begun)
+    c.in_ok-next.ensures.grows c.in_ok-next.ensures.frees (c.requires.long g (signal_among gs c.loop-i.i g g lt c.index-signals-i.is)) c.in_ok-next.ensures.leaf c.in_ok-next.ensures.node c.in_ok-next.ensures.begun)
 
 pub returns-clause-board : goal.returns-clause-board
 returns-clause-board c =
     let n = c.requires.nets in
     let l : length c.args.signals.now ≤ c.loop-i.i = omega arith in
     (board_begun c.args.signals.now c.args.nets.now c.loop-i.i c.args.dag.now c.loop-i.dag c.loop-i.leaves c.loop-i.invariant l (omega (arith, l, n)) c.requires.distinct).0
+
+pub returns-clause-frees : goal.returns-clause-frees
+returns-clause-frees c =
+    let n = c.requires.nets in
+    let l : length c.args.signals.now ≤ c.loop-i.i = omega arith in
+    frees_begun c.args.signals.now c.args.nets.now c.loop-i.i c.args.dag.now c.loop-i.dag c.loop-i.leaves c.loop-i.invariant l (omega (arith, l, n))
