@@ -104,7 +104,7 @@ module _ (gs : List Signal) (distinct : AreDistinct (map (λ (h : Signal). h.nam
 pub bodies_are : (body : Stmt) (q : Lval) → Among (body_parts body) q → IsPiece q
 bodies_are body q h = let r = among_flat parts_of (lefts body) q h in parts_are r.0 q r.2
 
-chosen : (clocked : Bool) (ks : List Always) (q : Lval) → Among (block_parts clocked ks) q → (k : Always) × Among ks k × (k.clocked ≡ clocked) × Among (body_parts k.body) q
+pub chosen : (clocked : Bool) (ks : List Always) (q : Lval) → Among (block_parts clocked ks) q → (k : Always) × Among ks k × (k.clocked ≡ clocked) × Among (body_parts k.body) q
 chosen clocked ks q h = let r = among_flat (chosen_parts clocked) ks q h in by clocked r.0 r.0.clocked refl r.1 r.2
   where
     by : (t : Bool) (k : Always) (u : Bool) → k.clocked ≡ u → Among ks k → Among (if is_same t u then body_parts k.body else []) q → (k : Always) × Among ks k × (k.clocked ≡ t) × Among (body_parts k.body) q
@@ -169,7 +169,7 @@ module _ (f : Flat) (plain : ArePlain f.signals) (x : Name) (b : ℕ) where
 
 -- ---- registers
 
-any_of : {X : Type 0} (test : X → Bool) (xs : List X) → list_any test xs ≡ true → (x : X) × Among xs x × (test x ≡ true)
+pub any_of : {X : Type 0} (test : X → Bool) (xs : List X) → list_any test xs ≡ true → (x : X) × Among xs x × (test x ≡ true)
 any_of test [] h = cc
 any_of test (x ∷ xs) h = ⊎_elim (λ (e : test x ≡ true). (x, inl refl, e)) (λ (e : test x ≡ false). let r = any_of test xs (rw e at h) in (r.0, inr r.1, r.2)) (bool_cases (test x))
 

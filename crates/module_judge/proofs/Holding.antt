@@ -107,10 +107,10 @@ leaves_apart (g ∷ gs) (l ∷ ls) h d = (subst (λ x. Lacks x ls) (sym h.0.name
 
 -- ---- the cycle that they show
 
-held_first : (g : Signal) (gs : List Signal) (v : ℕ) (vs : List ℕ) → held (g ∷ gs) (v ∷ vs) g.name ≡ v
+pub held_first : (g : Signal) (gs : List Signal) (v : ℕ) (vs : List ℕ) → held (g ∷ gs) (v ∷ vs) g.name ≡ v
 held_first g gs v vs = rw (same_name g.name) refl
 
-held_later : (g : Signal) (gs : List Signal) (v : ℕ) (vs : List ℕ) (x : Name) → g.name ≢ x → held (g ∷ gs) (v ∷ vs) x ≡ held gs vs x
+pub held_later : (g : Signal) (gs : List Signal) (v : ℕ) (vs : List ℕ) (x : Name) → g.name ≢ x → held (g ∷ gs) (v ∷ vs) x ≡ held gs vs x
 held_later g gs v vs x n = rw (other_name g.name x n) refl
 
 shown_as : (e : Naming) (ns : List Node) (ls : List Leaf) (c d : Cycle) → AreShown e ns ls c → ((l : Leaf) → Among ls l → d l.name ≡ c l.name) → AreShown e ns ls d
@@ -134,10 +134,10 @@ held_shown e ns (g ∷ gs) (l ∷ ls) (v ∷ vs) h a = (
   (λ k m. held_later g gs v vs k.name (λ r. lacks_each l.name ls k a.0 m (h.0.leaf.name ∙ r))),
 )
 
-pub held_below : (ns : List Node) (gs : List Signal) (ls : List Leaf) (vs : List ℕ) → AreLeavesOf gs ls → AreValues gs vs → AreBelow ls vs
-held_below ns [] [] [] h k = tt
-held_below ns [] [] (v ∷ vs) h k = absurd k
-held_below ns [] (l ∷ ls) vs h k = absurd h
-held_below ns (g ∷ gs) [] vs h k = absurd h
-held_below ns (g ∷ gs) (l ∷ ls) [] h k = absurd k
-held_below ns (g ∷ gs) (l ∷ ls) (v ∷ vs) h k = (subst (λ w. v < 2 ^ w) (sym h.0.width) k.0, held_below ns gs ls vs h.1 k.1)
+pub leaves_below : (gs : List Signal) (ls : List Leaf) (vs : List ℕ) → AreLeavesOf gs ls → AreValues gs vs → AreBelow ls vs
+leaves_below [] [] [] h k = tt
+leaves_below [] [] (v ∷ vs) h k = absurd k
+leaves_below [] (l ∷ ls) vs h k = absurd h
+leaves_below (g ∷ gs) [] vs h k = absurd h
+leaves_below (g ∷ gs) (l ∷ ls) [] h k = absurd k
+leaves_below (g ∷ gs) (l ∷ ls) (v ∷ vs) h k = (subst (λ w. v < 2 ^ w) (sym h.0.width) k.0, leaves_below gs ls vs h.1 k.1)

@@ -3,4 +3,7 @@ mod Asking
 mod Comparing
 mod Holding
 mod Driven
+mod Readying
 mod Tests
+mod Deciding
+mod Laws

@@ -17,11 +17,16 @@ use Rattle.elab_node.specs.declared.leaves.Leaf.{Leaf}
 use Rattle.elab_node.specs.Nodes.{number_at}
 use Rattle.elab_block.specs.Standing.{AreLeavesOf, AreShown}
 use Rattle.elab_step.proofs.Solving.{bool_cases}
+use Rattle.elab_node.specs.Leaves.{declared}
+use Rattle.elab_step.specs.Solving.{AreDistinct}
 use Rattle.elab_step.proofs.Fitting.{positive}
-use Rattle.module_judge.specs.Values.{AreValues}
+use Rattle.elab_step.proofs.Boards.{same_leaves, leaves_long}
+use Rattle.module_judge.specs.Values.{AreValues, held}
 use Rattle.module_judge.specs.Driving.{spot_of, part_bits, bits_in}
-use Rattle.module_judge.specs.Numbers.{same_within, leaves_same}
+use Rattle.module_judge.specs.Numbers.{same_within, leaves_same, AreBelow}
+use Rattle.module_judge.specs.Showing.{AreHeld}
 use Rattle.module_judge.specs.Judging.{each_same, whole}
+use Rattle.module_judge.proofs.Holding.{values_long, held_leaves, leaves_apart, held_shown, leaves_below}
 
 pub shown_same : (e : Naming) (ns : List Node) (d : Cycle) (ms : List ℕ) (gs : List Signal) (ls : List Leaf) (vs : List ℕ) → AreLeavesOf gs ls → AreShown e ns ls d → leaves_same (number_at e ns) ms ls vs ≡ each_same d ms gs vs
 shown_same e ns d [] gs ls vs are h = refl
@@ -60,3 +65,19 @@ masks_fit qs (g ∷ gs) = (bits_fit qs g, masks_fit qs gs)
 pub whole_fit : (gs : List Signal) → AreValues gs (whole gs)
 whole_fit [] = tt
 whole_fit (g ∷ gs) = (ones_fit 0 g.width g.width (omega arith), whole_fit gs)
+
+-- ---- leaves after a run
+
+module _ (gs : List Signal) (ns : List Node) (ls ms : List Leaf) (us : List ℕ) (h : AreHeld ns gs ls us) (same : declared ms ≡ declared ls) where
+  pub later : AreLeavesOf gs ms
+  later = same_leaves gs ls ms same (held_leaves ns gs ls us h)
+
+  pub later_below : (vs : List ℕ) → AreValues gs vs → AreBelow ms vs
+  later_below vs k = leaves_below gs ms vs later k
+
+  pub later_long : (vs : List ℕ) → AreValues gs vs → length vs ≡ length ms
+  later_long vs k = values_long gs vs k ∙ sym (leaves_long gs ms later)
+
+-- the values before a run
+pub held_now : (e : Naming) (ns : List Node) (gs : List Signal) (ls : List Leaf) (vs : List ℕ) → AreDistinct (map (λ (g : Signal). g.name) gs) → AreHeld ns gs ls vs → AreShown e ns ls (held gs vs)
+held_now e ns gs ls vs d h = held_shown e ns gs ls vs h (leaves_apart gs ls (held_leaves ns gs ls vs h) d)

@@ -16,6 +16,7 @@ use crate::numbers::leaves_same;
 use crate::parts::{body_parts, clocked_parts, net_parts};
 use elab_block::{assign, run};
 use elab_drive::Part;
+use flow_laws::bits_stay;
 use std::alloc::{AllocError, Global};
 use vlog_runs::{Always, Flat, Signal, TopPort};
 use vlog_tree::Assign;
@@ -171,13 +172,11 @@ fn each_driven(
     Ok(true)
 }
 
-/// Whether values of a module's signals, one each in their order, are a cycle of it: each continuous assignment and each combinational block
-/// holds, and a bit is 0 that nothing drives and that is of no register and no input (IEEE 1364-2005, sections 6.1 and 9.2). Refused for want of
-/// memory alone.
-pub fn is_cycle(alloc: Global, flat: &Flat, values: &[u64]) -> Result<bool, AllocError>
+// Whether values meet each test of a cycle.
+fn meets_cycle(alloc: Global, flat: &Flat, values: &[u64]) -> Result<bool, AllocError>
     requires can { CanElaborate flat.now }
     requires values { AreValues flat.now.signals values.now }
-    ensures { IfOk result (λ b. IsTrue b ↔ IsCycle flat.now (held flat.now.signals values.now)) }
+    ensures { IfOk result (λ b. b ≡ is_cycle flat.now values.now) }
 {
     let masks = whole(alloc, flat.signals.as_slice())?;
     let assigns = all_assigns_hold(alloc, flat, values, &masks)?;
@@ -186,6 +185,19 @@ pub fn is_cycle(alloc: Global, flat: &Flat, values: &[u64]) -> Result<bool, Allo
     let clocked = clocked_parts(alloc, flat)?;
     let driven = each_driven(alloc, flat, &nets, &clocked, values)?;
     Ok(assigns && (blocks && driven))
+}
+
+/// Whether values of a module's signals, one each in their order, are a cycle of it: each continuous assignment and each combinational block
+/// holds, and a bit is 0 that nothing drives and that is of no register and no input (IEEE 1364-2005, sections 6.1 and 9.2). Refused for want of
+/// memory alone.
+pub fn is_cycle(alloc: Global, flat: &Flat, values: &[u64]) -> Result<bool, AllocError>
+    requires can { CanElaborate flat.now }
+    requires values { AreValues flat.now.signals values.now }
+    ensures { IfOk result (λ b. IsTrue b ↔ IsCycle flat.now (held flat.now.signals values.now)) }
+{
+    bits_stay();
+    let meets = meets_cycle(alloc, flat, values)?;
+    Ok(meets)
 }
 
 // Whether the bits that a clocked block drives have in the next cycle what it gives.
@@ -279,16 +291,27 @@ fn each_keeps(
     Ok(true)
 }
 
-/// Whether values of a module's signals follow others: a bit that a clocked block drives has what this block gives from the cycle before, and
-/// each other bit of a register keeps its value (IEEE 1364-2005, section 9.2). Refused for want of memory alone.
+// Whether values meet each test of a cycle that follows another one.
+fn meets_edge(alloc: Global, flat: &Flat, now: &[u64], next: &[u64]) -> Result<bool, AllocError>
+    requires can { CanElaborate flat.now }
+    requires now { AreValues flat.now.signals now.now }
+    requires next { AreValues flat.now.signals next.now }
+    ensures { IfOk result (λ b. b ≡ follows flat.now now.now next.now) }
+{
+    let blocks = all_blocks_give(alloc, flat, now, next)?;
+    let clocked = clocked_parts(alloc, flat)?;
+    let kept = each_keeps(alloc, flat, &clocked, now, next)?;
+    Ok(blocks && kept)
+}
+
+/// Whether values of a module's signals, one each in their order, follow others: a bit that a clocked block drives has what this block gives from
+/// the cycle before, and each other bit of a register keeps its value (IEEE 1364-2005, section 9.2). Refused for want of memory alone.
 pub fn follows(alloc: Global, flat: &Flat, now: &[u64], next: &[u64]) -> Result<bool, AllocError>
     requires can { CanElaborate flat.now }
     requires now { AreValues flat.now.signals now.now }
     requires next { AreValues flat.now.signals next.now }
     ensures { IfOk result (λ b. IsTrue b ↔ Follows flat.now (held flat.now.signals now.now) (held flat.now.signals next.now)) }
 {
-    let blocks = all_blocks_give(alloc, flat, now, next)?;
-    let clocked = clocked_parts(alloc, flat)?;
-    let kept = each_keeps(alloc, flat, &clocked, now, next)?;
-    Ok(blocks && kept)
+    let meets = meets_edge(alloc, flat, now, next)?;
+    Ok(meets)
 }
