@@ -1,5 +1,5 @@
 -- Leaves compared with values one after another.
-use Rattle.std.proofs.Common.{◌≡◌, ℕ, zero, suc, ◌+◌, ◌^◌, ◌<◌, ◌≤◌, ◌&&◌, true, false, List, [], ◌∷◌, length, get_or, drop, slice_index_or, refl, sym, ap, ◌∙◌, subst, arith}
+use Rattle.std.proofs.Common.{◌≡◌, ℕ, zero, suc, ◌+◌, ◌^◌, ◌<◌, ◌≤◌, ◌&&◌, true, List, [], ◌∷◌, length, get_or, drop, slice_index_or, refl, sym, ap, ◌∙◌, subst, arith}
 use Rattle.vlog_tree.specs.Valuation.{IsLength}
 use Rattle.word_dag.specs.declared.node.Node.{Node}
 use Rattle.elab_node.specs.declared.leaves.Leaf.{Leaf}

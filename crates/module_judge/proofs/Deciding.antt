@@ -1,41 +1,22 @@
 -- The tests say of values what the definitions say of their cycle.
-use Rattle.std.proofs.Common.{◌≡◌, ◌≢◌, ℕ, ◌^◌, ◌<◌, ◌≤◌, max, ◌⊎◌, inl, inr, ⊎_elim, Bool, true, false, not, ◌&&◌, ◌||◌, List, [], ◌∷◌, map, nat_eq, arith, refl, sym, ap, ◌∙◌, subst}
+use Rattle.std.proofs.Common.{◌≡◌, ◌≢◌, ℕ, ◌^◌, ◌<◌, max, ◌⊎◌, inl, inr, Bool, true, false, not, ◌&&◌, ◌||◌, List, [], ◌∷◌, map, arith, refl, sym, ap, ◌∙◌, subst}
 use Rattle.std.specs.Prelude.{min, bit_and, bit_or}
 use Rattle.std.specs.Int.{bit_at}
 use Rattle.std.specs.List.{list_all}
-use Rattle.std.specs.Str.{bytes_eq}
 use Rattle.std.proofs.lemmas.Bool.{eq-eqb, eqb-true}
 use Rattle.std.proofs.lemmas.Bool.Decides.{eqb_tells}
-use Rattle.std.proofs.lemmas.Slice.Eq.{bytes_eq-Decides}
-use Rattle.std.proofs.lemmas.Nat.Bits.{bit_at_and, bit_at_or, bit_at-lt, bit_at_above, same_from_bits, same_from_bits_below}
-use Rattle.vlog_tree.specs.declared.item.Assign.{Assign}
+use Rattle.std.proofs.lemmas.Nat.Bits.{bit_at_and, bit_at_or, bit_at-lt, same_from_bits}
 use Rattle.vlog_tree.specs.declared.stmt.Lval.{Lval}
-use Rattle.vlog_tree.specs.declared.stmt.Stmt.{Stmt}
-use Rattle.vlog_tree.specs.declared.stmt.Stmt.TheVariants as s
-use Rattle.vlog_runs.specs.declared.flat.Always.{Always}
-use Rattle.vlog_runs.specs.declared.flat.Flat.{Flat}
 use Rattle.vlog_runs.specs.declared.flat.Signal.{Signal}
 use Rattle.vlog_runs.specs.declared.flat.TopPort.{TopPort}
-use Rattle.vlog_runs.specs.Places.{Name, Cycle, Place, Among, holders}
-use Rattle.vlog_runs.specs.Blocks.{run, lefts, left_names, Drives}
-use Rattle.vlog_runs.specs.Cycles.{flat_place, IsCycle, Follows, IsRegister, IsInput, IsDriven, IsClocked, DrivesFull}
-use Rattle.flat_laws.proofs.Lists.{among_map}
-use Rattle.elab_drive.specs.Claims.{ones}
-use Rattle.elab_drive.proofs.Bits.{set_ones}
-use Rattle.flow_laws.specs.Laws.{BitsStay, AreFit, place_over}
-use Rattle.elab_step.specs.Solving.{assigned_by, AreDistinct}
-use Rattle.elab_step.specs.Asked.{CanElaborate}
-use Rattle.elab_step.proofs.Solving.{bool_cases}
-use Rattle.elab_step.proofs.Fitting.{less_or, among_names, run_fits}
-use Rattle.elab_step.proofs.Cycles.{among_or, drives_assigned, own_holder, holds_itself}
-use Rattle.elab_step.proofs.Elaborating.{IsText, vectors}
-use Rattle.elab_step.proofs.Texts.{text_is}
+use Rattle.vlog_runs.specs.Places.{Cycle, Among}
+use Rattle.flow_laws.specs.Laws.{AreFit}
+use Rattle.elab_step.specs.Solving.{AreDistinct}
+use Rattle.elab_step.proofs.Fitting.{among_names}
 use Rattle.module_judge.specs.Values.{AreValues, held}
-use Rattle.module_judge.specs.Driving.{bits_in, names, body_parts, net_parts, clocked_parts}
 use Rattle.module_judge.specs.Numbers.{same_within}
-use Rattle.module_judge.specs.Judging.{each_same, whole, assign_holds, block_holds, is_input, only_driven, each_driven, is_cycle, block_gives, keeps_rest, each_keeps, follows}
+use Rattle.module_judge.specs.Judging.{each_same, only_driven, each_driven, keeps_rest, each_keeps}
 use Rattle.module_judge.proofs.Holding.{held_first, held_later}
-use Rattle.module_judge.proofs.Driven.{bits_drive, drive_bits, bodies_are, clocked_are, nets_are, body_drives, drives_body, full_drives, drives_full, nets_drive, drive_nets, clocked_drive, drive_clocked, any_of, of_any, names_register, register_names}
 
 -- ---- tests
 
@@ -153,7 +134,7 @@ has_held (g ∷ gs) [] d k = absurd k
 has_held (g ∷ gs) (v ∷ vs) d k = (
   held_first g gs v vs,
   has_as (held gs vs) (held (g ∷ gs) (v ∷ vs)) gs vs
-  (λ z m. held_later g gs v vs z.name (λ e. d.0 (subst (λ x. Among (map (λ (h : Signal). h.name) gs) x) (sym e) (among_names gs z m)))) (has_held gs vs d.1 k.1),
+      (λ z m. held_later g gs v vs z.name (λ e. d.0 (subst (λ x. Among (map (λ (h : Signal). h.name) gs) x) (sym e) (among_names gs z m)))) (has_held gs vs d.1 k.1),
 )
 
 pub has_fits : (c : Cycle) (gs : List Signal) (vs : List ℕ) → Has c gs vs → AreValues gs vs → AreFit gs c

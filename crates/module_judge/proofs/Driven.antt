@@ -1,9 +1,9 @@
 -- The bits that parts of left sides name are those that left sides drive.
-use Rattle.std.proofs.Common.{◌≡◌, ◌≢◌, ℕ, ◌<◌, ◌≤◌, max, ◌⊎◌, inl, inr, ⊎_elim, Bool, true, false, List, [], ◌∷◌, ◌++◌, map, Option, Some, None, arith, refl, sym, ap, ◌∙◌, subst, nat_eq, ◌||◌}
+use Rattle.std.proofs.Common.{◌≡◌, ◌≢◌, ℕ, ◌<◌, ◌≤◌, max, ◌⊎◌, inl, inr, ⊎_elim, Bool, true, false, List, [], ◌∷◌, map, Option, Some, None, arith, refl, sym, ap, ◌∙◌, subst, nat_eq}
 use Rattle.std.specs.Prelude.{min, bit_or, pos, ◌-ℤ◌, unwrap_or, if◌then◌else◌}
 use Rattle.std.specs.Option.{option_map}
 use Rattle.std.specs.Int.{bit_at}
-use Rattle.std.specs.List.{flat_map, list_any}
+use Rattle.std.specs.List.{list_any}
 use Rattle.std.specs.Str.{bytes_eq}
 use Rattle.std.proofs.lemmas.Bool.{eq-eqb}
 use Rattle.std.proofs.lemmas.Bool.Decides.{eqb_tells}
@@ -17,8 +17,8 @@ use Rattle.vlog_tree.specs.Value.{natural}
 use Rattle.vlog_runs.specs.declared.flat.Always.{Always}
 use Rattle.vlog_runs.specs.declared.flat.Flat.{Flat}
 use Rattle.vlog_runs.specs.declared.flat.Signal.{Signal}
-use Rattle.vlog_runs.specs.Places.{Name, Place, Among, holders}
-use Rattle.vlog_runs.specs.Blocks.{lefts, left_names, Drives, signal_at, low_in}
+use Rattle.vlog_runs.specs.Places.{Name, Place, Among}
+use Rattle.vlog_runs.specs.Blocks.{lefts, left_names, Drives}
 use Rattle.vlog_runs.specs.Cycles.{flat_place, DrivesFull, IsDriven, IsRegister, IsClocked}
 use Rattle.flat_laws.proofs.Lists.{among_append, append_left, append_right, among_flat, flat_among}
 use Rattle.elab_faults.specs.Drivers.{parts_of}

@@ -1,9 +1,7 @@
 -- Leaves that hold the values of signals.
-use Rattle.std.proofs.Common.{◌≡◌, ◌≢◌, ℕ, zero, suc, ◌+◌, ◌^◌, ◌<◌, ◌≤◌, true, false, List, [], ◌∷◌, ◌++◌, length, get_or, take, slice_index_or, refl, sym, ap, ◌∙◌, subst, arith, inl, inr, map}
+use Rattle.std.proofs.Common.{◌≡◌, ◌≢◌, ℕ, zero, suc, ◌+◌, ◌^◌, ◌<◌, ◌≤◌, List, [], ◌∷◌, ◌++◌, length, get_or, take, slice_index_or, refl, sym, ap, ◌∙◌, subst, arith, inl, inr, map}
 use Rattle.std.specs.List.{All}
-use Rattle.std.specs.Str.{bytes_eq}
 use Rattle.std.proofs.lemmas.List.{take_all}
-use Rattle.vlog_tree.specs.Valuation.{IsLength}
 use Rattle.vlog_runs.specs.declared.flat.Signal.{Signal}
 use Rattle.vlog_runs.specs.Places.{Name, Cycle, Among}
 use Rattle.word_dag.specs.declared.node.Node.{Node}
@@ -12,11 +10,10 @@ use Rattle.word_dag.specs.Adding.{Keeps}
 use Rattle.elab_node.specs.declared.leaves.Leaf.{Leaf}
 use Rattle.elab_node.specs.Leaves.{AreReady}
 use Rattle.elab_node.proofs.Kept.{node_kept, number_kept}
-use Rattle.elab_block.specs.Standing.{IsLeafOf, AreLeavesOf, Lacks, AreApart, AreShown}
+use Rattle.elab_block.specs.Standing.{AreLeavesOf, Lacks, AreApart, AreShown}
 use Rattle.elab_drive.proofs.Marking.{among_at}
-use Rattle.elab_step.specs.Solving.{AreDistinct, ArePlain}
+use Rattle.elab_step.specs.Solving.{AreDistinct}
 use Rattle.elab_step.proofs.Boards.{take_next}
-use Rattle.elab_step.proofs.Cycles.{plain_signal}
 use Rattle.elab_step.proofs.Solving.{same_name, other_name}
 use Rattle.module_judge.specs.Values.{AreValues, held}
 use Rattle.module_judge.specs.Numbers.{AreBelow}
@@ -131,7 +128,7 @@ held_shown e ns (g ∷ gs) (l ∷ ls) [] h a = absurd h
 held_shown e ns (g ∷ gs) (l ∷ ls) (v ∷ vs) h a = (
   ap (held (g ∷ gs) (v ∷ vs)) h.0.leaf.name ∙ held_first g gs v vs ∙ sym (h.0.number e),
   shown_as e ns ls (held gs vs) (held (g ∷ gs) (v ∷ vs)) (held_shown e ns gs ls vs h.1 a.1)
-  (λ k m. held_later g gs v vs k.name (λ r. lacks_each l.name ls k a.0 m (h.0.leaf.name ∙ r))),
+      (λ k m. held_later g gs v vs k.name (λ r. lacks_each l.name ls k a.0 m (h.0.leaf.name ∙ r))),
 )
 
 pub leaves_below : (gs : List Signal) (ls : List Leaf) (vs : List ℕ) → AreLeavesOf gs ls → AreValues gs vs → AreBelow ls vs

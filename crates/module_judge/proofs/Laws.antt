@@ -1,13 +1,12 @@
 -- A module's tests say of values what the definitions say of their cycle.
-use Rattle.std.proofs.Common.{◌≡◌, ◌≢◌, ℕ, ◌^◌, ◌<◌, ◌≤◌, max, ◌⊎◌, inl, inr, ⊎_elim, Bool, true, false, not, ◌&&◌, ◌||◌, List, [], ◌∷◌, ◌++◌, map, nat_eq, arith, refl, sym, ap, ◌∙◌, subst}
-use Rattle.std.specs.Prelude.{min, bit_and, bit_or}
+use Rattle.std.proofs.Common.{◌≡◌, ℕ, ◌^◌, ◌<◌, ◌≤◌, ◌⊎◌, inl, inr, ⊎_elim, Bool, true, false, not, ◌&&◌, ◌||◌, List, [], ◌∷◌, ◌++◌, map, nat_eq, arith, sym, ap, ◌∙◌, subst}
+use Rattle.std.specs.Prelude.{bit_and, bit_or}
 use Rattle.std.specs.Int.{bit_at}
 use Rattle.std.specs.List.{list_all}
 use Rattle.std.specs.Str.{bytes_eq}
 use Rattle.std.proofs.lemmas.Bool.{eq-eqb, eqb-true}
-use Rattle.std.proofs.lemmas.Bool.Decides.{eqb_tells}
 use Rattle.std.proofs.lemmas.Slice.Eq.{bytes_eq-Decides}
-use Rattle.std.proofs.lemmas.Nat.Bits.{bit_at_and, bit_at_or, bit_at-lt, bit_at_above, same_from_bits, same_from_bits_below}
+use Rattle.std.proofs.lemmas.Nat.Bits.{bit_at_above, same_from_bits, same_from_bits_below}
 use Rattle.vlog_tree.specs.declared.item.Assign.{Assign}
 use Rattle.vlog_tree.specs.declared.stmt.Lval.{Lval}
 use Rattle.vlog_tree.specs.declared.stmt.Stmt.{Stmt}
@@ -16,14 +15,14 @@ use Rattle.vlog_runs.specs.declared.flat.Always.{Always}
 use Rattle.vlog_runs.specs.declared.flat.Flat.{Flat}
 use Rattle.vlog_runs.specs.declared.flat.Signal.{Signal}
 use Rattle.vlog_runs.specs.declared.flat.TopPort.{TopPort}
-use Rattle.vlog_runs.specs.Places.{Name, Cycle, Place, Among, holders}
+use Rattle.vlog_runs.specs.Places.{Name, Cycle, Place, Among}
 use Rattle.vlog_runs.specs.Blocks.{run, lefts, left_names, Drives}
-use Rattle.vlog_runs.specs.Cycles.{flat_place, IsCycle, Follows, IsRegister, IsInput, IsDriven, IsClocked, DrivesFull}
+use Rattle.vlog_runs.specs.Cycles.{flat_place, IsCycle, Follows, IsRegister, IsInput, IsDriven, IsClocked}
 use Rattle.flat_laws.proofs.Lists.{among_map}
 use Rattle.elab_drive.specs.Claims.{ones}
 use Rattle.elab_drive.proofs.Bits.{set_ones}
-use Rattle.flow_laws.specs.Laws.{BitsStay, AreFit, place_over}
-use Rattle.elab_step.specs.Solving.{assigned_by, AreDistinct}
+use Rattle.flow_laws.specs.Laws.{BitsStay, AreFit}
+use Rattle.elab_step.specs.Solving.{assigned_by}
 use Rattle.elab_step.specs.Asked.{CanElaborate}
 use Rattle.elab_step.proofs.Solving.{bool_cases}
 use Rattle.elab_step.proofs.Fitting.{less_or, among_names, run_fits}
@@ -32,11 +31,9 @@ use Rattle.elab_step.proofs.Elaborating.{IsText, vectors}
 use Rattle.elab_step.proofs.Texts.{text_is}
 use Rattle.module_judge.specs.Values.{AreValues, held}
 use Rattle.module_judge.specs.Driving.{bits_in, names, body_parts, net_parts, clocked_parts}
-use Rattle.module_judge.specs.Numbers.{same_within}
 use Rattle.module_judge.specs.Judging.{each_same, whole, assign_holds, block_holds, is_input, only_driven, each_driven, is_cycle, block_gives, keeps_rest, each_keeps, follows}
 use Rattle.module_judge.proofs.Driven.{bits_drive, drive_bits, bodies_are, clocked_are, nets_are, body_drives, drives_body, full_drives, drives_full, nets_drive, drive_nets, clocked_drive, drive_clocked, any_of, of_any, names_register, register_names}
-
-use Rattle.module_judge.proofs.Deciding.{differ, and_left, and_right, and_both, or_cases, or_second, or_first, not_false, false_not, all_are, are_all, one_or, under, beside, same_beside, covered, uncovered, has_held, has_fits, each_bits, bits_each, driven_each, each_is_driven, keeps_each, each_is_kept, Has}
+use Rattle.module_judge.proofs.Deciding.{differ, and_left, and_right, and_both, or_cases, or_second, or_first, not_false, false_not, all_are, are_all, one_or, beside, same_beside, covered, uncovered, has_held, has_fits, each_bits, bits_each, driven_each, each_is_driven, keeps_each, each_is_kept, Has}
 
 module _ (f : Flat) (can : CanElaborate f) where
   abbrev gs : List Signal

@@ -1,10 +1,7 @@
 -- The numbers in left sides that can be taken where they stand have values by themselves where they are constant.
-use Rattle.std.proofs.Common.{◌≡◌, Bool, true, false, IsTrue, List, [], ◌∷◌, ◌++◌, refl, sym, ap, ◌∙◌, subst, inl, inr, ⊎_elim}
-use Rattle.std.specs.List.{flat_map}
-use Rattle.vlog_tree.specs.declared.expr.Constant.{Constant}
+use Rattle.std.proofs.Common.{◌≡◌, Bool, true, false, IsTrue, List, [], ◌∷◌, refl, subst, inl, inr, ⊎_elim}
 use Rattle.vlog_tree.specs.declared.expr.Expr.{Expr, Row_of-Expr, end_of-Expr, more_of-Expr}
 use Rattle.vlog_tree.specs.declared.expr.Expr.TheVariants as e
-use Rattle.vlog_tree.specs.declared.expr.Span.{Span}
 use Rattle.vlog_tree.specs.declared.item.Assign.{Assign}
 use Rattle.vlog_tree.specs.declared.stmt.Lval.{Lval, Row_of-Lval, end_of-Lval, more_of-Lval}
 use Rattle.vlog_tree.specs.declared.stmt.Lval.TheVariants as l
@@ -12,8 +9,7 @@ use Rattle.vlog_tree.specs.declared.stmt.Stmt.{Stmt, Row_of-Stmt, end_of-Stmt, m
 use Rattle.vlog_tree.specs.declared.stmt.Stmt.TheVariants as s
 use Rattle.vlog_tree.specs.declared.valuation.Entry.{Entry}
 use Rattle.vlog_tree.specs.Valuation.{IsLength}
-use Rattle.vlog_tree.specs.Value.{Operand, operand_of, row_of, own_defined, part_of, repeated, IsFormed, AllFormed, IsPart, NamesOnly, AllNamesOnly}
-use Rattle.vlog_runs.specs.declared.flat.Always.{Always}
+use Rattle.vlog_tree.specs.Value.{Operand, own_defined, part_of, repeated, IsFormed, AllFormed, IsPart, NamesOnly, AllNamesOnly}
 use Rattle.vlog_runs.specs.declared.flat.Flat.{Flat}
 use Rattle.vlog_runs.specs.Places.{Among}
 use Rattle.vlog_runs.specs.Blocks.{lefts, row_lefts, case_lefts}
@@ -23,7 +19,7 @@ use Rattle.elab_drive.specs.Claims.{nothing, IsEvaluable, IsPartReady}
 use Rattle.elab_node.proofs.Alike.{constant_same, constant_rows}
 use Rattle.elab_block.specs.Ready.{IsSingle, IsReadyLeft, AreReadyLefts, IsReadyStore, IsReadyStmt, AreReadyStmts, AreReadyItems}
 use Rattle.elab_step.specs.Asked.{CanElaborate, at_rest}
-use Rattle.module_judge.specs.Driving.{ArePartsReady, body_parts, chosen_parts, block_parts, assign_parts, net_parts, clocked_parts}
+use Rattle.module_judge.specs.Driving.{ArePartsReady, body_parts, block_parts, assign_parts, net_parts, clocked_parts}
 use Rattle.module_judge.proofs.Driven.{chosen}
 
 -- ---- a constant expression is well formed whatever names stand for

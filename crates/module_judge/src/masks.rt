@@ -129,11 +129,7 @@ pub fn names(parts: &[Part<'_>], name: &[u8]) -> bool
 }
 
 /// The bits of each signal that some part names. Refused only for want of memory.
-pub fn masks(
-    alloc: Global,
-    parts: &[Part<'_>],
-    signals: &[Signal],
-) -> Result<Vec<u64>, AllocError>
+pub fn masks(alloc: Global, parts: &[Part<'_>], signals: &[Signal]) -> Result<Vec<u64>, AllocError>
     requires narrow { All (λ g. g.width ≤ 64) signals.now }
     requires ready { ArePartsReady (map part_meant parts.now) }
     ensures { IfOk result (λ r. r.items ≡ map (bits_in (map part_meant parts.now)) signals.now) }

@@ -82,13 +82,7 @@ fn equal(dag: &mut Dag, _width: u8, a: u64, b: u64) -> Result<u64, AllocError>
 
 // Whether a word has the bits of a number under a mask, as one bit.
 #[tactic(auto, using(elab_node::proofs::Kept::keeps_then, elab_node::proofs::Kept::made_node, elab_node::proofs::Kept::node_kept))]
-fn question(
-    dag: &mut Dag,
-    node: u64,
-    width: u8,
-    mask: u64,
-    value: u64,
-) -> Result<u64, AllocError>
+fn question(dag: &mut Dag, node: u64, width: u8, mask: u64, value: u64) -> Result<u64, AllocError>
     requires node { IsNode dag.old node width }
     requires some { 1 ≤ width }
     requires most { width ≤ 64 }

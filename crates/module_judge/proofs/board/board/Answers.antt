@@ -1,9 +1,8 @@
-use Rattle.std.proofs.Common.{◌≡◌, List, length, refl, sym, ap, ◌∙◌, subst}
+use Rattle.std.proofs.Common.{◌≡◌, length, refl, sym, ap, ◌∙◌, subst}
 use Rattle.vlog_tree.specs.Valuation.{IsLength}
 use Rattle.vlog_runs.specs.declared.flat.Signal.{Signal}
 use Rattle.elab_step.proofs.Boards.{rest_is}
 use Rattle.elab_step.proofs.Cycles.{plain_signal}
-use Rattle.module_judge.specs.Values.{AreValues}
 use Rattle.module_judge.specs.Showing.{AreHeld}
 use Rattle.module_judge.proofs.Holding.{all_of, values_long, held_leaves, held_ready, leaves_apart}
 use Rattle.module_judge.proofs.board.board.Goals as goal

@@ -11,11 +11,10 @@ loop-i-preserved c =
     let gs = c.args.signals.now in
     let vs = c.args.values.now in
     let lt : c.loop-i.i < length gs = omega arith in
-    let lv : c.loop-i.i < length vs = let e = c.requires.each in omega (arith, e, lt) in
-    (
+    let lv : c.loop-i.i < length vs = let e = c.requires.each in omega (arith, e, lt) in (
       keeps_then c.args.dag.now c.loop-i.dag c.leaf.new.dag c.loop-i.invariant.0 c.in_ok-next.ensures.keeps,
       held_next c.loop-i.dag c.leaf.new.dag gs c.loop-i.leaves c.push.new.self vs c.loop-i.i c.index-signals-i.result c.in_ok-next.next c.in_ok-next.ensures.keeps c.loop-i.invariant.1 lt lv c.index-signals-i.is
-      c.in_ok-next.ensures.held c.in_ok-push.ensures.ok,
+          c.in_ok-next.ensures.held c.in_ok-push.ensures.ok,
     )
 
 pub returns-clause-held : goal.returns-clause-held

@@ -1,4 +1,4 @@
-use Rattle.std.proofs.Common.{◌≡◌, ◌<◌, length, get_or, ap, ◌∙◌, arith}
+use Rattle.std.proofs.Common.{◌<◌, length, get_or, ap, ◌∙◌, arith}
 use Rattle.elab_step.proofs.Boards.{item_among}
 use Rattle.module_judge.proofs.judge.all_blocks_hold.Goals as goal
 

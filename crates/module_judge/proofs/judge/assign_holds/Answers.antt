@@ -1,10 +1,10 @@
-use Rattle.std.proofs.Common.{◌≡◌, ℕ, List, length, sym, ap, ◌∙◌, subst}
+use Rattle.std.proofs.Common.{sym, ap, ◌∙◌, subst}
 use Rattle.vlog_runs.specs.Places.{store}
 use Rattle.vlog_runs.specs.Places.{Cycle}
 use Rattle.flow_laws.specs.Laws.{place_over}
 use Rattle.module_judge.specs.Values.{AreValues, held}
 use Rattle.module_judge.specs.Numbers.{nought}
-use Rattle.module_judge.specs.Judging.{each_same, whole}
+use Rattle.module_judge.specs.Judging.{each_same}
 use Rattle.module_judge.proofs.Holding.{held_leaves}
 use Rattle.module_judge.proofs.Tests.{shown_same, whole_fit, later, later_below, later_long, held_now}
 use Rattle.module_judge.proofs.judge.assign_holds.Goals as goal

@@ -1,10 +1,9 @@
-use Rattle.std.proofs.Common.{true, false, ◌≡◌, ◌≤◌, ℕ, List, Some, length, map, refl, sym, ap, ◌∙◌, subst}
+use Rattle.std.proofs.Common.{false, ◌≡◌, ◌≤◌, List, map, sym, ap, ◌∙◌, subst}
 use Rattle.vlog_tree.specs.declared.stmt.Lval.{Lval}
 use Rattle.vlog_runs.specs.declared.flat.Signal.{Signal}
 use Rattle.vlog_runs.specs.Places.{Cycle}
 use Rattle.vlog_runs.specs.Blocks.{run}
 use Rattle.elab_drive.specs.Parts.{part_meant}
-use Rattle.elab_node.specs.Leaves.{AreReady}
 use Rattle.elab_node.proofs.Kept.{ready_kept}
 use Rattle.flow_laws.specs.Laws.{place_over}
 use Rattle.elab_step.specs.Asked.{at_rest}

@@ -1,4 +1,4 @@
-use Rattle.std.proofs.Common.{nat_eq, sym, ap, ◌∙◌}
+use Rattle.std.proofs.Common.{nat_eq, ap, ◌∙◌}
 use Rattle.word_core.specs.Words.{Bits}
 use Rattle.module_judge.specs.Numbers.{nought}
 use Rattle.module_judge.proofs.Asking.{none_fit, root_none}

@@ -1,4 +1,4 @@
-use Rattle.std.proofs.Common.{◌≡◌, ℕ, ◌+◌, ◌<◌, ◌≤◌, ◌&&◌, Bool, true, false, length, drop, slice_index_or, refl, sym, ap, ◌∙◌, arith}
+use Rattle.std.proofs.Common.{◌≡◌, ◌+◌, ◌<◌, ◌&&◌, true, false, length, drop, slice_index_or, sym, ap, ◌∙◌, arith}
 use Rattle.elab_node.specs.Nodes.{number_at}
 use Rattle.elab_node.proofs.Kept.{keeps_then, node_kept, number_kept}
 use Rattle.module_judge.specs.Numbers.{nought, same_within, leaves_same}
@@ -55,11 +55,10 @@ loop-i-preserved c =
     let lv : i < length vs = let e = c.requires.each_value in omega (arith, e, lt) in
     let t : true ≡ same_within (slice_index_or ms i 0) (number_at nought a l.node) (slice_index_or vs i 0) =
     sym c.if-not-same.false ∙ c.in_ok-same.ensures.same
-    ∙ ap (λ n. same_within (slice_index_or ms i 0) n (slice_index_or vs i 0)) (number_kept nought a c.loop-i.dag l.node l.width c.loop-i.invariant.0 (leaf_ready c.args.leaves.now a i l c.requires.ready lt c.leaf-leaf.ensures).1) in
-    (
+    ∙ ap (λ n. same_within (slice_index_or ms i 0) n (slice_index_or vs i 0)) (number_kept nought a c.loop-i.dag l.node l.width c.loop-i.invariant.0 (leaf_ready c.args.leaves.now a i l c.requires.ready lt c.leaf-leaf.ensures).1) in (
       keeps_then a c.loop-i.dag c.same_within.new.dag c.loop-i.invariant.0 c.in_ok-same.ensures.keeps,
       ap (λ b. b && leaves_same (number_at nought a) (drop (i + 1) ms) (drop (i + 1) c.args.leaves.now) (drop (i + 1) vs)) t
-      ∙ sym (same_at (number_at nought a) ms c.args.leaves.now vs i l lm lt lv c.leaf-leaf.ensures) ∙ c.loop-i.invariant.1,
+          ∙ sym (same_at (number_at nought a) ms c.args.leaves.now vs i l lm lt lv c.leaf-leaf.ensures) ∙ c.loop-i.invariant.1,
     )
 
 pub returns : goal.returns
