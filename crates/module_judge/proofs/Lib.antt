@@ -1,0 +1,9 @@
+mod Listing
+mod Asking
+mod Comparing
+mod Holding
+mod Driven
+mod Readying
+mod Tests
+mod Deciding
+mod Laws

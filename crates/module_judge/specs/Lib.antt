@@ -1,0 +1,5 @@
+pub mod Values
+pub mod Driving
+pub mod Numbers
+pub mod Showing
+pub mod Judging
