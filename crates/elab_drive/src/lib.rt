@@ -17,6 +17,8 @@ pub use declared::Declared;
 pub use drivers::{Driver, driven_twice, driver_claims};
 pub use kind::wrongly_assigned;
 pub use lacking::undriven;
+pub use masks::{Bit, clash};
 pub use names::{Form, block_names};
 pub use parts::{Part, name_of, parts_of, reads_of};
 pub use pieces::{Piece, pieces_of};
+pub use wanted::add_store_reads;

@@ -14,7 +14,7 @@ use Rattle.flow_laws.specs.Laws.{place_over}
 use Rattle.elab_flow.specs.Sets.{Tables, Has, HasBit}
 use Rattle.elab_flow.specs.Shows.{IsAt, Marks, AreDistinct}
 use Rattle.elab_flow.specs.Words.{AreNarrow, AnySetAt}
-use Rattle.elab_flow.specs.Passes.{ReadsAt, ReadsTo, CountTo, AssignTo}
+use Rattle.elab_flow.specs.Passes.{ReadsAt, ReadsTo, CountTo, EnterTo, AssignTo}
 use Rattle.elab_flow.proofs.Placing.{words_set, named_signal}
 use Rattle.elab_flow.proofs.Showing.{at_lt}
 
@@ -46,3 +46,13 @@ module _ (gs : List Signal) (d : AreDistinct gs) (narrow : AreNarrow gs) where
       outside = outside;
     };
   }
+
+-- where expressions are read
+pub entered : (gs ls : List Signal) (around : List Bool) (as' : List Expr) (n : ℕ) (s t : Tables) (found read inner : List Bool) → ls ≡ gs → n ≡ length gs → read ≡ found → ReadsAt ls as' found → ReadsTo n read s t → CountTo n around read s inner
+    → EnterTo gs around as' s t inner
+entered gs ls around as' n s t found read inner e f g marks reads counts = record {
+  read = read;
+  marks = subst (λ l. ReadsAt l as' read) e (subst (λ z. ReadsAt ls as' z) (sym g) marks);
+  reads = subst (λ k. ReadsTo k read s t) f reads;
+  counts = subst (λ k. CountTo k around read s inner) f counts;
+}

@@ -68,3 +68,10 @@ without_kept x y b h = least (bit_at x b) (bit_at (bit_not w64 y) b) (bit_at-lt 
   where
     least : (m n : ℕ) → m < 2 → n < 2 → min m n ≡ 1 → m ≡ 1
     least m n f g h = omega arith
+
+-- 0 has no bit
+pub none_set : (b : ℕ) → bit_at 0 b ≡ 1 → ⊥
+none_set b h = let z : bit_at 0 b ≡ 0 = bit_at-zero b in clash (bit_at 0 b) z h
+  where
+    clash : (n : ℕ) → n ≡ 0 → n ≡ 1 → ⊥
+    clash n e f = omega arith

@@ -5,3 +5,11 @@ pub mod Marking
 pub mod Setting
 pub mod Placing
 pub mod Assigning
+pub mod Listing
+pub mod Casing
+pub mod Resting
+pub mod Blocks
+pub mod Starting
+pub mod Finding
+pub mod Edging
+pub mod Depending

@@ -1,5 +1,5 @@
 -- Rows of square tables.
-use Rattle.std.proofs.Common.{◌≡◌, ◌≢◌, ℕ, ◌+◌, ◌*◌, ◌≤◌, ◌<◌, ◌⊎◌, ◌↔◌, ◌||◌, ◌&&◌, inl, inr, Bool, true, false, List, get_or, arith, sym, ◌∙◌, subst}
+use Rattle.std.proofs.Common.{◌≡◌, ◌≢◌, ℕ, zero, suc, ◌+◌, ◌*◌, ◌≤◌, ◌<◌, ◌⊎◌, ◌↔◌, ◌||◌, ◌&&◌, inl, inr, Bool, true, false, List, ◌∷◌, ◌++◌, replicate, get_or, arith, sym, ap, ◌∙◌, subst}
 use Rattle.std.proofs.lemmas.Bool.{cases_eq, cases_lt}
 use Rattle.std.proofs.lemmas.Nat.{mul-add-lt}
 use Rattle.std.proofs.Math.Nat.{mul_comm, mul-le-mul_left}
@@ -127,3 +127,7 @@ module _ (n : ℕ) (rows set old now new : List Bool) where
         | inr ne ↦ (let l : i < y + 1 = f.0 in let g : i ≢ y = ne in inl (omega arith, f.1, f.2))
       ]
       back (inr f) = inr f
+
+pub falses_append : (m n : ℕ) → replicate m false ++ replicate n false ≡ replicate (m + n) false
+falses_append zero n = let e : n ≡ zero + n = omega arith in ap (λ k. replicate k false) e
+falses_append (suc m) n = let e : suc (m + n) ≡ suc m + n = omega arith in ap (λ xs. false ∷ xs) (falses_append m n) ∙ ap (λ k. replicate k false) e

@@ -26,7 +26,7 @@ use Rattle.elab_flow.specs.Words.{run_word, index_word, span_word, set_word, IsS
 use Rattle.elab_flow.specs.declared.words.Shape.{Shape}
 use Rattle.elab_flow.specs.Sets.{HasBit}
 use Rattle.elab_drive.specs.Spots.{signal_name}
-use Rattle.elab_flow.proofs.Bits.{or_bits}
+use Rattle.elab_flow.proofs.Bits.{or_bits, none_set}
 
 abbrev number : Expr → ℤ
 number a = own_integer (operand_of [] a)
@@ -48,12 +48,6 @@ run_is w low b i j lt = (
   λ h. let r = run_set w b (i -ℤ pos low) (j -ℤ pos low) (ones_set (min w (natural (i -ℤ pos low))) (min w (natural (j -ℤ pos low))) b h) in (r.0, r.1),
   λ h. set_ones (min w (natural (i -ℤ pos low))) (min w (natural (j -ℤ pos low))) b (set_run w b (i -ℤ pos low) (j -ℤ pos low) lt h.0 h.1),
 )
-
-none_set : (b : ℕ) → bit_at 0 b ≡ 1 → ⊥
-none_set b h = let z : bit_at 0 b ≡ 0 = bit_at-zero b in clash (bit_at 0 b) z h
-  where
-    clash : (n : ℕ) → n ≡ 0 → n ≡ 1 → ⊥
-    clash n e f = omega arith
 
 module _ (gs : List Signal) (w low b : ℕ) (lt : b < w) where
   abbrev p : Place

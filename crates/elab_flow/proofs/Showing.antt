@@ -1,29 +1,30 @@
 -- Tables that say what flows say, one step after another.
-use Rattle.std.proofs.Common.{◌≡◌, ℕ, zero, suc, ◌+◌, ◌*◌, ◌<◌, ◌⊎◌, ◌↔◌, ◌||◌, ◌&&◌, inl, inr, Bool, true, List, [], ◌∷◌, length, get_or, arith, refl, sym, ◌∙◌, subst}
+use Rattle.std.proofs.Common.{◌≡◌, ℕ, zero, suc, ◌+◌, ◌*◌, ◌<◌, ◌⊎◌, ◌↔◌, ◌||◌, ◌&&◌, inl, inr, Bool, true, false, List, [], ◌∷◌, length, get_or, arith, refl, sym, ◌∙◌, subst}
 use Rattle.std.specs.Int.{bit_at}
 use Rattle.std.specs.List.{flat_map}
 use Rattle.vlog_tree.specs.declared.expr.Expr.{Expr}
 use Rattle.vlog_tree.specs.declared.stmt.Lval.{Lval}
-use Rattle.vlog_tree.specs.declared.stmt.Stmt.{Stmt, Row_of-Stmt, end_of-Stmt, more_of-Stmt}
+use Rattle.vlog_tree.specs.declared.stmt.CaseKind.{CaseKind}
+use Rattle.vlog_tree.specs.declared.stmt.Stmt.{Stmt, Row_of-Stmt, end_of-Stmt, more_of-Stmt, Row_of-CaseItem, end_of-CaseItem, more_of-CaseItem}
 use Rattle.vlog_tree.specs.declared.stmt.Stmt.TheVariants as s
 use Rattle.vlog_runs.specs.declared.flat.Signal.{Signal}
 use Rattle.vlog_runs.specs.Places.{Name, Among, Place}
-use Rattle.vlog_runs.specs.Blocks.{left_names}
+use Rattle.vlog_runs.specs.Blocks.{labels_in, left_names}
 use Rattle.flat_faults.specs.Texts.{names_in, numbers_in}
 use Rattle.elab_faults.specs.Paths.{Sets}
-use Rattle.flow_laws.specs.Flows.{Flow, either, IsUnset, Uses, after_reads, after_assignment, within, flow, row_flow}
+use Rattle.flow_laws.specs.Flows.{Flow, nowhere, either, only_if, IsUnset, Uses, after_reads, after_assignment, within, flow, row_flow, items_flow}
 use Rattle.flow_laws.specs.Laws.{place_over}
 use Rattle.elab_flow.specs.Sets.{Tables, HasBit, at, is_open, Has, CountsIn}
-use Rattle.elab_flow.specs.Shows.{IsAt, Marks, Shows, AreDeclared, AreAllDeclared, RowDeclared}
-use Rattle.elab_flow.specs.Passes.{ReadsAt, ReadsTo, CountTo, JoinTo, SetTo, AssignTo, Passes, RowPasses}
-use Rattle.elab_flow.proofs.Bits.{or_is, and_is, or_bits, open_from, bit_of_open}
+use Rattle.elab_flow.specs.Shows.{IsAt, Marks, Shows, AreDeclared, AreAllDeclared, RowDeclared, ItemsDeclared}
+use Rattle.elab_flow.specs.Passes.{ReadsAt, ReadsTo, CountTo, JoinTo, SetTo, AssignTo, IsNowhere, LeadsPast, PastTo, Passes, RowPasses, ItemsPass}
+use Rattle.elab_flow.proofs.Bits.{or_is, and_is, or_bits, open_from, bit_of_open, none_set}
 
 pub at_lt : (gs : List Signal) (i : ℕ) (x : Name) → IsAt gs i x → i < length gs
 at_lt [] i x h = absurd h
 at_lt (g ∷ gs) zero x h = omega arith
 at_lt (g ∷ gs) (suc i) x h = let r = at_lt gs i x h in omega arith
 
-named_at : (gs : List Signal) (i : ℕ) → i < length gs → (x : Name) × IsAt gs i x
+pub named_at : (gs : List Signal) (i : ℕ) → i < length gs → (x : Name) × IsAt gs i x
 named_at [] i h = absurd (omega arith)
 named_at (g ∷ gs) zero h = (g.name, refl)
 named_at (g ∷ gs) (suc i) h = named_at gs i (omega arith)
@@ -128,6 +129,68 @@ module _ (gs : List Signal) where
     outside = λ i x a. subst (λ bs. Has bs i ↔ v.outside x) (sym k.outside) (h.outside i x a);
   }
 
+  -- ---- the items of a case statement
+
+  -- flows that say the same
+  record Same (v w : Flow) : Type 0 where
+    pub unset : (x : Name) (b : ℕ) → v.unset x b ↔ w.unset x b
+    pub through : (y z : Name) → v.through y z ↔ w.through y z
+    pub outside : (x : Name) → v.outside x ↔ w.outside x
+
+  shows_same : (s : Tables) (v w : Flow) → Same v w → Shows gs s v → Shows gs s w
+  shows_same s v w e h = record {
+    unset = λ i b x a lt. then (h.unset i b x a lt) (e.unset x b);
+    clear = h.clear;
+    through = λ i j y z a c. then (h.through i j y z a c) (e.through y z);
+    outside = λ i x a. then (h.outside i x a) (e.outside x);
+  }
+    where
+      then : {A B C : Type 0} → A ↔ B → B ↔ C → A ↔ C
+      then f g = (λ a. g.0 (f.0 a), λ c. f.1 (g.1 c))
+
+  -- nothing leads past the items
+  none_shows : (s : Tables) (P : Type 0) (v : Flow) → (P → ⊥) → IsNowhere (length gs) s → Shows gs s (only_if P v)
+  none_shows s P v never h = record {
+    unset = λ i b x a lt. (λ o. absurd (clear i b x a o), λ o. absurd (never o.0));
+    clear = λ i b x a o. absurd (clear i b x a o);
+    through = λ i j y z a c. (λ o. absurd (clash (sym (h.through i j (at_lt gs i y a) (at_lt gs j z c)) ∙ o)), λ o. absurd (never o.0));
+    outside = λ i x a. (λ o. absurd (clash (sym (h.outside i (at_lt gs i x a)) ∙ o)), λ o. absurd (never o.0));
+  }
+    where
+      clash : false ≡ true → ⊥
+      clash e = cc
+
+      clear : (i b : ℕ) (x : Name) → IsAt gs i x → HasBit s.unset i b → ⊥
+      clear i b x a o = none_set b (subst (λ m. bit_at m b ≡ 1) (h.unset i (at_lt gs i x a)) o)
+
+  turned : (u v w : Flow) → Same (either u (either v w)) (either (either w u) v)
+  turned u v w = record {
+    unset = λ x b. (there, back);
+    through = λ y z. (there, back);
+    outside = λ x. (there, back);
+  }
+    where
+      there : {A B C : Type 0} → A ⊎ (B ⊎ C) → (C ⊎ A) ⊎ B
+      there (inl a) = inl (inr a)
+      there (inr (inl b)) = inr b
+      there (inr (inr c)) = inl (inl c)
+
+      back : {A B C : Type 0} → (C ⊎ A) ⊎ B → A ⊎ (B ⊎ C)
+      back (inl (inl c)) = inr (inr c)
+      back (inl (inr a)) = inl a
+      back (inr b) = inr (inl b)
+
+  past_shows : (kind : CaseKind) (a : Expr) {c : _} (row : Row_of-CaseItem c) (s t : Tables) (v : Flow) → Shows gs s v → PastTo gs kind a row s t → Shows gs t (only_if (LeadsPast gs kind a row) v)
+  past_shows kind a row s t v h (inl (leads, e)) = subst (λ z. Shows gs z (only_if (LeadsPast gs kind a row) v)) (sym e) (shows_same s v (only_if (LeadsPast gs kind a row) v) under h)
+    where
+      under : Same v (only_if (LeadsPast gs kind a row) v)
+      under = record {
+        unset = λ x b. (λ o. (leads, o), λ o. o.1);
+        through = λ y z. (λ o. (leads, o), λ o. o.1);
+        outside = λ x. (λ o. (leads, o), λ o. o.1);
+      }
+  past_shows kind a row s t v h (inr (never, none)) = none_shows t (LeadsPast gs kind a row) v never none
+
   -- ---- statements
 
   assign_shows : (around : List Bool) (P : Name → Type 0) (left : Lval) (right : Expr) (s t : Tables) (v : Flow) → AreDeclared gs (right ∷ numbers_in left) → Marks gs around P → Shows gs s v
@@ -150,7 +213,10 @@ module _ (gs : List Signal) where
         let r = reads_show v f h (a ∷ []) e.read t e.marks e.reads in
         let q = within_marks v f h (a ∷ []) e.read around inner P d.0 e.marks m e.counts in
         join_shows u u' w _ _ (passes_show body inner _ t u _ d.1 q r b) (passes_show other inner _ t u' _ d.2 q r c) j
-    passes_show (s.Case' kind a g row) around P v w f d m h k = absurd k
+    passes_show (s.Case' kind a g row) around P v w f d m h (t, past, inner, e, o, k) =
+        let r = reads_show v f h (a ∷ labels_in row) e.read t e.marks e.reads in
+        let q = within_marks v f h (a ∷ labels_in row) e.read around inner P d.0 e.marks m e.counts in
+        items_show row inner _ t past w _ _ d.1 q r (past_shows kind a row t past _ r o) k
     passes_show (s.Blocking left right) around P v w f d m h k = assign_shows around P left right v w f d m h k
     passes_show (s.Nonblocking left right) around P v w f d m h k = assign_shows around P left right v w f d m h k
 
@@ -158,3 +224,19 @@ module _ (gs : List Signal) where
         → Shows gs t (row_flow p P row v)
     row_show end_of-Stmt around P v w f d m h k = subst (λ z. Shows gs z f) (sym k) h
     row_show (more_of-Stmt a rest) around P v w f d m h (u, b, c) = row_show rest around P u w _ d.1 m (passes_show a around P v u f d.0 m h b) c
+
+    -- the items, and what else was joined
+    items_show : {c : _} (row : Row_of-CaseItem c) (around : List Bool) (P : Name → Type 0) (s others t : Tables) (v w : Flow) → ItemsDeclared gs row → Marks gs around P → Shows gs s v → Shows gs others w
+        → ItemsPass gs around row s others t → Shows gs t (either (items_flow p P row v) w)
+    items_show end_of-CaseItem around P s others t v w d m h g k = subst (λ z. Shows gs z (either nowhere w)) (sym k) (shows_same others w (either nowhere w) alone g)
+      where
+        alone : Same w (either nowhere w)
+        alone = record {
+          unset = λ x b. (λ o. inr o, λ o. elim o [ inl f ↦ absurd f | inr f ↦ f ]);
+          through = λ y z. (λ o. inr o, λ o. elim o [ inl f ↦ absurd f | inr f ↦ f ]);
+          outside = λ x. (λ o. inr o, λ o. elim o [ inl f ↦ absurd f | inr f ↦ f ]);
+        }
+    items_show (more_of-CaseItem labels body rest) around P s others t v w d m h g (u, joined, b, j, k) =
+        let now = join_shows others u joined w (flow p P body v) g (passes_show body around P s u v d.0 m h b) j in
+        shows_same t (either (items_flow p P rest v) (either w (flow p P body v))) (either (either (flow p P body v) (items_flow p P rest v)) w) (turned (items_flow p P rest v) w (flow p P body v))
+        (items_show rest around P s joined t v (either w (flow p P body v)) d.1 m h now k)

@@ -1,18 +1,21 @@
 -- One pass through the text of a block, as it changes tables.
-use Rattle.std.specs.Prelude.{ℕ, ◌≡◌, ◌+◌, ◌*◌, ◌<◌, ◌⊎◌, ◌↔◌, ◌||◌, ◌&&◌, Bool, List, [], ◌∷◌, length, slice_index, bit_or}
+use Rattle.std.specs.Prelude.{ℕ, ◌≡◌, ◌+◌, ◌*◌, ◌<◌, ◌⊎◌, ◌↔◌, ◌||◌, ◌&&◌, Bool, false, List, [], ◌∷◌, length, slice_index, bit_or}
 use Rattle.std.specs.List.{flat_map}
 use Rattle.vlog_tree.specs.declared.expr.Expr.{Expr}
 use Rattle.vlog_tree.specs.declared.stmt.Lval.{Lval}
-use Rattle.vlog_tree.specs.declared.stmt.Stmt.{Stmt, Row_of-Stmt, end_of-Stmt, more_of-Stmt}
+use Rattle.vlog_tree.specs.declared.stmt.CaseItem.{CaseItem}
+use Rattle.vlog_tree.specs.declared.stmt.CaseKind.{CaseKind}
+use Rattle.vlog_tree.specs.declared.stmt.Stmt.{Stmt, Row_of-Stmt, end_of-Stmt, more_of-Stmt, Row_of-CaseItem, end_of-CaseItem, more_of-CaseItem}
 use Rattle.vlog_tree.specs.declared.stmt.Stmt.TheVariants as s
 use Rattle.vlog_runs.specs.declared.flat.Signal.{Signal}
 use Rattle.vlog_runs.specs.Places.{Name, Among}
-use Rattle.vlog_runs.specs.Blocks.{left_names}
+use Rattle.vlog_runs.specs.Blocks.{labels_in, left_names}
 use Rattle.flat_faults.specs.Texts.{names_in, numbers_in}
-use Rattle.elab_faults.specs.Paths.{Sets, width_in}
+use Rattle.elab_faults.specs.Paths.{Sets, IsFull, HasDefault, width_in}
 use Rattle.flow_laws.specs.Laws.{place_over}
 use Rattle.elab_flow.specs.Sets.{Tables, HasBit, at, is_open, Has, CountsIn}
 use Rattle.elab_flow.specs.Shows.{IsAt, Marks}
+use Rattle.elab_flow.specs.Cases.{labels_of, AnyDefault}
 
 -- the places of the names in expressions
 abbrev pub ReadsAt : List Signal → List Expr → List Bool → Type 0
@@ -56,6 +59,26 @@ pub record AssignTo (gs : List Signal) (around : List Bool) (left : Lval) (right
   pub enters : EnterTo gs around (right ∷ numbers_in left) s middle sources
   pub sets : SetTo gs left sources middle t
 
+-- no path
+pub record IsNowhere (n : ℕ) (s : Tables) : Type 0 where
+  pub unset : (i : ℕ) → i < n → slice_index s.unset i ≡ 0
+  pub through : (i j : ℕ) → i < n → j < n → at s.through (i * n + j) ≡ false
+  pub outside : (i : ℕ) → i < n → at s.outside i ≡ false
+
+-- before the first statement
+pub record IsStart (gs : List Signal) (s : Tables) : Type 0 where
+  pub unset : (i b : ℕ) (x : Name) → IsAt gs i x → HasBit s.unset i b ↔ (b < width_in (place_over gs) x)
+  pub through : (i j : ℕ) → i < length gs → j < length gs → at s.through (i * length gs + j) ≡ false
+  pub outside : (i : ℕ) → i < length gs → at s.outside i ≡ false
+
+-- a path leads past the items of a case statement
+abbrev pub LeadsPast : {m : _} → List Signal → CaseKind → Expr → Row_of-CaseItem m → Type 0
+LeadsPast gs kind a row = (HasDefault row → ⊥) × (IsFull (place_over gs) kind a (labels_in row) → ⊥)
+
+-- the tables where a path leads past them, and those of no path where none does
+abbrev pub PastTo : {m : _} → List Signal → CaseKind → Expr → Row_of-CaseItem m → Tables → Tables → Type 0
+PastTo gs kind a row s t = (LeadsPast gs kind a row × (t ≡ s)) ⊎ ((LeadsPast gs kind a row → ⊥) × IsNowhere (length gs) t)
+
 -- a statement leads from tables to tables
 abbrev mutual
   pub Passes : List Signal → List Bool → Stmt → Tables → Tables → Type 0
@@ -65,10 +88,34 @@ abbrev mutual
       (t u : Tables) × (inner : List Bool) × EnterTo gs around (a ∷ []) v t inner × Passes gs inner body t u × JoinTo (length gs) u t w
   Passes gs around (s.IfElse' a h (more_of-Stmt body end_of-Stmt) g (more_of-Stmt other end_of-Stmt)) v w =
       (t u u' : Tables) × (inner : List Bool) × EnterTo gs around (a ∷ []) v t inner × Passes gs inner body t u × Passes gs inner other t u' × JoinTo (length gs) u u' w
-  Passes gs around (s.Case' kind a h row) v w = ⊥
+  Passes gs around (s.Case' kind a h row) v w =
+      (t past : Tables) × (inner : List Bool) × EnterTo gs around (a ∷ labels_in row) v t inner × PastTo gs kind a row t past × ItemsPass gs inner row t past w
   Passes gs around (s.Blocking left right) v w = AssignTo gs around left right v w
   Passes gs around (s.Nonblocking left right) v w = AssignTo gs around left right v w
 
   pub RowPasses : {m : _} → List Signal → List Bool → Row_of-Stmt m → Tables → Tables → Type 0
   RowPasses gs around end_of-Stmt v w = w ≡ v
   RowPasses gs around (more_of-Stmt a rest) v w = (u : Tables) × Passes gs around a v u × RowPasses gs around rest u w
+
+  -- each item from the same tables, joined to what others made
+  pub ItemsPass : {m : _} → List Signal → List Bool → Row_of-CaseItem m → Tables → Tables → Tables → Type 0
+  ItemsPass gs around end_of-CaseItem v others w = w ≡ others
+  ItemsPass gs around (more_of-CaseItem labels body rest) v others w =
+      (u joined : Tables) × Passes gs around body v u × JoinTo (length gs) others u joined × ItemsPass gs around rest v joined w
+
+-- statements one after another, and the items of a list
+abbrev pub EachPasses : List Signal → List Bool → List Stmt → Tables → Tables → Type 0
+EachPasses gs around [] v w = w ≡ v
+EachPasses gs around (a ∷ rest) v w = (u : Tables) × Passes gs around a v u × EachPasses gs around rest u w
+
+abbrev pub EachItemPasses : List Signal → List Bool → List CaseItem → Tables → Tables → Tables → Type 0
+EachItemPasses gs around [] v others w = w ≡ others
+EachItemPasses gs around (i ∷ rest) v others w =
+    (u joined : Tables) × Passes gs around i.body v u × JoinTo (length gs) others u joined × EachItemPasses gs around rest v joined w
+
+-- a path leads past the items of a list
+abbrev pub LeadsPastEach : List Signal → CaseKind → Expr → List CaseItem → Type 0
+LeadsPastEach gs kind a items = (AnyDefault items → ⊥) × (IsFull (place_over gs) kind a (labels_of items) → ⊥)
+
+abbrev pub PastEachTo : List Signal → CaseKind → Expr → List CaseItem → Tables → Tables → Type 0
+PastEachTo gs kind a items s t = (LeadsPastEach gs kind a items × (t ≡ s)) ⊎ ((LeadsPastEach gs kind a items → ⊥) × IsNowhere (length gs) t)

@@ -2,10 +2,11 @@
 use Rattle.std.specs.Prelude.{ℕ, zero, suc, ◌≡◌, ◌+◌, ◌*◌, ◌<◌, ◌↔◌, Bool, List, [], ◌∷◌, length}
 use Rattle.std.specs.List.{flat_map}
 use Rattle.vlog_tree.specs.declared.expr.Expr.{Expr}
-use Rattle.vlog_tree.specs.declared.stmt.Stmt.{Stmt, Row_of-Stmt, end_of-Stmt, more_of-Stmt}
+use Rattle.vlog_tree.specs.declared.stmt.Stmt.{Stmt, Row_of-Stmt, end_of-Stmt, more_of-Stmt, Row_of-CaseItem, end_of-CaseItem, more_of-CaseItem}
 use Rattle.vlog_tree.specs.declared.stmt.Stmt.TheVariants as s
 use Rattle.vlog_runs.specs.declared.flat.Signal.{Signal}
 use Rattle.vlog_runs.specs.Places.{Name, Among}
+use Rattle.vlog_runs.specs.Blocks.{labels_in}
 use Rattle.flat_faults.specs.Texts.{names_in, numbers_in}
 use Rattle.elab_faults.specs.Paths.{width_in}
 use Rattle.flow_laws.specs.Flows.{Flow}
@@ -33,7 +34,7 @@ pub record Shows (gs : List Signal) (s : Tables) (w : Flow) : Type 0 where
 abbrev pub AreDeclared : List Signal → List Expr → Type 0
 AreDeclared gs as' = (x : Name) → Among (flat_map names_in as') x → (i : ℕ) × IsAt gs i x
 
--- each name in a statement without `case` is
+-- each name in a statement is
 abbrev mutual
   pub AreAllDeclared : List Signal → Stmt → Type 0
   AreAllDeclared gs s.Empty = Unit {0}
@@ -41,13 +42,17 @@ abbrev mutual
   AreAllDeclared gs (s.If' a h (more_of-Stmt body end_of-Stmt)) = AreDeclared gs (a ∷ []) × AreAllDeclared gs body
   AreAllDeclared gs (s.IfElse' a h (more_of-Stmt body end_of-Stmt) g (more_of-Stmt other end_of-Stmt)) =
       AreDeclared gs (a ∷ []) × AreAllDeclared gs body × AreAllDeclared gs other
-  AreAllDeclared gs (s.Case' kind a h row) = ⊥
+  AreAllDeclared gs (s.Case' kind a h row) = AreDeclared gs (a ∷ labels_in row) × ItemsDeclared gs row
   AreAllDeclared gs (s.Blocking left right) = AreDeclared gs (right ∷ numbers_in left)
   AreAllDeclared gs (s.Nonblocking left right) = AreDeclared gs (right ∷ numbers_in left)
 
   pub RowDeclared : {m : _} → List Signal → Row_of-Stmt m → Type 0
   RowDeclared gs end_of-Stmt = Unit {0}
   RowDeclared gs (more_of-Stmt a rest) = AreAllDeclared gs a × RowDeclared gs rest
+
+  pub ItemsDeclared : {m : _} → List Signal → Row_of-CaseItem m → Type 0
+  ItemsDeclared gs end_of-CaseItem = Unit {0}
+  ItemsDeclared gs (more_of-CaseItem labels body rest) = AreAllDeclared gs body × ItemsDeclared gs rest
 
 -- no two signals have the same name
 abbrev pub AreDistinct : List Signal → Type 0

@@ -4,6 +4,7 @@ use Rattle.std.specs.Int.{bit_at}
 use Rattle.vlog_tree.specs.declared.expr.Span.{Span}
 use Rattle.vlog_tree.specs.declared.stmt.Lval.{Lval}
 use Rattle.vlog_tree.specs.declared.stmt.Lval.TheVariants as l
+use Rattle.vlog_tree.specs.Valuation.{IsLength}
 use Rattle.vlog_tree.specs.Value.{natural, part_low, part_width}
 use Rattle.vlog_runs.specs.declared.flat.Signal.{Signal}
 use Rattle.vlog_runs.specs.Places.{Among}
@@ -25,6 +26,10 @@ span_word w low span None j = 0
 span_word w low span (Some i) None = 0
 span_word w low span (Some i) (Some j) = run_word w low (part_low span i j) (part_low span i j +ℤ pos (part_width span i j))
 
+-- a 1 for each bit of a signal
+abbrev pub all_ones : Signal → ℕ
+all_ones g = ones 0 g.width
+
 -- a 1 for each bit that a part surely sets
 abbrev pub set_word : ℕ → ℕ → Lval → ℕ
 set_word w low (l.Name x) = ones 0 w
@@ -34,6 +39,10 @@ set_word w low (l.Concat' h row) = 0
 
 abbrev pub AreNarrow : List Signal → Type 0
 AreNarrow gs = (g : Signal) → Among gs g → g.width ≤ 64
+
+-- each signal has from 1 to 64 bits
+abbrev pub AreWide : List Signal → Type 0
+AreWide gs = (g : Signal) → Among gs g → IsLength g.width
 
 -- g is the signal at place i
 abbrev pub IsSignalAt : List Signal → ℕ → Signal → Type 0

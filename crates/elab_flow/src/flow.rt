@@ -1,11 +1,15 @@
 // What the paths up to a place in a block do, by the places of signals.
 
-ghost use Rattle.std.specs.Prelude.{◌≡◌, ℕ, ◌+◌, ◌*◌, ◌<◌, ◌⊎◌, ◌↔◌, length, IfOk, OnOk};
+ghost use Rattle.std.specs.Prelude.{◌≡◌, ℕ, ◌+◌, ◌*◌, ◌<◌, ◌⊎◌, ◌↔◌, length, map, IfOk, OnOk};
 ghost use Rattle.elab_flow.specs.Sets.{Has, HasBit, tables, IsSized};
-ghost use Rattle.elab_flow.specs.Passes.{ReadsTo, CountTo, JoinTo};
+ghost use Rattle.elab_flow.specs.Passes.{ReadsTo, CountTo, JoinTo, IsNowhere, IsStart};
+ghost use Rattle.elab_flow.specs.Shows.{AreDistinct};
+ghost use Rattle.elab_flow.specs.Words.{AreNarrow, all_ones};
 
-use crate::sets::{add_bits, add_counts, add_open, add_row, add_to_rows, clear_bits};
+use crate::sets::{add_bits, add_counts, add_open, add_row, add_to_rows, clear_bits, none, square};
+use elab_drive::ones;
 use std::alloc::{AllocError, Global};
+use vlog_runs::Signal;
 
 /// What some path up to a place in a block does. Signals go by their places in a list of n signals.
 #[derive(Drop)]
@@ -18,7 +22,45 @@ pub struct BlockFlow {
     pub outside: Vec<bool>,
 }
 
+// For each signal a 1 for each of its bits.
+fn all_bits(alloc: Global, signals: &[Signal]) -> Result<Vec<u64>, AllocError>
+    requires { AreNarrow signals.now }
+    ensures { IfOk result (λ r. r.items ≡ map all_ones signals.now) }
+{
+    let mut words = Vec::new(alloc);
+    for signal in signals {
+        words.push(ones(0, signal.width))?;
+    }
+    Ok(words)
+}
+
 impl BlockFlow {
+    /// What is so before the first statement of a block. Refused only for want of memory.
+    pub fn start(alloc: Global, signals: &[Signal]) -> Result<BlockFlow, AllocError>
+        requires distinct { AreDistinct signals.now }
+        requires narrow { AreNarrow signals.now }
+        ensures start { IfOk result (λ r. IsStart signals.now (tables r)) }
+        ensures sized { IfOk result (λ r. IsSized (length signals.now) (tables r)) }
+    {
+        Ok(BlockFlow {
+            unset: all_bits(alloc, signals)?,
+            through: square(alloc, signals.len())?,
+            outside: none(alloc, signals.len())?,
+        })
+    }
+
+    /// What no path does, for so many signals. Refused only for want of memory.
+    pub fn nowhere(alloc: Global, count: usize) -> Result<BlockFlow, AllocError>
+        ensures none { IfOk result (λ r. IsNowhere count (tables r)) }
+        ensures sized { IfOk result (λ r. IsSized count (tables r)) }
+    {
+        Ok(BlockFlow {
+            unset: vec![in alloc; 0; count]?,
+            through: square(alloc, count)?,
+            outside: none(alloc, count)?,
+        })
+    }
+
     /// The same tables once more. Refused only for want of memory.
     pub fn copy(&self, alloc: Global) -> Result<BlockFlow, AllocError>
         ensures { IfOk result (λ r. tables r ≡ tables self.now) }

@@ -8,6 +8,7 @@ ghost use Rattle.flat_scopes.specs.Borrowed.{name_meant};
 ghost use Rattle.elab_drive.specs.Parts.{part_meant};
 ghost use Rattle.elab_drive.specs.Claims.{part_name};
 ghost use Rattle.elab_drive.specs.Spots.{signal_name};
+ghost use Rattle.elab_flow.specs.Cases.{expr_meant};
 ghost use Rattle.elab_flow.specs.Marks.{Adds};
 
 use elab_drive::{Part, parts_of, reads_of};
@@ -54,6 +55,16 @@ fn mark_parts(set: &mut [bool], names: &Names<'_>, parts: &[Part<'_>])
 {
     for part in parts {
         mark(set, names, name_of(*part));
+    }
+}
+
+/// Adds the places of names.
+pub fn mark_names(set: &mut [bool], names: &Names<'_>, list: &[&Text])
+    requires { length set.old ≡ length names.now }
+    ensures { Adds names.now (map name_meant list.now) set.old set.new }
+{
+    for name in list {
+        mark(set, names, name);
     }
 }
 
@@ -136,4 +147,35 @@ pub fn mark_assignment(
 {
     mark_reads(set, alloc, names, right)?;
     mark_numbers(set, alloc, names, left)
+}
+
+/// Adds the places of the names in a case expression and in labels. Refused only for want of memory.
+pub fn mark_compared(
+    set: &mut [bool],
+    alloc: Global,
+    names: &Names<'_>,
+    subject: &Expr,
+    labels: &[&Expr],
+) -> Result<(), AllocError>
+    requires { length set.old ≡ length names.now }
+    ensures { OnOk result (Adds names.now (flat_map names_in (subject.now ∷ map expr_meant labels.now)) set.old set.new) }
+{
+    mark_reads(set, alloc, names, subject)?;
+    mark_all(set, alloc, names, labels)
+}
+
+// Adds the places of the names in expressions.
+fn mark_all(
+    set: &mut [bool],
+    alloc: Global,
+    names: &Names<'_>,
+    exprs: &[&Expr],
+) -> Result<(), AllocError>
+    requires { length set.old ≡ length names.now }
+    ensures { OnOk result (Adds names.now (flat_map names_in (map expr_meant exprs.now)) set.old set.new) }
+{
+    for expr in exprs {
+        mark_reads(set, alloc, names, expr)?;
+    }
+    Ok(())
 }

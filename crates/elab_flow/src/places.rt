@@ -1,25 +1,20 @@
 // Sets of the places of names.
 
-ghost use Rattle.std.specs.Prelude.{◌≡◌, [], ◌∷◌, map, length, replicate, false, IfOk};
+ghost use Rattle.std.specs.Prelude.{◌≡◌, [], ◌∷◌, map, length, IfOk};
 ghost use Rattle.vlog_runs.specs.Places.{Among};
 ghost use Rattle.vlog_runs.specs.Blocks.{left_names};
 ghost use Rattle.flat_faults.specs.Texts.{numbers_in};
 ghost use Rattle.elab_drive.specs.Spots.{signal_name};
+ghost use Rattle.elab_flow.specs.Cases.{expr_meant};
 ghost use Rattle.elab_flow.specs.Passes.{ReadsAt};
 ghost use Rattle.elab_flow.specs.Shows.{Marks, AreDistinct};
 
-use crate::marks::{mark_assignment, mark_left, mark_reads};
+use crate::marks::{mark_assignment, mark_compared, mark_left, mark_reads};
+use crate::sets::none;
 use flat_scopes::Names;
 use std::alloc::{AllocError, Global};
 use vlog_runs::Signal;
 use vlog_tree::{Expr, Lval};
-
-fn no_places(alloc: Global, count: usize) -> Result<Vec<bool>, AllocError>
-    ensures size { IfOk result (λ r. length r.items ≡ count) }
-    ensures items { IfOk result (λ r. r.items ≡ replicate count false) }
-{
-    vec![in alloc; false; count]
-}
 
 /// The places of the names that a left side assigns. Refused only for want of memory.
 pub fn places_left(
@@ -33,7 +28,7 @@ pub fn places_left(
     ensures size { IfOk result (λ r. length r.items ≡ length signals.now) }
     ensures marks { IfOk result (λ r. Marks signals.now r.items (λ x. Among (left_names left.now) x)) }
 {
-    let mut set = no_places(alloc, signals.len())?;
+    let mut set = none(alloc, signals.len())?;
     mark_left(&mut set, alloc, names, left)?;
     Ok(set)
 }
@@ -51,7 +46,7 @@ pub fn places_read(
     ensures size { IfOk result (λ r. length r.items ≡ length signals.now) }
     ensures marks { IfOk result (λ r. ReadsAt signals.now (right.now ∷ numbers_in left.now) r.items) }
 {
-    let mut set = no_places(alloc, signals.len())?;
+    let mut set = none(alloc, signals.len())?;
     mark_assignment(&mut set, alloc, names, left, right)?;
     Ok(set)
 }
@@ -68,7 +63,25 @@ pub fn places_tested(
     ensures size { IfOk result (λ r. length r.items ≡ length signals.now) }
     ensures marks { IfOk result (λ r. ReadsAt signals.now (expr.now ∷ []) r.items) }
 {
-    let mut set = no_places(alloc, signals.len())?;
+    let mut set = none(alloc, signals.len())?;
     mark_reads(&mut set, alloc, names, expr)?;
+    Ok(set)
+}
+
+/// The places of the names in a case expression and in labels. Refused only for want of memory.
+pub fn places_compared(
+    alloc: Global,
+    signals: &[Signal],
+    names: &Names<'_>,
+    subject: &Expr,
+    labels: &[&Expr],
+) -> Result<Vec<bool>, AllocError>
+    requires names { names.now ≡ map signal_name signals.now }
+    requires distinct { AreDistinct signals.now }
+    ensures size { IfOk result (λ r. length r.items ≡ length signals.now) }
+    ensures marks { IfOk result (λ r. ReadsAt signals.now (subject.now ∷ map expr_meant labels.now) r.items) }
+{
+    let mut set = none(alloc, signals.len())?;
+    mark_compared(&mut set, alloc, names, subject, labels)?;
     Ok(set)
 }

@@ -1,10 +1,30 @@
 // Sets of places, as tables of truth values, and tables of bits.
 
-ghost use Rattle.std.specs.Prelude.{◌≡◌, ℕ, ◌+◌, ◌*◌, ◌<◌, ◌≤◌, ◌||◌, ◌&&◌, ◌⊎◌, ◌↔◌, length, bit_or, slice_index, IfOk};
+ghost use Rattle.std.specs.Prelude.{◌≡◌, ℕ, ◌+◌, ◌*◌, ◌<◌, ◌≤◌, ◌||◌, ◌&&◌, ◌⊎◌, ◌↔◌, length, bit_or, slice_index, replicate, false, IfOk};
 ghost use Rattle.std.specs.Int.{bit_at};
 ghost use Rattle.elab_flow.specs.Sets.{at, is_open, HasBit, Has, RowsHave, CountsIn};
 
 use std::alloc::{AllocError, Global};
+
+/// A set of so many places that has none. Refused only for want of memory.
+pub fn none(alloc: Global, count: usize) -> Result<Vec<bool>, AllocError>
+    ensures size { IfOk result (λ r. length r.items ≡ count) }
+    ensures items { IfOk result (λ r. r.items ≡ replicate count false) }
+{
+    vec![in alloc; false; count]
+}
+
+/// A table of so many rows of so many truth values, none of them true. Refused only for want of memory.
+pub fn square(alloc: Global, count: usize) -> Result<Vec<bool>, AllocError>
+    ensures { IfOk result (λ r. r.items ≡ replicate (count * count) false) }
+{
+    let row = none(alloc, count)?;
+    let mut all = Vec::new(alloc);
+    for _ in 0..count {
+        all.extend_from_slice(&row)?;
+    }
+    Ok(all)
+}
 
 /// Adds what a row of a table has, which begins at a place.
 pub fn add_row(set: &mut [bool], table: &[bool], from: usize)

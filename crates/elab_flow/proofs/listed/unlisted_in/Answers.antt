@@ -1,0 +1,22 @@
+use Rattle.std.proofs.Common.{sym, ◌∙◌}
+use Rattle.elab_flow.specs.Asked.{OfSignal, BlockReadsUnlisted}
+use Rattle.elab_flow.proofs.Finding.{AnyBlock, some_is, none_is, place_within, found_there, none_there, reads_unlisted, unlisted_read}
+use Rattle.elab_flow.proofs.listed.unlisted_in.Goals as goal
+
+pub name_at-requires : goal.name_at-requires
+name_at-requires c =
+    let gs = c.in_ok-scope.scope in
+    place_within c.args.flat.now gs c.as_slice.result.now (c.in_ok-scope.ensures ∙ c.as_slice-list.ensures) c.as_slice.ensures (AnyBlock gs (BlockReadsUnlisted gs) c.as_slice.result.now) c.as_slice-list.result.now c.in-Some.place (sym c.in_ok-scope.ensures)
+    (some_is _ c.in-Some.place (λ i. OfSignal gs i (AnyBlock gs (BlockReadsUnlisted gs) c.as_slice.result.now)) c.in-Some.is c.in_ok-place.ensures.some)
+
+pub returns-in-Some-clause-some : goal.returns-in-Some-clause-some
+returns-in-Some-clause-some c =
+    let gs = c.in_ok-scope.scope in
+    reads_unlisted c.args.flat.now c.in_ok-name-in-Some.name
+    (found_there c.args.flat.now gs c.as_slice.result.now (c.in_ok-scope.ensures ∙ c.as_slice-list.ensures) c.as_slice.ensures BlockReadsUnlisted c.as_slice-list.result.now c.in-Some.place c.in_ok-name-in-Some.name (sym c.in_ok-scope.ensures)
+    (some_is _ c.in-Some.place (λ i. OfSignal gs i (AnyBlock gs (BlockReadsUnlisted gs) c.as_slice.result.now)) c.in-Some.is c.in_ok-place.ensures.some) c.in_ok-name-in-Some.ensures)
+
+pub returns-clause-none : goal.returns-clause-none
+returns-clause-none c = λ x h.
+    let gs = c.in_ok-scope.scope in
+    none_there c.args.flat.now gs c.as_slice.result.now (c.in_ok-scope.ensures ∙ c.as_slice-list.ensures) c.as_slice.ensures BlockReadsUnlisted (none_is _ _ c.in-None.is c.in_ok-place.ensures.none) x (unlisted_read c.args.flat.now x h)

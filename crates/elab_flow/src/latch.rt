@@ -1,0 +1,106 @@
+// Bits that a combinational block drives and that some path through it doesn't set (IEEE 1364-2005, sections 9.4 and 9.5).
+
+ghost use Rattle.std.specs.Prelude.{◌≡◌, ◌<◌, false, length, IfOk, IfSome, IfNone};
+ghost use Rattle.vlog_runs.specs.Places.{Name};
+ghost use Rattle.flow_laws.specs.Laws.{place_over};
+ghost use Rattle.elab_faults.specs.declared.fault.ElabFault.TheVariants as f;
+ghost use Rattle.elab_faults.specs.Stands.{Stands};
+ghost use Rattle.elab_flow.specs.Asked.{AreVectors, IsPassable, ArePassable, CanPass, Misses, BlockMisses, AnyMisses, OfSignal};
+ghost use Rattle.elab_flow.specs.Shows.{IsAt};
+
+use crate::block::flow_of;
+use crate::scope::Scope;
+use elab_drive::{Declared, Driver, clash, driver_claims};
+use outside::Text;
+use std::alloc::{AllocError, Global};
+use vlog_runs::{Always, Flat, Signal};
+use vlog_tree::Stmt;
+
+// The place of a signal of which a statement drives a bit that some path through it doesn't set.
+fn missed_in(
+    alloc: Global,
+    scope: &Scope<'_>,
+    signals: &Declared<'_>,
+    body: &Stmt,
+) -> Result<Option<usize>, AllocError>
+    requires same { signals.now ≡ scope.now }
+    requires vectors { AreVectors scope.now }
+    requires body { IsPassable scope.now body.now }
+    ensures some { IfOk result (λ o. IfSome o (λ i. OfSignal scope.now i (Misses (place_over scope.now) body.now))) }
+    ensures none { IfOk result (λ o. IfNone o ((x : Name) → Misses (place_over scope.now) body.now x → ⊥)) }
+{
+    let flow = flow_of(alloc, scope, body)?;
+    let claims = driver_claims(alloc, Driver::Block(body), signals)?;
+    match clash(&flow.unset, &claims) {
+        Some(bit) => Ok(Some(bit.place)),
+        None => Ok(None),
+    }
+}
+
+// The same for a block; none if it waits for edges.
+fn missed_by(
+    alloc: Global,
+    scope: &Scope<'_>,
+    signals: &Declared<'_>,
+    block: &Always,
+) -> Result<Option<usize>, AllocError>
+    requires same { signals.now ≡ scope.now }
+    requires vectors { AreVectors scope.now }
+    requires body { block.now.clocked ≡ false → IsPassable scope.now block.now.body }
+    ensures some { IfOk result (λ o. IfSome o (λ i. OfSignal scope.now i (BlockMisses scope.now block.now))) }
+    ensures none { IfOk result (λ o. IfNone o ((x : Name) → BlockMisses scope.now block.now x → ⊥)) }
+{
+    if block.clocked {
+        return Ok(None);
+    }
+    let place = missed_in(alloc, scope, signals, &block.body)?;
+    Ok(place)
+}
+
+// The same for the first of some blocks that has one.
+fn missed_of(
+    alloc: Global,
+    scope: &Scope<'_>,
+    signals: &Declared<'_>,
+    blocks: &[Always],
+) -> Result<Option<usize>, AllocError>
+    requires same { signals.now ≡ scope.now }
+    requires vectors { AreVectors scope.now }
+    requires blocks { ArePassable scope.now blocks.now }
+    ensures some { IfOk result (λ o. IfSome o (λ i. OfSignal scope.now i (AnyMisses scope.now blocks.now))) }
+    ensures none { IfOk result (λ o. IfNone o ((x : Name) → AnyMisses scope.now blocks.now x → ⊥)) }
+{
+    for block in blocks {
+        if let Some(place) = missed_by(alloc, scope, signals, block)? {
+            return Ok(Some(place));
+        }
+    }
+    Ok(None)
+}
+
+/// The name of the signal at a place. Refused only for want of memory.
+pub fn name_at(alloc: Global, signals: &[Signal], place: usize) -> Result<Text, AllocError>
+    requires { place < length signals.now }
+    ensures { IfOk result (λ r. IsAt signals.now place r) }
+{
+    let name = Text::copy(alloc, signals[place].name.bytes())?;
+    Ok(name)
+}
+
+/// A signal of which a combinational block drives a bit that some path through it doesn't set. Refused only for want of memory.
+pub fn latch_of(alloc: Global, flat: &Flat) -> Result<Option<Text>, AllocError>
+    requires { CanPass flat.now }
+    ensures some { IfOk result (λ o. IfSome o (λ x. Stands flat.now (f.Latch x))) }
+    ensures none { IfOk result (λ o. IfNone o ((x : Name) → Stands flat.now (f.Latch x) → ⊥)) }
+{
+    let list = flat.signals.as_slice();
+    let scope = Scope::of(alloc, list)?;
+    let signals = Declared::of(alloc, list)?;
+    match missed_of(alloc, &scope, &signals, flat.blocks.as_slice())? {
+        Some(place) => {
+            let name = name_at(alloc, list, place)?;
+            Ok(Some(name))
+        }
+        None => Ok(None),
+    }
+}

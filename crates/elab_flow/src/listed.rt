@@ -1,0 +1,123 @@
+// Names that a block reads and its list leaves out (IEEE 1364-2005, section 9.7.5).
+
+ghost use Rattle.std.specs.Prelude.{◌≡◌, ◌<◌, ℕ, true, false, map, length, IfOk, IfSome, IfNone, Some};
+ghost use Rattle.vlog_runs.specs.Places.{Name, Among};
+ghost use Rattle.vlog_runs.specs.Contents.{is_among};
+ghost use Rattle.flat_scopes.specs.Borrowed.{name_meant};
+ghost use Rattle.flow_laws.specs.Laws.{place_over};
+ghost use Rattle.elab_faults.specs.declared.fault.ElabFault.TheVariants as f;
+ghost use Rattle.elab_faults.specs.Stands.{Stands};
+ghost use Rattle.elab_flow.specs.Asked.{AreVectors, IsPassable, ArePassable, CanPass, ReadsBesides, BlockReadsUnlisted, AnyReadsUnlisted, OfSignal};
+ghost use Rattle.elab_flow.specs.Sets.{Has};
+ghost use Rattle.elab_flow.specs.Shows.{IsAt};
+
+use crate::block::flow_of;
+use crate::latch::name_at;
+use crate::scope::Scope;
+use flat_scopes::Names;
+use outside::Text;
+use std::alloc::{AllocError, Global};
+use vlog_runs::{Always, Flat, Signal};
+use vlog_tree::Stmt;
+
+fn borrowed(alloc: Global, texts: &[Text]) -> Result<Vec<&Text>, AllocError>
+    ensures { IfOk result (λ r. map name_meant r.items ≡ texts.now) }
+{
+    let mut all = Vec::new(alloc);
+    for text in texts {
+        all.push(text)?;
+    }
+    Ok(all)
+}
+
+// The first place of a set whose signal isn't listed.
+fn absent(set: &[bool], signals: &[Signal], listed: &Names<'_>) -> Option<usize>
+    requires { length set.now ≡ length signals.now }
+    ensures some { IfSome result (λ i. OfSignal signals.now i (λ x. Has set.now i × (is_among listed.now x ≡ false))) }
+    ensures none { IfNone result ((i : ℕ) (x : Name) → IsAt signals.now i x → Has set.now i → is_among listed.now x ≡ true) }
+{
+    for i in 0..signals.len() {
+        if set[i] && !listed.has(signals[i].name.bytes()) {
+            return Some(i);
+        }
+    }
+    None
+}
+
+// The place of a signal that a statement reads where it hasn't set all of it, and that isn't listed.
+fn unlisted_by(
+    alloc: Global,
+    scope: &Scope<'_>,
+    body: &Stmt,
+    listed: &[Text],
+) -> Result<Option<usize>, AllocError>
+    requires signals { AreVectors scope.now }
+    requires body { IsPassable scope.now body.now }
+    ensures some { IfOk result (λ o. IfSome o (λ i. OfSignal scope.now i (ReadsBesides (place_over scope.now) body.now listed.now))) }
+    ensures none { IfOk result (λ o. IfNone o ((x : Name) → ReadsBesides (place_over scope.now) body.now listed.now x → ⊥)) }
+{
+    let flow = flow_of(alloc, scope, body)?;
+    let names = Names::of(alloc, borrowed(alloc, listed)?)?;
+    let place = absent(&flow.outside, scope.list(), &names);
+    Ok(place)
+}
+
+// The same for a block; none if it waits for edges or has no list.
+fn unlisted_at(
+    alloc: Global,
+    scope: &Scope<'_>,
+    block: &Always,
+) -> Result<Option<usize>, AllocError>
+    requires signals { AreVectors scope.now }
+    requires body { block.now.clocked ≡ false → IsPassable scope.now block.now.body }
+    ensures some { IfOk result (λ o. IfSome o (λ i. OfSignal scope.now i (BlockReadsUnlisted scope.now block.now))) }
+    ensures none { IfOk result (λ o. IfNone o ((x : Name) → BlockReadsUnlisted scope.now block.now x → ⊥)) }
+{
+    if block.clocked {
+        return Ok(None);
+    }
+    match &block.names {
+        Some(listed) => {
+            let place = unlisted_by(alloc, scope, &block.body, listed.as_slice())?;
+            Ok(place)
+        }
+        None => Ok(None),
+    }
+}
+
+// The same for the first of some blocks that has one.
+fn unlisted_of(
+    alloc: Global,
+    scope: &Scope<'_>,
+    blocks: &[Always],
+) -> Result<Option<usize>, AllocError>
+    requires signals { AreVectors scope.now }
+    requires blocks { ArePassable scope.now blocks.now }
+    ensures some { IfOk result (λ o. IfSome o (λ i. OfSignal scope.now i (AnyReadsUnlisted scope.now blocks.now))) }
+    ensures none { IfOk result (λ o. IfNone o ((x : Name) → AnyReadsUnlisted scope.now blocks.now x → ⊥)) }
+{
+    for block in blocks {
+        if let Some(place) = unlisted_at(alloc, scope, block)? {
+            return Ok(Some(place));
+        }
+    }
+    Ok(None)
+}
+
+/// A signal that a combinational block with a list of names reads on some path where it hasn't set all of it, though the list leaves it
+/// out. Refused only for want of memory.
+pub fn unlisted_in(alloc: Global, flat: &Flat) -> Result<Option<Text>, AllocError>
+    requires { CanPass flat.now }
+    ensures some { IfOk result (λ o. IfSome o (λ x. Stands flat.now (f.Sensitivity x))) }
+    ensures none { IfOk result (λ o. IfNone o ((x : Name) → Stands flat.now (f.Sensitivity x) → ⊥)) }
+{
+    let list = flat.signals.as_slice();
+    let scope = Scope::of(alloc, list)?;
+    match unlisted_of(alloc, &scope, flat.blocks.as_slice())? {
+        Some(place) => {
+            let name = name_at(alloc, list, place)?;
+            Ok(Some(name))
+        }
+        None => Ok(None),
+    }
+}
