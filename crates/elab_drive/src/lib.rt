@@ -21,3 +21,4 @@ pub use masks::{Bit, clash};
 pub use names::{Form, block_names};
 pub use parts::{Part, name_of, parts_of, reads_of};
 pub use pieces::{Piece, pieces_of};
+pub use wanted::add_store_reads;

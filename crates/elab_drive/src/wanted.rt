@@ -41,7 +41,8 @@ fn add_left_reads<'a>(
     Ok(())
 }
 
-fn add_store_reads<'a>(
+/// Adds what an assignment reads: the numbers of its left side, and its right side. Refused only for want of memory.
+pub fn add_store_reads<'a>(
     all: &mut Vec<Part<'a>>,
     alloc: Global,
     left: &'a Lval,

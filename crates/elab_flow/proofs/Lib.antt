@@ -11,3 +11,5 @@ pub mod Resting
 pub mod Blocks
 pub mod Starting
 pub mod Finding
+pub mod Edging
+pub mod Depending

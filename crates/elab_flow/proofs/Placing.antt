@@ -76,7 +76,7 @@ module _ (gs : List Signal) where
   abbrev p : Place
   p = place_over gs
 
-  place_name : (x : Name) (i : ℕ) → place_in (map signal_name gs) x ≡ Some i → IsAt gs i x
+  pub place_name : (x : Name) (i : ℕ) → place_in (map signal_name gs) x ≡ Some i → IsAt gs i x
   place_name x i e = let r = place_at 0 gs x i e in let s : i ≡ 0 + r.0 = r.1 in subst (λ k. IsAt gs k x) (back i r.0 s) r.2
     where
       back : (i j : ℕ) → i ≡ 0 + j → j ≡ i
@@ -86,7 +86,7 @@ module _ (gs : List Signal) where
   shape_of x i g e a = first_signal 0 gs x i i g e (omega arith) a
 
   module _ (d : AreDistinct gs) where
-    place_of_name : (x : Name) (i : ℕ) → IsAt gs i x → place_in (map signal_name gs) x ≡ Some i
+    pub place_of_name : (x : Name) (i : ℕ) → IsAt gs i x → place_in (map signal_name gs) x ≡ Some i
     place_of_name x i a = let r = place_there 0 gs x i a in subst (λ k. place_in (map signal_name gs) x ≡ Some k) (d r.0 i x (place_name x r.0 r.1) a) r.1
 
     -- the places of names that are added to none are those of the names

@@ -24,7 +24,7 @@ at_lt [] i x h = absurd h
 at_lt (g ∷ gs) zero x h = omega arith
 at_lt (g ∷ gs) (suc i) x h = let r = at_lt gs i x h in omega arith
 
-named_at : (gs : List Signal) (i : ℕ) → i < length gs → (x : Name) × IsAt gs i x
+pub named_at : (gs : List Signal) (i : ℕ) → i < length gs → (x : Name) × IsAt gs i x
 named_at [] i h = absurd (omega arith)
 named_at (g ∷ gs) zero h = (g.name, refl)
 named_at (g ∷ gs) (suc i) h = named_at gs i (omega arith)

@@ -6,3 +6,4 @@ pub mod Ready
 pub mod Marks
 pub mod Words
 pub mod Asked
+pub mod Edges

@@ -3,7 +3,9 @@
 
 mod block;
 mod cases;
+mod edges;
 mod flow;
+mod graph;
 mod latch;
 mod listed;
 mod marks;
@@ -15,6 +17,7 @@ mod words;
 
 pub use block::flow_of;
 pub use flow::BlockFlow;
+pub use graph::dependences;
 pub use latch::latch_of;
 pub use listed::unlisted_in;
 pub use scope::Scope;

@@ -58,6 +58,16 @@ fn mark_parts(set: &mut [bool], names: &Names<'_>, parts: &[Part<'_>])
     }
 }
 
+/// Adds the places of names.
+pub fn mark_names(set: &mut [bool], names: &Names<'_>, list: &[&Text])
+    requires { length set.old ≡ length names.now }
+    ensures { Adds names.now (map name_meant list.now) set.old set.new }
+{
+    for name in list {
+        mark(set, names, name);
+    }
+}
+
 /// Adds the places of the names in an expression. Refused only for want of memory.
 pub fn mark_reads(
     set: &mut [bool],

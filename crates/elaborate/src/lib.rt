@@ -2,4 +2,9 @@
 #![tactic(auto)]
 
 mod design;
+mod flags;
+mod ordered;
 mod parts;
+mod places;
+
+pub use ordered::design_in_order;

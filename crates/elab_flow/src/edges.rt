@@ -1,0 +1,167 @@
+// Dependences of signals as edges of a graph of their places (IEEE 1364-2005, sections 6.1 and 9.4).
+
+ghost use Rattle.std.specs.Prelude.{◌≡◌, ◌++◌, ◌+◌, ◌*◌, ◌<◌, ◌⊎◌, ◌↔◌, ℕ, false, map, length, IfOk, OnOk};
+ghost use Rattle.std.specs.List.{flat_map};
+ghost use Rattle.std.specs.Option.{option_to_list};
+ghost use Rattle.vlog_runs.specs.Places.{Among};
+ghost use Rattle.flat_scopes.specs.Finding.{place_in};
+ghost use Rattle.elab_drive.specs.Parts.{part_meant};
+ghost use Rattle.elab_drive.specs.Claims.{part_name};
+ghost use Rattle.elab_flow.specs.Asked.{AreVectors, IsPassable, ArePassable};
+ghost use Rattle.elab_flow.specs.Edges.{edge, part_place, part_places, pairs, assign_edges, IsCell, IsCellBelow, IsBlockEdge, AnyBlockEdge};
+ghost use Rattle.elab_flow.specs.declared.edges.Edge.{Edge as Arrow};
+ghost use Rattle.elab_flow.specs.Sets.{tables, IsSized};
+
+use crate::block::flow_of;
+use crate::scope::Scope;
+use elab_drive::{Part, add_store_reads, name_of, parts_of};
+use flat_scopes::Names;
+use std::alloc::{AllocError, Global};
+use vlog_runs::Always;
+use vlog_tree::Assign;
+
+/// That one place depends on another.
+#[derive(Clone, Copy)]
+pub struct Edge {
+    pub from: usize,
+    pub to: usize,
+}
+
+// ---- continuous assignments
+
+fn add_place(all: &mut Vec<usize>, names: &Names<'_>, part: Part<'_>) -> Result<(), AllocError>
+    ensures { OnOk result (all.new.items ≡ all.old.items ++ part_place names.now (part_meant part.entry)) }
+{
+    if let Some(place) = names.place(name_of(part).bytes()) {
+        all.push(place)?;
+    }
+    Ok(())
+}
+
+fn places_of(
+    alloc: Global,
+    names: &Names<'_>,
+    parts: &[Part<'_>],
+) -> Result<Vec<usize>, AllocError>
+    ensures { IfOk result (λ r. r.items ≡ part_places names.now (map part_meant parts.now)) }
+{
+    let mut all = Vec::new(alloc);
+    for part in parts {
+        add_place(&mut all, names, *part)?;
+    }
+    Ok(all)
+}
+
+fn add_edges(all: &mut Vec<Edge>, from: usize, to: &[usize]) -> Result<(), AllocError>
+    ensures { OnOk result (all.new.items ≡ all.old.items ++ map (edge from) to.now) }
+{
+    for place in to {
+        all.push(Edge { from, to: *place })?;
+    }
+    Ok(())
+}
+
+fn add_pairs(all: &mut Vec<Edge>, from: &[usize], to: &[usize]) -> Result<(), AllocError>
+    ensures { OnOk result (all.new.items ≡ all.old.items ++ pairs from.now to.now) }
+{
+    for place in from {
+        add_edges(all, *place, to)?;
+    }
+    Ok(())
+}
+
+fn add_assign_edges(
+    all: &mut Vec<Edge>,
+    alloc: Global,
+    names: &Names<'_>,
+    assign: &Assign,
+) -> Result<(), AllocError>
+    ensures { OnOk result (all.new.items ≡ all.old.items ++ assign_edges names.now assign.now) }
+{
+    let lefts = parts_of(alloc, &assign.left)?;
+    let mut reads = Vec::new(alloc);
+    add_store_reads(&mut reads, alloc, &assign.left, &assign.right)?;
+    let from = places_of(alloc, names, &lefts)?;
+    let to = places_of(alloc, names, &reads)?;
+    add_pairs(all, &from, &to)?;
+    Ok(())
+}
+
+/// From what continuous assignments assign to what they read. It takes time linear in their size. Refused only for want of memory.
+pub fn assigns_edges(
+    alloc: Global,
+    names: &Names<'_>,
+    assigns: &[Assign],
+) -> Result<Vec<Edge>, AllocError>
+    ensures { IfOk result (λ r. r.items ≡ flat_map (assign_edges names.now) assigns.now) }
+{
+    let mut all = Vec::new(alloc);
+    for assign in assigns {
+        add_assign_edges(&mut all, alloc, names, assign)?;
+    }
+    Ok(all)
+}
+
+// ---- combinational blocks
+
+fn add_row_cells(
+    all: &mut Vec<Edge>,
+    from: usize,
+    count: usize,
+    table: &[bool],
+) -> Result<(), AllocError>
+    requires row { from < count }
+    requires table { length table.now ≡ count * count }
+    ensures { OnOk result ((e : Arrow) → Among all.new.items e ↔ (Among all.old.items e ⊎ IsCell count from table.now e)) }
+{
+    for to in 0..count {
+        if table[from * count + to] {
+            all.push(Edge { from, to })?;
+        }
+    }
+    Ok(())
+}
+
+fn add_cells(all: &mut Vec<Edge>, count: usize, table: &[bool]) -> Result<(), AllocError>
+    requires { length table.now ≡ count * count }
+    ensures { OnOk result ((e : Arrow) → Among all.new.items e ↔ (Among all.old.items e ⊎ IsCellBelow count count table.now e)) }
+{
+    for from in 0..count {
+        add_row_cells(all, from, count, table)?;
+    }
+    Ok(())
+}
+
+fn add_block_edges(
+    all: &mut Vec<Edge>,
+    alloc: Global,
+    scope: &Scope<'_>,
+    block: &Always,
+) -> Result<(), AllocError>
+    requires signals { AreVectors scope.now }
+    requires body { block.now.clocked ≡ false → IsPassable scope.now block.now.body }
+    ensures { OnOk result ((e : Arrow) → Among all.new.items e ↔ (Among all.old.items e ⊎ IsBlockEdge scope.now block.now e)) }
+{
+    if !block.clocked {
+        let flow = flow_of(alloc, scope, &block.body)?;
+        add_cells(all, scope.list().len(), &flow.through)?;
+    }
+    Ok(())
+}
+
+/// Adds from what combinational blocks assign to what the assignments depend on. Refused only for want of memory.
+pub fn add_blocks_edges(
+    all: &mut Vec<Edge>,
+    alloc: Global,
+    scope: &Scope<'_>,
+    blocks: &[Always],
+) -> Result<(), AllocError>
+    requires signals { AreVectors scope.now }
+    requires blocks { ArePassable scope.now blocks.now }
+    ensures { OnOk result ((e : Arrow) → Among all.new.items e ↔ (Among all.old.items e ⊎ AnyBlockEdge scope.now blocks.now e)) }
+{
+    for block in blocks {
+        add_block_edges(all, alloc, scope, block)?;
+    }
+    Ok(())
+}
