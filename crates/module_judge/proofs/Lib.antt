@@ -7,3 +7,5 @@ mod Readying
 mod Tests
 mod Deciding
 mod Laws
+mod Fitting
+mod Running
