@@ -1,6 +1,7 @@
 pub mod Flagging
 pub mod Lists
 pub mod Making
+pub mod Ordering
 pub mod Placing
 pub mod Standing
 pub mod Tracks

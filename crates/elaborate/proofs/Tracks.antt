@@ -44,7 +44,7 @@ nets_flagged xs [] = tt
 nets_flagged xs (g ∷ gs) = (refl, nets_flagged xs gs)
 
 module _ (f : Flat) (plain : ArePlain f.signals) where
-  clocked_register : (g : Signal) → Among f.signals g → Among (clocked_names f) g.name → IsRegister f g.name
+  pub clocked_register : (g : Signal) → Among f.signals g → Among (clocked_names f) g.name → IsRegister f g.name
   clocked_register g m h =
       let k = among_flat edge_names f.blocks g.name h in
       ⊎_elim
@@ -54,7 +54,7 @@ module _ (f : Flat) (plain : ArePlain f.signals) where
       (λ (e : k.0.clocked ≡ false). let n : Among [] g.name = subst (λ (b : Bool). Among (if b then flat_map left_names (lefts k.0.body) else []) g.name) e k.2 in absurd n)
       (bool_cases k.0.clocked)
 
-  register_clocked : (x : Name) → IsRegister f x → Among (clocked_names f) x
+  pub register_clocked : (x : Name) → IsRegister f x → Among (clocked_names f) x
   register_clocked x h =
       let k = h.0 in
       let y = h.3.0 in

@@ -1,3 +1,4 @@
 pub mod Parts
 pub mod Sources
 pub mod Placing
+pub mod Ordering

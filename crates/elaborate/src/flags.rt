@@ -22,9 +22,9 @@ pub fn signal_names(alloc: Global, signals: &[Signal]) -> Result<Names<'_>, Allo
     Names::of(alloc, all)
 }
 
-// The name of the signal at a place.
+/// The name of the signal at a place.
 #[tactic(auto, using(crate::proofs::Flagging::name_get))]
-fn name_at(signals: &[Signal], place: usize) -> &Text
+pub fn name_at(signals: &[Signal], place: usize) -> &Text
     requires { place < length signals.now }
     ensures { result.now ≡ name_of signals.now place }
 {

@@ -3,6 +3,7 @@
 
 mod design;
 mod flags;
+mod graph;
 mod ordered;
 mod parts;
 mod places;

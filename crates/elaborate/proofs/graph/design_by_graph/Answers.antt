@@ -1,0 +1,60 @@
+use Rattle.std.proofs.Common.{◌≡◌, ◌<◌, ℕ, List, length, arith, inr, refl, sym, ap, ◌∙◌, subst}
+use Rattle.vlog_runs.specs.declared.flat.Signal.{Signal}
+use Rattle.vlog_runs.specs.Places.{Among}
+use Rattle.elab_faults.specs.declared.fault.ElabFault.{ElabFault}
+use Rattle.elab_faults.specs.declared.fault.ElabFault.TheVariants as f
+use Rattle.elab_faults.specs.Drivers.{DependsOn}
+use Rattle.elab_faults.specs.Stands.{Stands}
+use Rattle.elab_order.specs.Graphs.{graph_of, IsSorted, IsOrder, IsCycle}
+use Rattle.elab_step.specs.Boards.{name_of, names_of}
+use Rattle.elab_step.specs.Solving.{IsNetOrder}
+use Rattle.elaborate.specs.Ordering.{source_names, unflagged}
+use Rattle.elaborate.specs.Sources.{flags_among}
+use Rattle.elaborate.proofs.Ordering.{net_order, nets_within, loop_at}
+use Rattle.elaborate.proofs.Placing.{placed_long}
+use Rattle.elaborate.proofs.graph.design_by_graph.Goals as goal
+
+pub design_in_order-requires-clause-within : goal.design_in_order-requires-clause-within
+design_in_order-requires-clause-within c =
+    let m = c.args.flat.now in
+    let g = graph_of c.args.graph.now in
+    let r = c.requires in
+    let long : length g ≡ length m.signals = placed_long c.args.graph.now ∙ r.size in
+    let is : IsOrder g c.in-Order.places.items = subst (IsSorted g) c.in-Order.is c.in_ok-places.ensures in
+    let kept : c.deref-in-Order-2.result.now ≡ unflagged (flags_among (source_names m) m.signals) c.in-Order.places.items =
+    c.deref-in-Order-2.ensures.value ∙ c.in_ok-nets-in-Order.ensures ∙ (λ i. unflagged ((c.deref.ensures.value ∙ c.in_ok-sources-in-Order.ensures) i) (c.deref-in-Order.ensures.value i)) in
+    let P : List ℕ → Type 0 = λ z. (i : ℕ) → Among z i → i < length m.signals in
+    subst P (sym kept) (nets_within m r.can g long r.vertices r.depends c.in-Order.places.items is)
+
+pub design_in_order-requires-clause-order : goal.design_in_order-requires-clause-order
+design_in_order-requires-clause-order c =
+    let m = c.args.flat.now in
+    let g = graph_of c.args.graph.now in
+    let r = c.requires in
+    let long : length g ≡ length m.signals = placed_long c.args.graph.now ∙ r.size in
+    let is : IsOrder g c.in-Order.places.items = subst (IsSorted g) c.in-Order.is c.in_ok-places.ensures in
+    let kept : c.deref-in-Order-2.result.now ≡ unflagged (flags_among (source_names m) m.signals) c.in-Order.places.items =
+    c.deref-in-Order-2.ensures.value ∙ c.in_ok-nets-in-Order.ensures ∙ (λ i. unflagged ((c.deref.ensures.value ∙ c.in_ok-sources-in-Order.ensures) i) (c.deref-in-Order.ensures.value i)) in
+    let P : List ℕ → Type 0 = λ z. IsNetOrder m (DependsOn m) (names_of m.signals z) in
+    subst P (sym kept) (net_order m r.can g long r.vertices r.depends c.in-Order.places.items is)
+
+pub looped-requires : goal.looped-requires
+looped-requires c =
+    let m = c.args.flat.now in
+    let g = graph_of c.args.graph.now in
+    let r = c.requires in
+    let long : length g ≡ length m.signals = placed_long c.args.graph.now ∙ r.size in
+    let is : IsCycle g c.in-Cycle.cycle.items = subst (IsSorted g) c.in-Cycle.is c.in_ok-places.ensures in
+    let at = (loop_at m r.can g long r.vertices r.depends c.in-Cycle.cycle.items c.index.result.now _ is c.index.ensures).0 in
+    subst (λ (gs : List Signal). c.index.result.now < length gs) (sym c.as_slice.ensures) at
+
+pub returns-in_ok-looped-in-Cycle-clause-fault : goal.returns-in_ok-looped-in-Cycle-clause-fault
+returns-in_ok-looped-in-Cycle-clause-fault c =
+    let m = c.args.flat.now in
+    let g = graph_of c.args.graph.now in
+    let r = c.requires in
+    let long : length g ≡ length m.signals = placed_long c.args.graph.now ∙ r.size in
+    let is : IsCycle g c.in-Cycle.cycle.items = subst (IsSorted g) c.in-Cycle.is c.in_ok-places.ensures in
+    let stands = (loop_at m r.can g long r.vertices r.depends c.in-Cycle.cycle.items c.index.result.now _ is c.index.ensures).1 in
+    let e : c.in_ok-looped-in-Cycle.field-0 ≡ f.Loop (name_of m.signals c.index.result.now) = c.in_ok-looped-in-Cycle.ensures ∙ ap (λ gs. f.Loop (name_of gs c.index.result.now)) c.as_slice.ensures in
+    inr (subst (Stands m) (sym e) stands)
