@@ -1,5 +1,5 @@
 -- The forms of resets by heads, and what blocks with edges wait for.
-use Rattle.std.proofs.Common.{◌≡◌, ℕ, Bool, true, false, cond, List, [], ◌∷◌, Option, Some, None, refl, sym, ap, ◌∙◌, if◌then◌else◌}
+use Rattle.std.proofs.Common.{◌≡◌, true, false, Option, None, refl, sym, ap, ◌∙◌, if◌then◌else◌}
 use Rattle.std.specs.Prelude.{nat_eq}
 use Rattle.vlog_tree.specs.declared.expr.Binary.{Binary}
 use Rattle.vlog_tree.specs.declared.expr.Binary.TheVariants as b
@@ -7,7 +7,6 @@ use Rattle.vlog_tree.specs.declared.expr.Expr.{Expr, end_of-Expr, more_of-Expr}
 use Rattle.vlog_tree.specs.declared.expr.Expr.TheVariants as e
 use Rattle.vlog_tree.specs.declared.expr.Unary.{Unary}
 use Rattle.vlog_tree.specs.declared.expr.Unary.TheVariants as u
-use Rattle.vlog_tree.specs.declared.token.Number.{Number}
 use Rattle.vlog_runs.specs.Places.{Name}
 use Rattle.flat_faults.specs.Clocks.{Reset, reset_if, is_bit, negated, level_of, reset_of}
 use Rattle.flat_clocks.specs.Heads.{Head, IsName, IsNumber, IsUnary, IsBinary, IsOther, head_of}

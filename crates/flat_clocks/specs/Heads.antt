@@ -1,5 +1,4 @@
 -- The outermost form of an expression, as far as conditions of resets need it.
-use Rattle.std.specs.Prelude.{Option, Some, None}
 use Rattle.vlog_tree.specs.declared.expr.Binary.{Binary}
 use Rattle.vlog_tree.specs.declared.expr.Expr.{Expr, end_of-Expr, more_of-Expr}
 use Rattle.vlog_tree.specs.declared.expr.Expr.TheVariants as e

@@ -26,7 +26,11 @@ fn is_reset_edge(edge: &Edge, reset: Reset<'_>) -> bool
     if edge.name.bytes() != reset.name.bytes() {
         return false;
     }
-    if reset.high { edge.rising } else { !edge.rising }
+    if reset.high {
+        edge.rising
+    } else {
+        !edge.rising
+    }
 }
 
 /// What a block with one edge waits for.

@@ -1,6 +1,5 @@
 -- Which forms of expressions can be assigned, as the code reads them.
-use Rattle.std.proofs.Common.{◌≡◌, ℕ, suc, ◌+◌, ◌<◌, ◌&&◌, Bool, true, false, List, [], ◌∷◌, length, drop, get_or, add-one, map, refl, sym, ap, subst, ◌∙◌}
-use Rattle.std.specs.Prelude.{IsTrue, ◌↔◌}
+use Rattle.std.proofs.Common.{◌≡◌, ℕ, ◌+◌, ◌<◌, ◌&&◌, Bool, true, false, List, length, drop, get_or, add-one, refl, sym, ap, ◌∙◌}
 use Rattle.std.specs.List.{list_all}
 use Rattle.vlog_tree.specs.declared.expr.Binary.{Binary}
 use Rattle.vlog_tree.specs.declared.expr.Cast.{Cast}
@@ -12,8 +11,7 @@ use Rattle.vlog_tree.specs.declared.expr.Name.{Name as Read}
 use Rattle.vlog_tree.specs.declared.expr.Span.{Span}
 use Rattle.vlog_tree.specs.declared.expr.Unary.{Unary}
 use Rattle.vlog_runs.specs.Places.{Name, Place}
-use Rattle.vlog_runs.specs.Contents.{is_among, Decl}
-use Rattle.vlog_runs.specs.Scopes.{signal_of}
+use Rattle.vlog_runs.specs.Contents.{is_among}
 use Rattle.flat_laws.specs.Uses.{has_signal}
 use Rattle.flat_faults.specs.Declaring.{IsAssignable, AreAssignable}
 use Rattle.flat_scopes.proofs.Finding.{cut}

@@ -1,22 +1,19 @@
--- What an instance's outputs are connected to, and what stands at a scope where its instances fit.
-use Rattle.std.proofs.Common.{◌≡◌, ◌⊎◌, inl, inr, ⊎_elim, Bool, true, false, not, List, [], ◌∷◌, ◌++◌, map, Option, Some, None, Bor, refl, sym, ap, subst, ◌∙◌}
+-- What an instance's outputs are connected to.
+use Rattle.std.proofs.Common.{◌≡◌, inl, inr, Bool, true, false, not, List, map, Option, Some, None, Bor, refl, sym, ap, subst, ◌∙◌}
 use Rattle.std.specs.Prelude.{IsTrue, ◌↔◌}
-use Rattle.std.specs.Option.{option_map, option_copied}
+use Rattle.std.specs.Option.{option_copied}
 use Rattle.std.proofs.lemmas.Bool.{cases_Bool}
 use Rattle.vlog_tree.specs.declared.expr.Expr.{Expr}
 use Rattle.vlog_tree.specs.declared.module.Module.{Module}
 use Rattle.vlog_runs.specs.Places.{Name, Among}
 use Rattle.vlog_runs.specs.Contents.{Decl, Inner, instances_in, port_names, signals_in}
-use Rattle.vlog_runs.specs.Scopes.{Scope, Given, given_to, decl_at, place_of, module_at}
-use Rattle.flat_faults.specs.declared.fault.FlatFault.{FlatFault}
+use Rattle.vlog_runs.specs.Scopes.{Scope, Given, given_to, decl_at, place_of}
 use Rattle.flat_faults.specs.declared.fault.FlatFault.TheVariants as f
-use Rattle.flat_faults.specs.Declaring.{IsAssignable, IsDeclaredTwice, LacksDirection, IsUnlisted, MissesPorts, Overshoots, open_params}
-use Rattle.flat_faults.specs.Stands.{Refuses, inside, StandsAt}
-use Rattle.flat_scopes.specs.declared.decl.Decl.{Decl as View}
-use Rattle.flat_scopes.specs.Borrowed.{decl_meant}
+use Rattle.flat_faults.specs.Declaring.{IsAssignable}
+use Rattle.flat_faults.specs.Stands.{Refuses, inside}
 use Rattle.flat_scopes.specs.Finding.{decl_name}
 use Rattle.flat_names.specs.Assignable.{is_assignable}
-use Rattle.flat_names.specs.Rows.{IsBadGiven, IsBadOutput, HasFitOutputs, FitsInner, StandsInside, IsUsedUnknown, IsOfNames}
+use Rattle.flat_names.specs.Rows.{IsBadGiven, IsBadOutput, HasFitOutputs, StandsInside}
 use Rattle.flat_names.specs.Searching.{Finds}
 use Rattle.flat_names.proofs.Assigning.{can, of_can}
 use Rattle.flat_names.proofs.Searches.{one_found, none_found}
@@ -74,37 +71,3 @@ module _ (s : Scope) where
         Finds (IsBadOutput ds ports ns) (option_copied o) → ((x : Bor Name) → o ≡ Some x → ⊥) → HasFitOutputs s i m
     outputs_fit ds e ports g ns k o found no' = λ d among port at i' o' n.
         none_found (IsBadOutput given (signals_in m) names) o (found_bad ds e ports g ns k (option_copied o) found) no' d.name (d, among, refl, (port, at, i', o', of_unfit d.value n))
-
--- ---- all together
-
-module _ (ms : List Module) (s : Scope) (used : (x : Name) → IsUsedUnknown s x → ⊥) (declared : (x : Name) → IsDeclaredTwice s x → ⊥)
-    (ports : (x : Name) → LacksDirection s.module' x ⊎ IsUnlisted s.module' x → ⊥) (inners : (i : Inner) → Among (instances_in s.module') i → FitsInner ms s i) where
-  -- the module that an instance has
-  its : (i : Inner) (among : Among (instances_in s.module') i) (m : Module) → module_at ms i.of_module ≡ Some m → (inners i among).module' ≡ m
-  its i among m there = let z : Some (inners i among).module' ≡ Some m = sym (inners i among).found ∙ there in cc
-
-  pub none_stands : (fault : FlatFault) → IsOfNames fault → (path : Name) → StandsAt ms path s fault → ⊥
-  none_stands (f.Unknown n) of path (inl (inl (a, among, x, named, e, is))) = used x (inl ((a, among, named), e))
-  none_stands (f.Unknown n) of path (inl (inr (inl (x, among, e, is)))) = used x (inr (among, e))
-  none_stands (f.Unknown n) of path (inl (inr (inr (i, among, (e, is))))) = let z : None ≡ Some (inners i among).module' = sym e ∙ (inners i among).found in cc
-  none_stands (f.Unknown n) of path (inr (i, among, m, there, inl (x, a, lacks, is))) =
-      (inners i among).connections.named x (a, subst (λ z. Among (port_names z) x → ⊥) (sym (its i among m there)) lacks)
-  none_stands (f.Unknown n) of path (inr (i, among, m, there, inr (inl (x, a, lacks, is)))) =
-      (inners i among).overrides.named x (a, subst (λ z. Among (open_params z) x → ⊥) (sym (its i among m there)) lacks)
-  none_stands (f.Unknown n) of path (inr (i, among, m, there, inr (inr (many, is)))) =
-      (inners i among).overrides.few (subst (λ z. Overshoots (open_params z) i.overrides) (sym (its i among m there)) many)
-  none_stands (f.Twice n) of path (inl (x, h, is)) = declared x h
-  none_stands (f.Twice n) of path (inr (i, among, x, r, is)) = (inners i among).overrides.once x r
-  none_stands (f.Port n) of path (inl (x, h, is)) = ports x h
-  none_stands (f.Port n) of path (inr (i, among, m, there, inl (few, is))) =
-      (inners i among).connections.all_ports (subst (λ z. MissesPorts (port_names z) i.args) (sym (its i among m there)) few)
-  none_stands (f.Port n) of path (inr (i, among, m, there, inr (inl (x, r, is)))) = (inners i among).connections.once x r
-  none_stands (f.Port n) of path (inr (i, among, m, there, inr (inr (d, a, port, at, i', o', u, is)))) =
-      subst (HasFitOutputs s i) (its i among m there) (inners i among).outputs d a port at i' o' u
-  none_stands f.NoTop of path h = of
-  none_stands (f.Recursion n) of path h = of
-  none_stands f.Instances of path h = of
-  none_stands (f.Constant n) of path h = of
-  none_stands (f.Width n) of path h = of
-  none_stands (f.Clock n) of path h = of
-  none_stands f.Memory of path h = of

@@ -1,5 +1,5 @@
 -- The names that a text reads, and the directions of ports.
-use Rattle.std.proofs.Common.{◌≡◌, ◌⊎◌, inl, inr, ⊎_elim, Bool, true, false, List, [], ◌∷◌, ◌++◌, map, filter, Option, Some, None, refl, sym, ap, subst, ◌∙◌}
+use Rattle.std.proofs.Common.{◌≡◌, ◌⊎◌, inl, inr, ⊎_elim, Bool, true, List, [], ◌∷◌, filter, Option, Some, None, sym, ap, subst, ◌∙◌}
 use Rattle.std.specs.Prelude.{◌↔◌}
 use Rattle.std.specs.List.{flat_map}
 use Rattle.std.proofs.lemmas.Bool.{cases_Bool}
@@ -42,9 +42,9 @@ pub has_filter : {X : Type 0} (test : X → Bool) (xs : List X) (x : X) → Amon
 has_filter test [] x a = absurd a
 has_filter test (y ∷ ys) x a = elim (cases_Bool (test y)) [
   | inl e ↦ (
-    let b : (y ≡ x) ⊎ Among (filter test ys) x = rw e at a in
-    ⊎_elim (λ s. (inl s, ap test (sym s) ∙ e)) (λ m. let r = has_filter test ys x m in (inr r.0, r.1)) b
-  )
+      let b : (y ≡ x) ⊎ Among (filter test ys) x = rw e at a in
+      ⊎_elim (λ s. (inl s, ap test (sym s) ∙ e)) (λ m. let r = has_filter test ys x m in (inr r.0, r.1)) b
+      )
   | inr e ↦ (let r = has_filter test ys x (rw e at a) in (inr r.0, r.1))
 ]
 
@@ -96,6 +96,7 @@ module _ (m : Module) where
           (among_append (ports_decls m.ports) (flat_map item_decls m.items) d.0 d.1)
 
       from : (x : Name) → IsUnlisted m x → IsAbsent ds ps x
-      from x u =
-          (subst (λ ys. Among ys x) (sym e) (directed m x (u.0, append_right (ports_decls m.ports) (flat_map item_decls m.items) u.0 u.1, u.2, u.3)),
-          λ a. u.4 (subst (λ ys. Among ys x) g a))
+      from x u = (
+        subst (λ ys. Among ys x) (sym e) (directed m x (u.0, append_right (ports_decls m.ports) (flat_map item_decls m.items) u.0 u.1, u.2, u.3)),
+        λ a. u.4 (subst (λ ys. Among ys x) g a),
+      )

@@ -24,7 +24,7 @@ use Rattle.flat_scopes.specs.declared.decl.Decl.{Decl as View}
 use Rattle.flat_scopes.specs.Borrowed.{decl_meant}
 use Rattle.flat_scopes.specs.Finding.{decl_name}
 use Rattle.flat_scopes.proofs.Finding.{cut}
-use Rattle.elab_drive.proofs.Naming.{among_of, of_among}
+use Rattle.elab_drive.proofs.Naming.{among_of}
 use Rattle.flat_names.specs.Rows.{again, headed_names, IsDeclaredAs, AreDeclaredAs, MayGoWith, GoesWith, IsStray, IsMisfit, IsWronglyAgain}
 use Rattle.flat_names.specs.Searching.{Finds}
 use Rattle.flat_names.proofs.Ports.{filter_has, has_filter}
@@ -110,7 +110,7 @@ again_repeats : (ds : List Decl) (done : List Name) (x : Name) → Repeats (map 
 again_repeats [] done x a = a
 again_repeats (d ∷ ds) done x a = elim (cases_Bool (is_among done d.name)) [
   | inl i ↦ (let b : ((d.name ≡ x) × Among (map decl_name (again done ds)) x) ⊎ Repeats (map decl_name (again done ds)) x = rw i at a in
-  ⊎_elim (λ e. inl (e.0, again_names ds done x e.1)) (λ m. inr (again_repeats ds done x m)) b)
+      ⊎_elim (λ e. inl (e.0, again_names ds done x e.1)) (λ m. inr (again_repeats ds done x m)) b)
   | inr n ↦ inr (again_repeats ds (d.name ∷ done) x (rw n at a))
 ]
 
@@ -126,9 +126,9 @@ again_twice : (ds : List Decl) (done : List Name) (e : Decl) → Among (again do
 again_twice [] done e a = absurd a
 again_twice (d ∷ ds) done e a = elim (cases_Bool (is_among done d.name)) [
   | inl i ↦ (let b : (d ≡ e) ⊎ Among (again done ds) e = rw i at a in
-  ⊎_elim (λ s. inl (among_of done e.name (ap (λ (z : Decl). is_among done z.name) (sym s) ∙ i))) (λ m. ⊎_elim (λ p. inl p) (λ r. inr (inr r)) (again_twice ds done e m)) b)
+      ⊎_elim (λ s. inl (among_of done e.name (ap (λ (z : Decl). is_among done z.name) (sym s) ∙ i))) (λ m. ⊎_elim (λ p. inl p) (λ r. inr (inr r)) (again_twice ds done e m)) b)
   | inr n ↦ (let m : Among (again (d.name ∷ done) ds) e = rw n at a in
-  ⊎_elim (λ p. ⊎_elim (λ s. inr (inl (s, map_among decl_name ds e (again_among ds (d.name ∷ done) e m)))) (λ o. inl o) p) (λ r. inr (inr r)) (again_twice ds (d.name ∷ done) e m))
+      ⊎_elim (λ p. ⊎_elim (λ s. inr (inl (s, map_among decl_name ds e (again_among ds (d.name ∷ done) e m)))) (λ o. inl o) p) (λ r. inr (inr r)) (again_twice ds (d.name ∷ done) e m))
 ]
 
 -- ---- how many declarations of a name there are
@@ -244,16 +244,22 @@ module _ (m : Module) (v : List Entry) where
         by (Some d) e (c ∷ []) g a b rest s =
             let f = has_filter (λ z. bytes_eq z.name x) seconds c (subst (λ es. Among es c) (sym g) (inl refl)) in
             let named : c.name ≡ x = same_name c.name x f.1 in (
-              c, f.0, named,
-              (d, ap (decl_at ds) named ∙ e, λ w. never (record {
-                first = d;
-                second = c;
-                both = split_new ds [] x refl ∙ (ap (λ o. first_and o (of_name x seconds)) e ∙ ap (λ es. d ∷ es) g);
-                in_body = λ h. w.0.in_body (subst (Among (headed_names m)) (sym named) h);
-                one_port = xor_is (is_port d) (is_port c) w.0.one_port;
-                no_words = w.0.no_words;
-                same = w.1;
-              })),
+              c,
+              f.0,
+              named,
+              (
+                d,
+                ap (decl_at ds) named ∙ e,
+                λ w. never (record {
+                  first = d;
+                  second = c;
+                  both = split_new ds [] x refl ∙ (ap (λ o. first_and o (of_name x seconds)) e ∙ ap (λ es. d ∷ es) g);
+                  in_body = λ h. w.0.in_body (subst (Among (headed_names m)) (sym named) h);
+                  one_port = xor_is (is_port d) (is_port c) w.0.one_port;
+                  no_words = w.0.no_words;
+                  same = w.1;
+                }),
+              ),
             )
 
     pub misfits : (es : List Decl) → es ≡ seconds → (bs : List Decl) → bs ≡ ds → (o : Option Name) → Finds (IsMisfit m v bs es) o → Finds (IsWronglyAgain m v) o

@@ -1,15 +1,13 @@
 -- A declaration that declares nothing is a fault at its scope.
-use Rattle.std.proofs.Common.{◌≡◌, ℕ, ◌<◌, ◌++◌, List, Option, Some, inl, inr, refl, sym, ap, subst, ◌∙◌, arith}
+use Rattle.std.proofs.Common.{◌≡◌, ◌<◌, ◌++◌, Option, Some, inl, inr, refl, sym, ap, subst, ◌∙◌, arith}
 use Rattle.std.specs.Prelude.{ℤ, pos, ◌≤ℤ◌, ◌+ℤ◌}
 use Rattle.std.proofs.lemmas.Int.{ints}
 use Rattle.vlog_tree.specs.declared.item.Range.{Range}
-use Rattle.vlog_tree.specs.declared.module.Module.{Module}
 use Rattle.vlog_tree.specs.Value.{natural}
 use Rattle.vlog_runs.specs.Places.{Name, Among}
 use Rattle.vlog_runs.specs.Blocks.{is_parameter}
 use Rattle.vlog_runs.specs.Contents.{Decl, decls_in}
 use Rattle.vlog_runs.specs.Scopes.{Scope, place_of}
-use Rattle.flat_faults.specs.declared.fault.FlatFault.{FlatFault}
 use Rattle.flat_faults.specs.declared.fault.FlatFault.TheVariants as f
 use Rattle.flat_faults.specs.Constants.{alone, IsOrdered, IsFromZero, BreaksBounds, BreaksRange, BreaksWords, InRange}
 use Rattle.flat_faults.specs.Stands.{Refuses}
@@ -19,7 +17,6 @@ use Rattle.flat_params.specs.declared.unfit.BadSignal.{BadSignal}
 use Rattle.flat_params.specs.declared.unfit.BadSignal.TheVariants as g
 use Rattle.flat_params.specs.declared.unfit.BadWords.{BadWords}
 use Rattle.flat_params.specs.declared.unfit.BadWords.TheVariants as w
-use Rattle.flat_params.specs.declared.unfit.Unfit.{Unfit}
 use Rattle.flat_params.specs.declared.unfit.Unfit.TheVariants as u
 use Rattle.flat_params.specs.Constants.{IsBadRange, low_of}
 use Rattle.flat_params.specs.Signals.{IsBadWords, IsBadSignal}

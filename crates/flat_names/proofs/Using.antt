@@ -1,5 +1,5 @@
 -- What isn't declared, by the lists of names.
-use Rattle.std.proofs.Common.{◌≡◌, ◌⊎◌, inl, inr, ⊎_elim, Bool, true, false, ◌||◌, List, [], ◌∷◌, ◌++◌, map, refl, sym, ap, subst, ◌∙◌}
+use Rattle.std.proofs.Common.{◌≡◌, inl, inr, ⊎_elim, Bool, true, false, ◌||◌, List, [], ◌∷◌, ◌++◌, map, refl, sym, ◌∙◌}
 use Rattle.std.specs.Prelude.{is_some, nat_eq}
 use Rattle.std.specs.Str.{bytes_eq}
 use Rattle.std.proofs.lemmas.Bool.{cases_Bool}
@@ -15,8 +15,8 @@ use Rattle.flat_faults.specs.declared.fault.FlatFault.TheVariants as f
 use Rattle.flat_faults.specs.Declaring.{IsDeclaredTwice}
 use Rattle.flat_faults.specs.Stands.{Refuses}
 use Rattle.flat_scopes.specs.Finding.{decl_name}
-use Rattle.elab_drive.proofs.Naming.{among_of, of_among}
-use Rattle.flat_names.specs.Rows.{entry_names, scope_names, IsRead, IsUsedUnknown, StandsAlone}
+use Rattle.elab_drive.proofs.Naming.{among_of}
+use Rattle.flat_names.specs.Rows.{entry_names, scope_names, IsUsedUnknown, StandsAlone}
 use Rattle.flat_names.proofs.Searches.{not_among}
 
 entries : (es : List Entry) (x : Name) → is_some (entry_at es x 0) ≡ is_among (entry_names es) x

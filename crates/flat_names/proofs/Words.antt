@@ -56,13 +56,13 @@ once_as m all done [] sub d a = absurd a
 once_as m all done (e ∷ ds) sub d a = elim (cases_Bool (is_among done e.name)) [
   | inl y ↦ once_as m all done ds (λ z h. sub z (inr h)) d (rw y at a)
   | inr n ↦ ⊎_elim
-  (λ s. subst (IsDeclaredAs m) s (record {
-    from = e;
-    among = sub e (inl refl);
-    name = refl;
-    shape = refl;
-    words = refl;
-  })) (λ h. once_as m all (e.name ∷ done) ds (λ z h. sub z (inr h)) d h) (rw n at a)
+      (λ s. subst (IsDeclaredAs m) s (record {
+        from = e;
+        among = sub e (inl refl);
+        name = refl;
+        shape = refl;
+        words = refl;
+      })) (λ h. once_as m all (e.name ∷ done) ds (λ z h. sub z (inr h)) d h) (rw n at a)
 ]
 
 pub signals_as : (m : Module) (d : Decl) → Among (signals_in m) d → IsDeclaredAs m d

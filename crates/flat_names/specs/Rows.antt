@@ -1,5 +1,5 @@
 -- The names that a scope declares, and how its text breaks the rules on names and ports.
-use Rattle.std.specs.Prelude.{◌≡◌, ◌≤◌, ◌⊎◌, nat_eq, true, false, List, [], ◌∷◌, ◌++◌, Option, Some, None, map, filter, if◌then◌else◌}
+use Rattle.std.specs.Prelude.{◌≡◌, ◌⊎◌, nat_eq, true, false, List, [], ◌∷◌, ◌++◌, Some, None, map, filter, if◌then◌else◌}
 use Rattle.std.specs.List.{flat_map}
 use Rattle.vlog_tree.specs.declared.expr.Expr.{Expr}
 use Rattle.vlog_tree.specs.declared.item.Connection.{Connection}
@@ -8,7 +8,7 @@ use Rattle.vlog_tree.specs.declared.valuation.Entry.{Entry}
 use Rattle.vlog_runs.specs.Places.{Name, Among}
 use Rattle.vlog_runs.specs.Contents.{Decl, decls_in, ports_decls, signals_in, port_names, params_in, is_among, Inner}
 use Rattle.vlog_runs.specs.Scopes.{Scope, Given, given_to, place_of, decl_at, module_at}
-use Rattle.flat_faults.specs.Declaring.{Repeats, is_port, decls_of, SameShape, IsDeclaredAgain, words_of, MissesPorts, IsAssignable, open_params, Overshoots}
+use Rattle.flat_faults.specs.Declaring.{Repeats, is_port, SameShape, IsDeclaredAgain, words_of, MissesPorts, IsAssignable, open_params, Overshoots}
 use Rattle.flat_laws.specs.Uses.{has_signal, is_declared}
 use Rattle.flat_faults.specs.Texts.{all_exprs, names_in, arg_names, assigned_in, waited_in}
 use Rattle.flat_faults.specs.declared.fault.FlatFault.{FlatFault}

@@ -131,11 +131,7 @@ fn goes_with(
 }
 
 /// The first declaration of a name.
-fn first_of<'d, 'a>(
-    places: &Names<'_>,
-    decls: &'d [Decl<'a>],
-    name: &[u8],
-) -> Option<&'d Decl<'a>>
+fn first_of<'d, 'a>(places: &Names<'_>, decls: &'d [Decl<'a>], name: &[u8]) -> Option<&'d Decl<'a>>
     requires { places.now ≡ map decl_name (map decl_meant decls.now) }
     ensures { option_map (λ d. decl_meant d.now) result ≡ decl_at (map decl_meant decls.now) name.now }
 {
@@ -173,10 +169,7 @@ fn misfit<'a>(
 }
 
 /// A name that is declared more than once and not as a port of the body once more there. A refusal's fault stands at the scope.
-pub fn declared_again<'a>(
-    alloc: Global,
-    scope: &Scope<'a>,
-) -> Result<Option<&'a Text>, FlatFault>
+pub fn declared_again<'a>(alloc: Global, scope: &Scope<'a>) -> Result<Option<&'a Text>, FlatFault>
     ensures ok { IfOk result (λ r. Finds (IsWronglyAgain scope.now.text.now scope.now.params) (option_copied r)) }
     ensures err { IfErr result (Refuses (StandsAlone (scope_meant scope.now))) }
 {

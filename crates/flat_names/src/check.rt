@@ -124,11 +124,7 @@ pub fn check_instances(
 /// The rules on names and ports hold in a scope: neither `Unknown` nor `Twice` nor `Port` stands there. A refusal's fault stands at the scope; it is
 /// `Constant` or `Width` where the range of a signal that is declared again, or of a memory, declares nothing. Its time is linear in the scope's text
 /// and in the modules of its instances.
-pub fn check_names(
-    alloc: Global,
-    modules: &Modules<'_>,
-    scope: &Scope<'_>,
-) -> Result<(), FlatFault>
+pub fn check_names(alloc: Global, modules: &Modules<'_>, scope: &Scope<'_>) -> Result<(), FlatFault>
     ensures none { OnOk result ((fault : Fault) → IsOfNames fault → (path : Name) → StandsAt modules.now path (scope_meant scope.now) fault → ⊥) }
     ensures err { IfErr result (Refuses (StandsIn modules.now (scope_meant scope.now))) }
 {

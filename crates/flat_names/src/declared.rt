@@ -35,10 +35,7 @@ fn add_param_names<'a>(all: &mut Vec<&'a Text>, params: &[Param<'a>]) -> Result<
     Ok(())
 }
 
-fn add_inner_names<'a>(
-    all: &mut Vec<&'a Text>,
-    instances: &[Inner<'a>],
-) -> Result<(), AllocError>
+fn add_inner_names<'a>(all: &mut Vec<&'a Text>, instances: &[Inner<'a>]) -> Result<(), AllocError>
     ensures { OnOk result (map name_meant all.new.items ≡ map name_meant all.old.items ++ map inner_name (map inner_meant instances.now)) }
 {
     for inner in instances {

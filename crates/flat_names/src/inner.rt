@@ -102,11 +102,7 @@ fn is_bad(gift: &Given<'_>, ports: &Signals<'_>, signals: &Names<'_>) -> bool
 }
 
 /// An output that is connected to an expression that can't be assigned.
-fn bad_output<'a>(
-    given: &[Given<'a>],
-    ports: &Signals<'_>,
-    signals: &Names<'_>,
-) -> Option<&'a Text>
+fn bad_output<'a>(given: &[Given<'a>], ports: &Signals<'_>, signals: &Names<'_>) -> Option<&'a Text>
     ensures { Finds (IsBadOutput (map given_meant given.now) ports.now signals.now) (option_copied result) }
 {
     for gift in given {

@@ -40,4 +40,4 @@ returns-clause-ok c =
     let once : (x : Name) → Repeats (map decl_name (again [] (decls_in m))) x → ⊥ = λ x r. none x (subst (λ ns. Repeats ns x) (sym names) r) in
     if_ok c.misfit.result (λ r. Finds (IsMisfit m v (map decl_meant c.deref-4.result.now) (map decl_meant c.deref-5.result.now)) (option_copied r)) (λ r. Finds (IsWronglyAgain m v) (option_copied r))
     (λ r h. misfits m v once (map decl_meant c.deref-5.result.now) (ap (map decl_meant) c.deref-5.ensures.value ∙ seconds) (map decl_meant c.deref-4.result.now)
-      (ap (map decl_meant) c.deref-4.ensures.value ∙ c.in_ok-decls.ensures) (option_copied r) h) c.misfit.ensures.ok
+    (ap (map decl_meant) c.deref-4.ensures.value ∙ c.in_ok-decls.ensures) (option_copied r) h) c.misfit.ensures.ok

@@ -36,8 +36,8 @@ loop-second-preserved c = λ e among stray.
     let mine = decl_meant c.second-item.result in
     among_past decl_meant c.args.seconds.now c.loop-second.second-index c.second-item.result c.loop-second-test.true c.second-item.is e (c.loop-second.invariant e among stray)
     (λ same.
-      elim c.match-first_of.branch [
-        | in-Some+in-Ok-true w ↦ not_stray m v ds mine (decl_meant w.in-Some.first.now) (first_at ds c.first_of.result w.in-Some.first c.bytes.result.now mine.name c.first_of.ensures w.in-Some.is c.bytes.ensures)
-            w.in-Ok-true.field-0 w.in-Ok-true.ensures.ok w.in-Ok-true.field-0-test (subst (IsStray m v ds) (sym same) stray)
-        | in_default w ↦ none_at ds c.first_of.result c.bytes.result.now stray.0 c.first_of.ensures w.in_default.not-Some (ap (decl_at ds) (c.bytes.ensures ∙ ap (λ (z : Decl). z.name) same) ∙ stray.1)
-      ])
+    elim c.match-first_of.branch [
+      | in-Some+in-Ok-true w ↦ not_stray m v ds mine (decl_meant w.in-Some.first.now) (first_at ds c.first_of.result w.in-Some.first c.bytes.result.now mine.name c.first_of.ensures w.in-Some.is c.bytes.ensures)
+          w.in-Ok-true.field-0 w.in-Ok-true.ensures.ok w.in-Ok-true.field-0-test (subst (IsStray m v ds) (sym same) stray)
+      | in_default w ↦ none_at ds c.first_of.result c.bytes.result.now stray.0 c.first_of.ensures w.in_default.not-Some (ap (decl_at ds) (c.bytes.ensures ∙ ap (λ (z : Decl). z.name) same) ∙ stray.1)
+    ])

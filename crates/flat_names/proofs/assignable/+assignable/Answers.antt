@@ -1,4 +1,3 @@
-use Rattle.std.proofs.Common.{refl}
 use Rattle.flat_names.specs.Assignable.{is_assignable}
 use Rattle.flat_names.proofs.Assigning.{concat_can, select_can, part_can, constant_select_cannot, constant_part_cannot, cast_cannot, paren_cannot, repeat_cannot, unary_cannot, binary_cannot, choice_cannot, stops, goes_on}
 use Rattle.flat_names.proofs.assignable.+assignable.Goals as goal

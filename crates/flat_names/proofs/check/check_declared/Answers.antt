@@ -1,4 +1,4 @@
-use Rattle.std.proofs.Common.{◌≡◌, ◌++◌, inl, inr, ap, ◌∙◌}
+use Rattle.std.proofs.Common.{◌++◌, inl, inr, ap, ◌∙◌}
 use Rattle.vlog_runs.specs.Places.{Name}
 use Rattle.flat_instances.specs.Unfolding.{scope_meant}
 use Rattle.flat_names.specs.Rows.{IsWronglyAgain}

@@ -4,7 +4,7 @@ use Rattle.vlog_runs.specs.Contents.{signals_in}
 use Rattle.flat_faults.specs.Texts.{assigned_in, waited_in}
 use Rattle.flat_scopes.specs.Finding.{decl_name}
 use Rattle.flat_instances.specs.Unfolding.{scope_meant}
-use Rattle.flat_names.specs.Rows.{scope_names, IsRead}
+use Rattle.flat_names.specs.Rows.{IsRead}
 use Rattle.flat_names.specs.Searching.{IsAbsent}
 use Rattle.flat_names.proofs.Searches.{one_found, none_found}
 use Rattle.flat_names.proofs.Using.{unknown_of, of_unknown, no_signal, of_no_signal, used_stands}
@@ -33,6 +33,6 @@ returns-clause-ok c = λ x h.
     let names : c.in_ok-signals.signals ≡ map decl_name (signals_in s.module') = c.in_ok-signals.ensures ∙ c.in_ok-signal_names.ensures in
     ⊎_elim
     (λ a. none_found (λ x. IsRead s.module' x × (Among c.in_ok-declared.declared x → ⊥)) c.in_ok-name.field-0 c.in_ok-name.ensures c.in_default.not-Some x
-      (a.0, λ b. of_unknown s x a.1 (subst (λ ns. Among ns x) c.in_ok-declared.ensures b)))
+    (a.0, λ b. of_unknown s x a.1 (subst (λ ns. Among ns x) c.in_ok-declared.ensures b)))
     (λ a. none_found (IsAbsent (assigned_in s.module' ++ waited_in s.module') c.in_ok-signals.signals) c.in_ok-name-3.field-0 c.in_ok-name-3.ensures c.in_default-2.not-Some x
-      (a.0, λ b. of_no_signal s x a.1 (subst (λ ns. Among ns x) names b))) h
+    (a.0, λ b. of_no_signal s x a.1 (subst (λ ns. Among ns x) names b))) h

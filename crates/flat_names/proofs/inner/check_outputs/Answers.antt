@@ -1,6 +1,4 @@
-use Rattle.std.proofs.Common.{◌≡◌, ◌++◌, inl, inr, map, true, false, sym, ap, subst, ◌∙◌}
-use Rattle.vlog_runs.specs.Places.{Name}
-use Rattle.vlog_runs.specs.Contents.{port_names, signals_in}
+use Rattle.std.proofs.Common.{map, ap, ◌∙◌}
 use Rattle.vlog_runs.specs.Scopes.{given_to}
 use Rattle.flat_faults.specs.Stands.{inside}
 use Rattle.flat_scopes.specs.Borrowed.{name_meant, given_meant, inner_meant}

@@ -1,12 +1,11 @@
-use Rattle.std.proofs.Common.{◌≡◌, ◌++◌, inl, inr, map, length, vec_len, rules, true, false, sym, ap, subst, ◌∙◌}
+use Rattle.std.proofs.Common.{◌≡◌, ◌++◌, inl, inr, map, length, vec_len, rules, true, false, sym, ap, ◌∙◌}
 use Rattle.std.proofs.lemmas.List.{length-map}
-use Rattle.vlog_runs.specs.Places.{Name, Among}
+use Rattle.vlog_runs.specs.Places.{Name}
 use Rattle.flat_faults.specs.Declaring.{open_params}
 use Rattle.flat_faults.specs.Stands.{inside, full}
 use Rattle.flat_faults.specs.Texts.{arg_names}
 use Rattle.flat_scopes.specs.Borrowed.{name_meant, inner_meant}
 use Rattle.flat_instances.specs.Unfolding.{scope_meant}
-use Rattle.flat_names.specs.Searching.{IsAbsent}
 use Rattle.flat_names.proofs.Searches.{lacks_none, repeats_none, one_lacks}
 use Rattle.flat_names.proofs.inner.check_overrides.Goals as goal
 

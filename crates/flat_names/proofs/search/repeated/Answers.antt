@@ -1,4 +1,4 @@
-use Rattle.std.proofs.Common.{◌≡◌, ◌∷◌, ◌||◌, true, false, inl, inr, map, drop, ◌+◌, refl, sym, ap, subst, ◌∙◌}
+use Rattle.std.proofs.Common.{◌≡◌, ◌∷◌, ◌||◌, true, false, inl, map, drop, ◌+◌, refl, sym, ap, subst, ◌∙◌}
 use Rattle.std.specs.Str.{bytes_eq}
 use Rattle.vlog_runs.specs.Contents.{is_among}
 use Rattle.flat_scopes.specs.Borrowed.{name_meant}

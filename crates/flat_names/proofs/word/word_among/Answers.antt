@@ -1,4 +1,4 @@
-use Rattle.std.proofs.Common.{◌≡◌, ◌+◌, ◌<◌, ◌++◌, true, false, codes, arith, sym, ap, subst, ◌∙◌, below_more}
+use Rattle.std.proofs.Common.{◌≡◌, ◌<◌, ◌++◌, true, false, codes, arith, sym, ap, subst, ◌∙◌, below_more}
 use Rattle.std.specs.Prelude.{decimal}
 use Rattle.vlog_runs.specs.Places.{Among}
 use Rattle.vlog_runs.specs.Contents.{is_among}

@@ -1,5 +1,5 @@
-use Rattle.std.proofs.Common.{◌≡◌, map, ap, subst, sym}
-use Rattle.vlog_runs.specs.Places.{Name, Among}
+use Rattle.std.proofs.Common.{map, subst, sym}
+use Rattle.vlog_runs.specs.Places.{Among}
 use Rattle.vlog_runs.specs.Scopes.{signal_of}
 use Rattle.flat_laws.proofs.Lists.{map_among, flat_among}
 use Rattle.flat_faults.specs.Declaring.{words_of}
@@ -20,9 +20,11 @@ returns-in-Some-clause-ok c =
     let g = c.in-Ok.signal in
     let name = c.in-Some.name in
     let found = subst (Finds (λ x. Among c.args.names.now x × Among (words_of g) x)) c.in-Some.is c.in_ok-name.ensures in
-    let here = among_here decl_meant c.args.signals.now c.loop-decl.decl-index c.decl-item.result c.loop-decl-test.true c.decl-item.is in
-    (found.0, flat_among words_of (map (signal_of v) (map decl_meant c.args.signals.now)) (signal_of v d) name (map_among (signal_of v) (map decl_meant c.args.signals.now) d here)
-    (subst (λ z. Among (words_of z) name) c.in-Ok.ensures.ok found.1))
+    let here = among_here decl_meant c.args.signals.now c.loop-decl.decl-index c.decl-item.result c.loop-decl-test.true c.decl-item.is in (
+      found.0,
+      flat_among words_of (map (signal_of v) (map decl_meant c.args.signals.now)) (signal_of v d) name (map_among (signal_of v) (map decl_meant c.args.signals.now) d here)
+          (subst (λ z. Among (words_of z) name) c.in-Ok.ensures.ok found.1),
+    )
 
 pub loop-decl-preserved : goal.loop-decl-preserved
 loop-decl-preserved c = λ x a among.
