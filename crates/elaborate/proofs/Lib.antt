@@ -1,4 +1,5 @@
 pub mod Flagging
+pub mod Judging
 pub mod Lists
 pub mod Making
 pub mod Ordering

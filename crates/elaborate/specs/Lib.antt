@@ -2,3 +2,4 @@ pub mod Parts
 pub mod Sources
 pub mod Placing
 pub mod Ordering
+pub mod Asked

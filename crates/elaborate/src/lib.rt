@@ -4,8 +4,11 @@
 mod design;
 mod flags;
 mod graph;
+mod judge;
 mod ordered;
 mod parts;
 mod places;
 
+pub use judge::elaborate;
+pub use graph::design_by_graph;
 pub use ordered::design_in_order;

@@ -1,0 +1,59 @@
+// Modules without instances as designs.
+ghost use Rattle.std.specs.Prelude.{◌≡◌, ◌⊎◌, IfOk, IfErr, IfSome, IfNone};
+ghost use Rattle.vlog_runs.specs.Places.{Name};
+ghost use Rattle.word_design.specs.Designs.{HasRunsOf};
+ghost use Rattle.elab_faults.specs.declared.fault.ElabFault.TheVariants as f;
+ghost use Rattle.elab_faults.specs.Stands.{Stands};
+ghost use Rattle.elab_step.specs.Asked.{IsFaultless};
+ghost use Rattle.elaborate.specs.Asked.{IsElaborable, IsCleanButLoops};
+ghost use Rattle.elaborate.specs.Parts.{HasHeader};
+
+use crate::graph::design_by_graph;
+use elab_drive::{driven_twice, undriven, wrongly_assigned};
+use elab_faults::ElabFault;
+use elab_flow::{dependences, latch_of, unlisted_in};
+use std::alloc::{AllocError, Global};
+use vlog_runs::Flat;
+use word_design::Design;
+
+// A fault of a module other than a loop.
+fn fault_of(alloc: Global, flat: &Flat) -> Result<Option<ElabFault>, AllocError>
+    requires { IsElaborable flat.now }
+    ensures some { IfOk result (λ o. IfSome o (λ e. Stands flat.now e)) }
+    ensures none { IfOk result (λ o. IfNone o (IsCleanButLoops flat.now)) }
+{
+    if let Some(name) = wrongly_assigned(alloc, flat)? {
+        return Ok(Some(ElabFault::Kind(name)));
+    }
+    if let Some((name, bit)) = driven_twice(alloc, flat)? {
+        return Ok(Some(ElabFault::Drivers(name, bit)));
+    }
+    if let Some((name, bit)) = undriven(alloc, flat)? {
+        return Ok(Some(ElabFault::Undriven(name, bit)));
+    }
+    if let Some(name) = latch_of(alloc, flat)? {
+        return Ok(Some(ElabFault::Latch(name)));
+    }
+    if let Some(name) = unlisted_in(alloc, flat)? {
+        return Ok(Some(ElabFault::Sensitivity(name)));
+    }
+    Ok(None)
+}
+
+/// The design of a module without instances. It is refused by a fault that stands, looked for in this order: wrong forms of assignment, bits with
+/// two drivers, bits without one, latches, lists of names that leave one out, and loops; and for want of memory. Where no fault of the module
+/// stands, the design has the module's cycles, and the same cycles follow (IEEE 1364-2005, sections 6.1 and 9.2).
+pub fn elaborate(alloc: Global, flat: &Flat) -> Result<Design, ElabFault>
+    requires { IsElaborable flat.now }
+    ensures runs { IsFaultless flat.now → IfOk result (λ d. HasRunsOf flat.now d) }
+    ensures header { IfOk result (λ d. HasHeader flat.now d) }
+    ensures clean { IfOk result (λ d. IsCleanButLoops flat.now) }
+    ensures fault { IfErr result (λ e. (e ≡ f.Memory) ⊎ Stands flat.now e) }
+{
+    if let Some(fault) = fault_of(alloc, flat)? {
+        return Err(fault);
+    }
+    let graph = dependences(alloc, flat)?;
+    let design = design_by_graph(alloc, flat, &graph)?;
+    Ok(design)
+}
