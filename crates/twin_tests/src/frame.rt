@@ -73,8 +73,8 @@ fn frame_of(
     Ok(Frame { side, rows, met })
 }
 
-// The largest window of the properties.
-fn largest_window(set: &Set) -> u8
+/// The largest window of the properties.
+pub fn largest_window(set: &Set) -> u8
     requires { HasStructure set.now }
     ensures most { result ≤ 64 }
     ensures largest { (p : ℕ) → IsPosition set.now p → window_of set.now p ≤ result }

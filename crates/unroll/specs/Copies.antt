@@ -1,5 +1,7 @@
 -- A design's nodes in one cycle of a segment, as nodes of another dag.
-use Rattle.std.specs.Prelude.{◌≡◌, ℕ, zero, suc, ◌<◌, List, [], length, slice_index}
+use Rattle.std.specs.Prelude.{◌≡◌, ℕ, zero, suc, ◌<◌, List, [], length, slice_index, Option, Some, None}
+use Rattle.binding.specs.Binding.{net_at}
+use Rattle.set_tree.specs.declared.set.Name.{Name}
 use Rattle.set_tree.specs.declared.set.Set.{Set}
 use Rattle.vlog_runs.specs.Places.{Cycle, Among}
 use Rattle.word_core.specs.Words.{word}
@@ -46,3 +48,11 @@ pub record ShowLeaves (d : Parts) (set : Set) (k i : ℕ) (nodes : List Node) (l
   pub count : length leaves ≡ length d.nodes
   pub each : HaveNodes d nodes leaves ss
   pub words : (s : Net) → Among ss s → IsWordAt nodes (slice_index leaves s.node) s.width (λ e. held d set k e i s.name)
+
+-- the place of a declared name's signal among the nodes of the design
+abbrev pub place_at : Option Net → Option ℕ
+place_at None = None
+place_at (Some n) = Some n.node
+
+abbrev pub IsPlaceOf : Parts → Name → ℕ → Type 0
+IsPlaceOf d x place = place_at (net_at d.nets x.name) ≡ Some place

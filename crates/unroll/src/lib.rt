@@ -3,3 +3,11 @@
 
 mod copies;
 mod leaves;
+mod line;
+mod lines;
+mod obs;
+mod part;
+mod rows;
+mod segment;
+
+pub use obs::design_obs;

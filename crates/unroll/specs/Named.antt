@@ -1,0 +1,23 @@
+-- The obligations of a design's lines.
+use Rattle.std.specs.Prelude.{◌≡◌, ℕ}
+use Rattle.set_tree.specs.declared.line.Line.{Line}
+use Rattle.set_tree.specs.declared.line.Line.TheVariants as l
+use Rattle.set_tree.specs.declared.set.Set.{Set}
+use Rattle.set_tree.specs.Formulas.{meaning_of}
+use Rattle.word_dag.specs.declared.ob.Named.{Named}
+use Rattle.word_design.specs.Designs.{Parts}
+use Rattle.line_laws.specs.Names.{line_name}
+use Rattle.segment_laws.specs.Lines.{IsOf}
+use Rattle.unroll.specs.declared.lines.OfNumber.{OfNumber}
+use Rattle.unroll.specs.declared.lines.OfNumber.TheVariants as one
+
+-- which line a kind and a number make
+abbrev pub numbered_line : OfNumber → ℕ → Line
+numbered_line one.Base i = l.Base i
+numbered_line one.Step i = l.Step i
+numbered_line one.Operation p = l.Operation p
+
+-- an obligation of the line under the line's name
+pub record IsNamedOf (d : Parts) (set : Set) (line : Line) (named : Named) : Type 0 where
+  pub name : named.name ≡ line_name set line
+  pub of_line : IsOf d (meaning_of set) set line named.ob.nodes named.ob.root

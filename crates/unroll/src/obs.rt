@@ -1,0 +1,114 @@
+// The obligations of a design's lines.
+ghost use Rattle.std.specs.Prelude.{◌≡◌, IfOk};
+ghost use Rattle.std.specs.List.{AllZip};
+ghost use Rattle.binding.specs.Binding.{Fits};
+ghost use Rattle.segment_laws.specs.Tests.{line_test};
+ghost use Rattle.set_tree.specs.Formulas.{meaning_of};
+ghost use Rattle.set_tree.specs.Report.{design_lines};
+ghost use Rattle.twin_tests.specs.Building.{HasWidth, Tests};
+ghost use Rattle.twin_tests.specs.Framing.{SpeaksOf};
+ghost use Rattle.twin_tests.specs.Reading.{HasStructure};
+ghost use Rattle.unroll.specs.Named.{IsNamedOf};
+ghost use Rattle.unroll.specs.Unrolled.{AreSegments};
+ghost use Rattle.word_dag.specs.Adding.{Keeps};
+ghost use Rattle.word_design.specs.Designs.{IsDesign, Parts};
+
+use crate::line::{base_node, operation_node, reset_node, step_node};
+use crate::lines::lines_of;
+use crate::segment::{Segments, segments_of};
+use binding::Bound;
+use line_laws::line_name;
+use set_tree::{Line, Set};
+use std::alloc::{AllocError, Global};
+use twin_tests::{constant, property_of, rows_before};
+use word_dag::{Dag, Named, extract};
+
+// A line of the design as a node: 1 exactly at values whose segment violates it.
+fn line_node(
+    alloc: Global,
+    dag: &mut Dag,
+    set: &Set,
+    line: Line,
+    segments: &Segments,
+) -> Result<u64, AllocError>
+    requires structure { HasStructure set.now }
+    requires line { SpeaksOf set.now line }
+    requires segments { (d : Parts) × AreSegments d set.now dag.old segments.now }
+    ensures keeps { IfOk result (λ _. Keeps dag.old dag.new) }
+    ensures width { IfOk result (λ i. HasWidth dag.new i 1) }
+    ensures node { IfOk result (λ i. (d : Parts) → AreSegments d set.now dag.old segments.now → Tests dag.new i (line_test d (meaning_of set.now) set.now line)) }
+{
+    match line {
+        Line::Base(i) => {
+            let rows = rows_before(segments.after_reset.as_slice(), 1);
+            let node = base_node(alloc, dag, set, i, rows)?;
+            Ok(node)
+        }
+        Line::Step(i) => {
+            let rows = rows_before(segments.plain.as_slice(), 2);
+            let node = step_node(alloc, dag, set, i, rows)?;
+            Ok(node)
+        }
+        Line::Reset => {
+            let end = property_of(set, 0).window as usize;
+            let rows = rows_before(segments.after_reset.as_slice(), end + 1);
+            let node = reset_node(alloc, dag, set, rows)?;
+            Ok(node)
+        }
+        Line::Operation(p) => {
+            let end = property_of(set, p as usize).window as usize;
+            let rows = rows_before(segments.plain.as_slice(), end + 1);
+            let node = operation_node(alloc, dag, set, p as usize, rows)?;
+            Ok(node)
+        }
+        Line::End(_)
+        | Line::Split(_)
+        | Line::SameEnd(_)
+        | Line::Choose(_, _)
+        | Line::Hand(_, _)
+        | Line::Determine(_) => {
+            let node = constant(dag, false)?;
+            Ok(node)
+        }
+    }
+}
+
+// The obligation of a line, with the line's name.
+fn named_ob(
+    alloc: Global,
+    dag: &mut Dag,
+    set: &Set,
+    line: Line,
+    segments: &Segments,
+) -> Result<Named, AllocError>
+    requires structure { HasStructure set.now }
+    requires line { SpeaksOf set.now line }
+    requires segments { (d : Parts) × AreSegments d set.now dag.old segments.now }
+    ensures keeps { IfOk result (λ _. Keeps dag.old dag.new) }
+    ensures named { IfOk result (λ named. (d : Parts) → IsDesign d → Fits d set.now → AreSegments d set.now dag.old segments.now → IsNamedOf d set.now line named) }
+{
+    let root = line_node(alloc, dag, set, line, segments)?;
+    let ob = extract(alloc, dag, root)?;
+    let name = line_name(alloc, set, line)?;
+    Ok(Named { name, ob })
+}
+
+/// The obligations of the lines of a design, in the order of a report: for each line its name, and nodes whose root is 1 exactly at values
+/// whose segment violates the line. The free words are the registers' in a segment's first cycle and the inputs' in each of its cycles, the
+/// reset cycles among them; the reset is a constant. It is refused for want of memory alone.
+pub fn design_obs(alloc: Global, bound: &Bound) -> Result<Vec<Named>, AllocError>
+    ensures { IfOk result (λ obs. AllZip (IsNamedOf bound.now.design bound.now.set) (design_lines bound.now.set) obs.items) }
+{
+    // the nodes of a design fit
+    let _fit = bound.design().dag();
+    let set = bound.set().set();
+    let lines = lines_of(alloc, set)?;
+    let mut dag = Dag::new(alloc);
+    let segments = segments_of(alloc, &mut dag, bound)?;
+    let mut obs = Vec::with_capacity(alloc, lines.len())?;
+    for line in &lines {
+        let named = named_ob(alloc, &mut dag, set, *line, &segments)?;
+        obs.push(named)?;
+    }
+    Ok(obs)
+}
