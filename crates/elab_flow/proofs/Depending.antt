@@ -24,7 +24,7 @@ use Rattle.elab_drive.specs.Spots.{signal_name}
 use Rattle.elab_drive.specs.Wanting.{part_reads, left_reads}
 use Rattle.elab_drive.proofs.Lacks.{registers, register_name, name_register}
 use Rattle.elab_drive.proofs.Spots.{has_spot}
-use Rattle.elab_order.specs.Graphs.{graph_of, successors, IsGraph, Among as Contains}
+use Rattle.elab_order.specs.Graphs.{graph_of, successors, IsGraph, Among as Lists}
 use Rattle.elab_flow.specs.declared.edges.Edge.{Edge}
 use Rattle.elab_flow.specs.Asked.{CanPass}
 use Rattle.elab_flow.specs.Edges.{edge, part_place, part_places, pairs, assign_edges, AnyBlockEdge, AreDependences}
@@ -53,8 +53,8 @@ graph_long (r ∷ rows) = ap suc (graph_long rows)
 pub rows_long : (rows : List Row) (n : ℕ) → graph_of rows ≡ replicate n [] → length rows ≡ n
 rows_long rows n e = sym (graph_long rows) ∙ (ap length e ∙ length-replicate n [])
 
-pub no_edges : (rows : List Row) (n i j : ℕ) → graph_of rows ≡ replicate n [] → Contains (successors (graph_of rows) i) j → ⊥
-no_edges rows n i j e h = subst (λ z. Contains z j) (ap (λ g. successors g i) e ∙ empty_row n i) h
+pub no_edges : (rows : List Row) (n i j : ℕ) → graph_of rows ≡ replicate n [] → Lists (successors (graph_of rows) i) j → ⊥
+no_edges rows n i j e h = subst (λ z. Lists z j) (ap (λ g. successors g i) e ∙ empty_row n i) h
 
 -- ---- names that an assignment reads
 
@@ -140,9 +140,12 @@ module _ (m : Flat) (can : CanPass m) where
       there h =
           let r = among_flat (assign_edges names) m.assigns (edge i j) h in
           let a = r.0 in
-          let k = paired (part_places names (parts_of a.left)) (part_places names (left_reads a.left ++ reads_of a.right)) (edge i j) r.2 in
-          (a, r.1, subst (λ xs. Among xs y) (sym (parts_names a.left)) ((place_named (parts_of a.left) i y p).0 k.0),
-          swapped (flat_map names_in (numbers_in a.left)) (names_in a.right) z (subst (λ xs. Among xs z) (assign_names a) ((place_named (left_reads a.left ++ reads_of a.right) j z q).0 k.1)))
+          let k = paired (part_places names (parts_of a.left)) (part_places names (left_reads a.left ++ reads_of a.right)) (edge i j) r.2 in (
+            a,
+            r.1,
+            subst (λ xs. Among xs y) (sym (parts_names a.left)) ((place_named (parts_of a.left) i y p).0 k.0),
+            swapped (flat_map names_in (numbers_in a.left)) (names_in a.right) z (subst (λ xs. Among xs z) (assign_names a) ((place_named (left_reads a.left ++ reads_of a.right) j z q).0 k.1)),
+          )
 
       back : Assigned y z → Among (flat_map (assign_edges names) m.assigns) (edge i j)
       back (a, among, left, reads) =
@@ -194,7 +197,7 @@ module _ (m : Flat) (can : CanPass m) where
   -- ---- the graph
 
   module _ (barred : List Bool) (edges : List Edge) (rows : List Row) (marks : Marks gs barred (λ x. IsRegister m x)) (all : (e : Edge) → Among edges e ↔ IsEdge e)
-      (graph : (i j : ℕ) → Contains (successors (graph_of rows) i) j ↔ ((Has barred i → ⊥) × Among edges (edge i j))) where
+      (graph : (i j : ℕ) → Lists (successors (graph_of rows) i) j ↔ ((Has barred i → ⊥) × Among edges (edge i j))) where
     pub graph_depends : AreDependences m (graph_of rows)
     graph_depends i j y z p q = (
       λ h. let r = (graph i j).0 h in (edge_depends i j y z p q (λ k. r.0 ((marks i y p).1 k))).0 ((all (edge i j)).0 r.1),

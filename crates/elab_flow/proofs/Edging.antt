@@ -9,7 +9,7 @@ use Rattle.flat_laws.proofs.Lists.{among_append, append_left, append_right}
 use Rattle.flow_laws.specs.Flows.{block_flow}
 use Rattle.flow_laws.specs.Laws.{place_over}
 use Rattle.flow_laws.proofs.Walking.{passes_are_paths}
-use Rattle.elab_order.specs.Graphs.{graph_of, successors, Among as Contains}
+use Rattle.elab_order.specs.Graphs.{graph_of, successors, Among as Lists}
 use Rattle.elab_flow.specs.declared.edges.Edge.{Edge}
 use Rattle.elab_flow.specs.Edges.{edge, IsCell, IsCellBelow, IsBlockEdge, AnyBlockEdge}
 use Rattle.elab_flow.specs.Sets.{Tables, at, Has}
@@ -119,7 +119,7 @@ module _ (gs : List Signal) (ks : List Always) (i : ℕ) where
 abbrev Row : Type 0
 Row = Vec ℕ Global
 
-contains_append : (xs : List ℕ) (y z : ℕ) → Contains (xs ++ y ∷ []) z ↔ (Contains xs z ⊎ (y ≡ z))
+contains_append : (xs : List ℕ) (y z : ℕ) → Lists (xs ++ y ∷ []) z ↔ (Lists xs z ⊎ (y ≡ z))
 contains_append [] y z = (λ h. elim h [ inl f ↦ inr f | inr f ↦ absurd f ], λ h. elim h [ inl f ↦ absurd f | inr f ↦ inl f ])
 contains_append (x ∷ xs) y z =
     let r = contains_append xs y z in (
@@ -144,13 +144,13 @@ row_there [] k d lt = absurd (omega arith)
 row_there (r ∷ rows) zero d lt = refl
 row_there (r ∷ rows) (suc k) d lt = row_there rows k d (omega arith)
 
-pub edge_put : (rows : List Row) (k to : ℕ) (old row d : Row) → k < length rows → old ≡ get_or rows k d → row.items ≡ old.items ++ to ∷ [] → (i j : ℕ) → Contains (successors (graph_of (set rows k row)) i) j
-    ↔ (Contains (successors (graph_of rows) i) j ⊎ ((k ≡ i) × (to ≡ j)))
+pub edge_put : (rows : List Row) (k to : ℕ) (old row d : Row) → k < length rows → old ≡ get_or rows k d → row.items ≡ old.items ++ to ∷ [] → (i j : ℕ) → Lists (successors (graph_of (set rows k row)) i) j
+    ↔ (Lists (successors (graph_of rows) i) j ⊎ ((k ≡ i) × (to ≡ j)))
 edge_put rows k to old row d lt is put i j = elim (cases_eq k i) [
-  | inl e ↦ subst (λ m. Contains (successors (graph_of (set rows k row)) m) j ↔ (Contains (successors (graph_of rows) m) j ⊎ ((k ≡ m) × (to ≡ j)))) e here
+  | inl e ↦ subst (λ m. Lists (successors (graph_of (set rows k row)) m) j ↔ (Lists (successors (graph_of rows) m) j ⊎ ((k ≡ m) × (to ≡ j)))) e here
   | inr ne ↦ (
       let same = put_apart rows k i row ne in
-      (λ h. inl (subst (λ z. Contains z j) same h), λ h. elim h [ inl f ↦ subst (λ z. Contains z j) (sym same) f | inr f ↦ absurd (ne f.0) ])
+      (λ h. inl (subst (λ z. Lists z j) same h), λ h. elim h [ inl f ↦ subst (λ z. Lists z j) (sym same) f | inr f ↦ absurd (ne f.0) ])
       )
 ]
   where
@@ -160,9 +160,9 @@ edge_put rows k to old row d lt is put i j = elim (cases_eq k i) [
     now : successors (graph_of (set rows k row)) k ≡ successors (graph_of rows) k ++ to ∷ []
     now = put_here rows k row lt ∙ (put ∙ ap (λ xs. xs ++ to ∷ []) (sym was))
 
-    here : Contains (successors (graph_of (set rows k row)) k) j ↔ (Contains (successors (graph_of rows) k) j ⊎ ((k ≡ k) × (to ≡ j)))
+    here : Lists (successors (graph_of (set rows k row)) k) j ↔ (Lists (successors (graph_of rows) k) j ⊎ ((k ≡ k) × (to ≡ j)))
     here =
         let r = contains_append (successors (graph_of rows) k) to j in (
-          λ h. elim (r.0 (subst (λ z. Contains z j) now h)) [ inl f ↦ inl f | inr f ↦ inr (refl, f) ],
-          λ h. subst (λ z. Contains z j) (sym now) (r.1 (elim h [ inl f ↦ inl f | inr f ↦ inr f.1 ])),
+          λ h. elim (r.0 (subst (λ z. Lists z j) now h)) [ inl f ↦ inl f | inr f ↦ inr (refl, f) ],
+          λ h. subst (λ z. Lists z j) (sym now) (r.1 (elim h [ inl f ↦ inl f | inr f ↦ inr f.1 ])),
         )

@@ -201,7 +201,6 @@ module _ (m : Flat) (gs : List Signal) (ks : List Always) (e : gs ≡ m.signals)
   pub none_there : (Q : List Signal → Always → Name → Type 0) → ((x : Name) → AnyBlock gs (Q gs) ks x → ⊥) → (x : Name) → AnyBlock m.signals (Q m.signals) m.blocks x → ⊥
   none_there Q h x q = h x (subst (λ z. AnyBlock z (Q z) ks x) (sym e) (subst (λ z. AnyBlock m.signals (Q m.signals) z x) (sym f) q))
 
-
 pub misses_bit : (m : Flat) (x : Name) → AnyMisses m.signals m.blocks x → MissesBit m x
 misses_bit m x (k, a, (c, (b, lt, d, u))) =
     record { block = k; combinational = (a, c); bit = b; left = d.0; within = lt; is_left = d.1; drives = d.2; steps = u.0; path = u.1; unset = u.2 }

@@ -14,7 +14,7 @@ use Rattle.flow_laws.specs.Laws.{place_over}
 use Rattle.elab_drive.specs.Parts.{reads_of}
 use Rattle.elab_drive.specs.Claims.{part_name}
 use Rattle.elab_drive.specs.Wanting.{left_reads}
-use Rattle.elab_order.specs.Graphs.{successors, Among as Contains}
+use Rattle.elab_order.specs.Graphs.{successors, Among as Lists}
 use Rattle.elab_flow.specs.declared.edges.Edge.{Edge}
 use Rattle.elab_flow.specs.Sets.{Has}
 use Rattle.elab_flow.specs.Shows.{IsAt}
@@ -39,7 +39,7 @@ assign_edges names a = pairs (part_places names (parts_of a.left)) (part_places 
 
 -- the edges of the places of signals are the dependences of their names
 abbrev pub AreDependences : Flat → List (List ℕ) → Type 0
-AreDependences f g = (i j : ℕ) (y z : Name) → IsAt f.signals i y → IsAt f.signals j z → Contains (successors g i) j ↔ DependsOn f y z
+AreDependences f g = (i j : ℕ) (y z : Name) → IsAt f.signals i y → IsAt f.signals j z → Lists (successors g i) j ↔ DependsOn f y z
 
 -- the cells of a row of a table of n columns, and those of all rows
 abbrev pub IsCell : ℕ → ℕ → List Bool → Edge → Type 0

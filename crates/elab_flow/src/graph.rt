@@ -3,7 +3,7 @@
 ghost use Rattle.std.specs.Prelude.{◌≡◌, ◌<◌, ◌⊎◌, ◌↔◌, ℕ, [], length, replicate, IfOk, OnOk};
 ghost use Rattle.vlog_runs.specs.Places.{Among};
 ghost use Rattle.vlog_runs.specs.Cycles.{IsRegister};
-ghost use Rattle.elab_order.specs.Graphs.{graph_of, successors, IsGraph, Among as Contains};
+ghost use Rattle.elab_order.specs.Graphs.{graph_of, successors, IsGraph, Among as Lists};
 ghost use Rattle.elab_flow.specs.Asked.{CanPass};
 ghost use Rattle.elab_flow.specs.Edges.{edge, AreDependences};
 ghost use Rattle.elab_flow.specs.declared.edges.Edge.{Edge as Arrow};
@@ -31,22 +31,18 @@ fn empty_rows(alloc: Global, count: usize) -> Result<Vec<Vec<usize>>, AllocError
 fn add_edge(graph: &mut Vec<Vec<usize>>, edge: Edge) -> Result<(), AllocError>
     requires { edge.from < length graph.old.items }
     ensures size { OnOk result (length graph.new.items ≡ length graph.old.items) }
-    ensures edges { OnOk result ((i j : ℕ) → Contains (successors (graph_of graph.new.items) i) j
-        ↔ (Contains (successors (graph_of graph.old.items) i) j ⊎ ((edge.from ≡ i) × (edge.to ≡ j)))) }
+    ensures edges { OnOk result ((i j : ℕ) → Lists (successors (graph_of graph.new.items) i) j
+        ↔ (Lists (successors (graph_of graph.old.items) i) j ⊎ ((edge.from ≡ i) × (edge.to ≡ j)))) }
 {
     graph[edge.from].push(edge.to)?;
     Ok(())
 }
 
 // The graph of edges, without those from the places of a set.
-fn graph_from(
-    alloc: Global,
-    barred: &[bool],
-    edges: &[Edge],
-) -> Result<Vec<Vec<usize>>, AllocError>
+fn graph_from(alloc: Global, barred: &[bool], edges: &[Edge]) -> Result<Vec<Vec<usize>>, AllocError>
     requires { (e : Arrow) → Among edges.now e → e.from < length barred.now }
     ensures size { IfOk result (λ r. length r.items ≡ length barred.now) }
-    ensures edges { IfOk result (λ r. (i j : ℕ) → Contains (successors (graph_of r.items) i) j ↔ ((Has barred.now i → ⊥) × Among edges.now (edge i j))) }
+    ensures edges { IfOk result (λ r. (i j : ℕ) → Lists (successors (graph_of r.items) i) j ↔ ((Has barred.now i → ⊥) × Among edges.now (edge i j))) }
 {
     let mut graph = empty_rows(alloc, barred.len())?;
     for edge in edges {

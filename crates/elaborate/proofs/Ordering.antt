@@ -11,7 +11,7 @@ use Rattle.vlog_runs.specs.Cycles.{IsRegister, IsInput}
 use Rattle.flat_laws.proofs.Lists.{among_append, append_left, append_right, among_flat, flat_among, among_map, map_among}
 use Rattle.elab_faults.specs.Drivers.{DependsOn, IsChain}
 use Rattle.elab_drive.proofs.Naming.{among_of, of_among}
-use Rattle.elab_order.specs.Graphs.{successors, IsGraph, IsOrder, IsCycle, IsPathTo, AreAfter, Among as Contains, AreDistinct as AreApart}
+use Rattle.elab_order.specs.Graphs.{successors, IsGraph, IsOrder, IsCycle, IsPathTo, AreAfter, Among as Lists, AreDistinct as AreApart}
 use Rattle.elab_flow.specs.Edges.{AreDependences}
 use Rattle.elab_flow.specs.Shows.{IsAt}
 use Rattle.elab_step.specs.Asked.{CanElaborate}
@@ -53,7 +53,7 @@ place_for (h ∷ gs) g m = ⊎_elim (λ e. (0, omega arith, ap (λ (z : Signal).
 
 -- ---- places without a flag
 
-kept_among : (ts : List Bool) (vs : List ℕ) (v : ℕ) → Among (unflagged ts vs) v → Contains vs v × (get_or ts v true ≡ false)
+kept_among : (ts : List Bool) (vs : List ℕ) (v : ℕ) → Among (unflagged ts vs) v → Lists vs v × (get_or ts v true ≡ false)
 kept_among ts [] v m = absurd m
 kept_among ts (w ∷ vs) v m =
     ⊎_elim
@@ -65,7 +65,7 @@ kept_among ts (w ∷ vs) v m =
     ⊎_elim (λ (q : w ≡ v). (inl q, subst (λ z. get_or ts z true ≡ false) q e)) (λ u. let r = kept_among ts vs v u in (inr r.0, r.1)) n)
     (bool_cases (get_or ts w true))
 
-among_kept : (ts : List Bool) (vs : List ℕ) (v : ℕ) → Contains vs v → get_or ts v true ≡ false → Among (unflagged ts vs) v
+among_kept : (ts : List Bool) (vs : List ℕ) (v : ℕ) → Lists vs v → get_or ts v true ≡ false → Among (unflagged ts vs) v
 among_kept ts [] v m e = absurd m
 among_kept ts (w ∷ vs) v m e =
     ⊎_elim
@@ -84,7 +84,7 @@ unflagged_next ts vs i v old new whole cut made h =
     by true = refl
     by false = refl
 
-pub contains_at : (vs : List ℕ) (i u : ℕ) → i < length vs → Contains vs (get_or vs i u)
+pub contains_at : (vs : List ℕ) (i u : ℕ) → i < length vs → Lists vs (get_or vs i u)
 contains_at [] i u l = absurd (omega arith)
 contains_at (v ∷ vs) zero u l = inl refl
 contains_at (v ∷ vs) (suc i) u l = inr (contains_at vs i u (omega arith))
@@ -104,30 +104,30 @@ module _ (f : Flat) (can : CanElaborate f) (g : List (List ℕ)) (long : length 
   abbrev ts : List Bool
   ts = flags_among (source_names f) gs
 
-  edge : (v w : ℕ) → v < length gs → w < length gs → DependsOn f (name_of gs v) (name_of gs w) → Contains (successors g v) w
+  edge : (v w : ℕ) → v < length gs → w < length gs → DependsOn f (name_of gs v) (name_of gs w) → Lists (successors g v) w
   edge v w l m h = (depends v w (name_of gs v) (name_of gs w) (at_name gs v l) (at_name gs w m)).1 h
 
-  is_edge : (v w : ℕ) → v < length gs → w < length gs → Contains (successors g v) w → DependsOn f (name_of gs v) (name_of gs w)
+  is_edge : (v w : ℕ) → v < length gs → w < length gs → Lists (successors g v) w → DependsOn f (name_of gs v) (name_of gs w)
   is_edge v w l m h = (depends v w (name_of gs v) (name_of gs w) (at_name gs v l) (at_name gs w m)).0 h
 
   -- ---- the order
 
-  names_kept : (vs : List ℕ) (z : Name) → Among (names_of gs (unflagged ts vs)) z → (w : ℕ) × Contains vs w × (name_of gs w ≡ z)
+  names_kept : (vs : List ℕ) (z : Name) → Among (names_of gs (unflagged ts vs)) z → (w : ℕ) × Lists vs w × (name_of gs w ≡ z)
   names_kept vs z m = let r = among_map (name_of gs) (unflagged ts vs) z m in (r.0, (kept_among ts vs r.0 r.1).0, r.2)
 
-  ordered : (earlier vs : List ℕ) → ((w : ℕ) → Contains vs w → w < length gs) → AreApart vs → ((w : ℕ) → Contains earlier w → Contains vs w → ⊥) → AreAfter g earlier vs → Ordered (DependsOn f) (names_of gs (unflagged ts vs))
+  ordered : (earlier vs : List ℕ) → ((w : ℕ) → Lists vs w → w < length gs) → AreApart vs → ((w : ℕ) → Lists earlier w → Lists vs w → ⊥) → AreAfter g earlier vs → Ordered (DependsOn f) (names_of gs (unflagged ts vs))
   ordered earlier [] within once apart after = tt
   ordered earlier (v ∷ vs) within once apart after =
-      let rest = ordered (v ∷ earlier) vs (λ w m. within w (inr m)) once.1 (λ w m n. ⊎_elim (λ (e : v ≡ w). once.0 (subst (λ z. Contains vs z) (sym e) n)) (λ k. apart w k (inr n)) m) after.1 in
+      let rest = ordered (v ∷ earlier) vs (λ w m. within w (inr m)) once.1 (λ w m n. ⊎_elim (λ (e : v ≡ w). once.0 (subst (λ z. Lists vs z) (sym e) n)) (λ k. apart w k (inr n)) m) after.1 in
       let l = within v (inl refl) in
       put (get_or ts v true) rest (
         λ z h m.
-            let w : (w : ℕ) × Contains (v ∷ vs) w × (name_of gs w ≡ z) = ⊎_elim (λ (e : name_of gs v ≡ z). (v, inl refl, e)) (λ n. let r = names_kept vs z n in (r.0, inr r.1, r.2)) m in
+            let w : (w : ℕ) × Lists (v ∷ vs) w × (name_of gs w ≡ z) = ⊎_elim (λ (e : name_of gs v ≡ z). (v, inl refl, e)) (λ n. let r = names_kept vs z n in (r.0, inr r.1, r.2)) m in
             apart w.0 (after.0 w.0 (edge v w.0 l (within w.0 w.1) (subst (λ y. DependsOn f (name_of gs v) y) (sym w.2) h))) w.1,
         λ m.
             let r = names_kept vs (name_of gs v) m in
             let same : r.0 ≡ v = same_place gs r.0 v can.distinct (within r.0 (inr r.1)) l r.2 in
-            once.0 (subst (λ z. Contains vs z) same r.1),
+            once.0 (subst (λ z. Lists vs z) same r.1),
       )
     where
       put : (b : Bool) → Ordered (DependsOn f) (names_of gs (unflagged ts vs)) → (((z : Name) → DependsOn f (name_of gs v) z → Among (name_of gs v ∷ names_of gs (unflagged ts vs)) z → ⊥) × (Among (names_of gs (unflagged ts vs)) (name_of gs v) → ⊥))
@@ -183,7 +183,7 @@ module _ (f : Flat) (can : CanElaborate f) (g : List (List ℕ)) (long : length 
         (bool_cases (is_among (source_names f) s.name));
   }
     where
-      within : (w : ℕ) → Contains vs w → w < length gs
+      within : (w : ℕ) → Lists vs w → w < length gs
       within w m = let l = is.vertices w m in omega (arith, l, long)
 
   pub nets_within : (vs : List ℕ) → IsOrder g vs → (i : ℕ) → Among (unflagged ts vs) i → i < length gs
@@ -191,12 +191,12 @@ module _ (f : Flat) (can : CanElaborate f) (g : List (List ℕ)) (long : length 
 
   -- ---- a cycle
 
-  has_edge : (h : List (List ℕ)) (v w : ℕ) → Contains (successors h v) w → v < length h
+  has_edge : (h : List (List ℕ)) (v w : ℕ) → Lists (successors h v) w → v < length h
   has_edge [] v w m = absurd m
   has_edge (xs ∷ h) zero w m = omega arith
   has_edge (xs ∷ h) (suc v) w m = let r = has_edge h v w m in omega (arith, r)
 
-  depends_at : (v w : ℕ) → Contains (successors g v) w → DependsOn f (name_of gs v) (name_of gs w)
+  depends_at : (v w : ℕ) → Lists (successors g v) w → DependsOn f (name_of gs v) (name_of gs w)
   depends_at v w m = let l = has_edge g v w m in let r = graph v w m in is_edge v w (omega (arith, l, long)) (omega (arith, r, long)) m
 
   chain : (v : ℕ) (vs : List ℕ) (t : ℕ) → IsPathTo g (v ∷ vs) t → IsChain f (name_of gs v) (names_of gs vs) (name_of gs t)

@@ -7,7 +7,7 @@ ghost use Rattle.word_design.specs.Designs.{HasRunsOf};
 ghost use Rattle.flat_scopes.specs.Borrowed.{name_meant};
 ghost use Rattle.elab_faults.specs.declared.fault.ElabFault.TheVariants as f;
 ghost use Rattle.elab_faults.specs.Stands.{Stands};
-ghost use Rattle.elab_order.specs.Graphs.{graph_of, IsGraph, Among as Contains};
+ghost use Rattle.elab_order.specs.Graphs.{graph_of, IsGraph, Among as Lists};
 ghost use Rattle.elab_flow.specs.Edges.{AreDependences};
 ghost use Rattle.elab_step.specs.Asked.{CanElaborate, IsFaultless};
 ghost use Rattle.elab_step.specs.Boards.{name_of};
@@ -60,7 +60,7 @@ fn add_unflagged(all: &mut Vec<usize>, flag: bool, place: usize) -> Result<(), A
 
 // The places without a flag.
 fn unflagged(alloc: Global, flags: &[bool], places: &[usize]) -> Result<Vec<usize>, AllocError>
-    requires { (i : ℕ) → Contains places.now i → i < length flags.now }
+    requires { (i : ℕ) → Lists places.now i → i < length flags.now }
     ensures { IfOk result (λ r. r.items ≡ unflagged flags.now places.now) }
 {
     let mut all = Vec::new(alloc);

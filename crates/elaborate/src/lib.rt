@@ -9,6 +9,6 @@ mod ordered;
 mod parts;
 mod places;
 
-pub use judge::elaborate;
 pub use graph::design_by_graph;
+pub use judge::elaborate;
 pub use ordered::design_in_order;

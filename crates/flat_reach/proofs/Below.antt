@@ -57,7 +57,7 @@ module _ (t : List Link) (ds : List Given) where
   to [] x y e = cc
   to (z ∷ zs) x y e = elim (cases_Bool (bytes_eq z x)) [
     | inl q ↦ (let s = same_name z x q in
-    ⊎_elim (λ h. (inl s, ap (λ n. reached t (given_at ds n)) (sym s) ∙ h)) (λ m. let r = to zs x y m in (inr r.0, r.1)) (split z (reached t (given_at ds z)) (links t ds zs) x y q e))
+        ⊎_elim (λ h. (inl s, ap (λ n. reached t (given_at ds n)) (sym s) ∙ h)) (λ m. let r = to zs x y m in (inr r.0, r.1)) (split z (reached t (given_at ds z)) (links t ds zs) x y q e))
     | inr n ↦ (let r = to zs x y (sym (skip z (reached t (given_at ds z)) (links t ds zs) x n) ∙ e) in (inr r.0, r.1))
   ]
 

@@ -1,6 +1,6 @@
 use Rattle.std.proofs.Common.{◌≡◌, ℕ, ◌⊎◌, ◌↔◌, length, drop}
 use Rattle.vlog_runs.specs.Places.{Among}
-use Rattle.elab_order.specs.Graphs.{graph_of, successors, Among as Contains}
+use Rattle.elab_order.specs.Graphs.{graph_of, successors, Among as Lists}
 use Rattle.elab_flow.specs.Edges.{edge}
 use Rattle.elab_flow.specs.Sets.{Has}
 use Rattle.elab_flow.proofs.graph.graph_from.Given as goal
@@ -8,5 +8,5 @@ use Rattle.elab_flow.proofs.graph.graph_from.Given as goal
 abbrev pub invariant-loop-edge : goal.invariant-loop-edge
 invariant-loop-edge l = record {
   size : length l.graph.items ≡ length l.barred;
-  edges : (i j : ℕ) → (Contains (successors (graph_of l.graph.items) i) j ⊎ ((Has l.barred i → ⊥) × Among (drop l.edge-index l.edges) (edge i j))) ↔ ((Has l.barred i → ⊥) × Among l.edges (edge i j));
+  edges : (i j : ℕ) → (Lists (successors (graph_of l.graph.items) i) j ⊎ ((Has l.barred i → ⊥) × Among (drop l.edge-index l.edges) (edge i j))) ↔ ((Has l.barred i → ⊥) × Among l.edges (edge i j));
 }

@@ -15,9 +15,9 @@ pub returns-then-not-holds : goal.returns-then-not-holds
 returns-then-not-holds c = (
   λ z. let w : false ≡ true = z in cc,
   λ h.
-  let lt : c.loop-i.i < length c.args.cycles.now = omega arith in
-  sym c.if-not-holds.true
-  ∙ c.in_ok-holds.ensures.1 (subst (IsCycle c.args.flat.now) (sym (row_is c.args.flat.now.signals c.args.cycles.now c.loop-i.i c.index-cycles-i.result c.as_slice.result.now lt c.index-cycles-i.is c.as_slice.ensures)) (h c.loop-i.i lt)),
+      let lt : c.loop-i.i < length c.args.cycles.now = omega arith in
+      sym c.if-not-holds.true
+      ∙ c.in_ok-holds.ensures.1 (subst (IsCycle c.args.flat.now) (sym (row_is c.args.flat.now.signals c.args.cycles.now c.loop-i.i c.index-cycles-i.result c.as_slice.result.now lt c.index-cycles-i.is c.as_slice.ensures)) (h c.loop-i.i lt)),
 )
 
 pub loop-i-preserved : goal.loop-i-preserved

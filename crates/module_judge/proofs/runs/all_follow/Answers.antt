@@ -9,17 +9,17 @@ pub returns-then-not-holds : goal.returns-then-not-holds
 returns-then-not-holds c = (
   λ z. let w : false ≡ true = z in cc,
   λ h.
-  let f = c.args.flat.now in
-  let rows = c.args.cycles.now in
-  let i = c.loop-i.i in
-  let one = c.loop-i.invariant.0 in
-  let n : i ≡ (i - 1) + 1 = omega (arith, one) in
-  let lt : i < length rows = omega arith in
-  let before = row_is f.signals rows (i - 1) c.index-cycles-i.result c.as_slice.result.now (omega (arith, lt)) c.index-cycles-i.is c.as_slice.ensures in
-  let now = row_is f.signals rows i c.index-cycles-i-in-loop-i.result c.as_slice-in-loop-i.result.now lt c.index-cycles-i-in-loop-i.is c.as_slice-in-loop-i.ensures ∙ ap (cycle_at f.signals rows) n in
-  let two : Follows f (held f.signals c.as_slice.result.now) (held f.signals c.as_slice-in-loop-i.result.now) =
-  subst (λ z. Follows f z (held f.signals c.as_slice-in-loop-i.result.now)) (sym before) (subst (λ z. Follows f (cycle_at f.signals rows (i - 1)) z) (sym now) (h (i - 1) (omega (arith, one, lt)))) in
-  sym c.if-not-holds.true ∙ c.in_ok-holds.ensures.1 two,
+      let f = c.args.flat.now in
+      let rows = c.args.cycles.now in
+      let i = c.loop-i.i in
+      let one = c.loop-i.invariant.0 in
+      let n : i ≡ (i - 1) + 1 = omega (arith, one) in
+      let lt : i < length rows = omega arith in
+      let before = row_is f.signals rows (i - 1) c.index-cycles-i.result c.as_slice.result.now (omega (arith, lt)) c.index-cycles-i.is c.as_slice.ensures in
+      let now = row_is f.signals rows i c.index-cycles-i-in-loop-i.result c.as_slice-in-loop-i.result.now lt c.index-cycles-i-in-loop-i.is c.as_slice-in-loop-i.ensures ∙ ap (cycle_at f.signals rows) n in
+      let two : Follows f (held f.signals c.as_slice.result.now) (held f.signals c.as_slice-in-loop-i.result.now) =
+      subst (λ z. Follows f z (held f.signals c.as_slice-in-loop-i.result.now)) (sym before) (subst (λ z. Follows f (cycle_at f.signals rows (i - 1)) z) (sym now) (h (i - 1) (omega (arith, one, lt)))) in
+      sym c.if-not-holds.true ∙ c.in_ok-holds.ensures.1 two,
 )
 
 pub loop-i-preserved : goal.loop-i-preserved
