@@ -1,8 +1,8 @@
 -- The inputs of one bit, and the table of the top.
-use Rattle.std.proofs.Common.{◌≡◌, ℕ, ◌⊎◌, inl, inr, ⊎_elim, Bool, true, false, ◌&&◌, ◌||◌, List, [], ◌∷◌, map, filter, Option, Some, None, Bor, refl, sym, ap, subst, ◌∙◌, if◌then◌else◌}
-use Rattle.std.specs.Prelude.{◌↔◌, nat_eq}
-use Rattle.std.specs.Option.{option_map, option_copied}
-use Rattle.std.specs.List.{find, slice_get}
+use Rattle.std.proofs.Common.{◌≡◌, ◌⊎◌, inl, inr, ⊎_elim, Bool, true, false, ◌&&◌, ◌||◌, List, [], ◌∷◌, map, filter, Option, Some, refl, sym, ap, subst, ◌∙◌}
+use Rattle.std.specs.Prelude.{nat_eq}
+use Rattle.std.specs.Option.{option_map}
+use Rattle.std.specs.List.{find}
 use Rattle.std.specs.Str.{bytes_eq}
 use Rattle.std.proofs.lemmas.Bool.{cases_Bool, eqb-true, eq-eqb}
 use Rattle.std.proofs.lemmas.Slice.Eq.{bytes_eq-Decides}
@@ -11,7 +11,7 @@ use Rattle.vlog_runs.specs.Places.{Name, Among}
 use Rattle.vlog_runs.specs.Contents.{Decl, is_among, joined, once, decls_in, signals_in}
 use Rattle.vlog_runs.specs.Scopes.{Scope, scope_at, decl_at, width_in}
 use Rattle.flat_laws.proofs.Lists.{among_map, map_among}
-use Rattle.flat_faults.specs.Clocks.{IsBitInput, Reaches}
+use Rattle.flat_faults.specs.Clocks.{IsBitInput}
 use Rattle.flat_scopes.specs.Finding.{decl_name}
 use Rattle.flat_names.proofs.Ports.{filter_has, has_filter}
 use Rattle.flat_names.proofs.Seconds.{among_at}
@@ -35,7 +35,7 @@ not_done all done [] d a = absurd a
 not_done all done (e ∷ ds) d a = elim (cases_Bool (is_among done e.name)) [
   | inl y ↦ not_done all done ds d (rw y at a)
   | inr n ↦ (let b : (joined all e ≡ d) ⊎ Among (once all (e.name ∷ done) ds) d = rw n at a in
-  ⊎_elim (λ s. ap (λ (z : Decl). is_among done z.name) (sym s) ∙ n) (λ m. (or_false (bytes_eq e.name d.name) (is_among done d.name) (not_done all (e.name ∷ done) ds d m)).1) b)
+      ⊎_elim (λ s. ap (λ (z : Decl). is_among done z.name) (sym s) ∙ n) (λ m. (or_false (bytes_eq e.name d.name) (is_among done d.name) (not_done all (e.name ∷ done) ds d m)).1) b)
 ]
 
 found_once : (all : List Decl) (done : List Name) (ds : List Decl) (d : Decl) → Among (once all done ds) d → decl_at (once all done ds) d.name ≡ Some d
@@ -43,8 +43,8 @@ found_once all done [] d a = absurd a
 found_once all done (e ∷ ds) d a = elim (cases_Bool (is_among done e.name)) [
   | inl y ↦ rw y (found_once all done ds d (rw y at a))
   | inr n ↦ (let b : (joined all e ≡ d) ⊎ Among (once all (e.name ∷ done) ds) d = rw n at a in
-  rw n (⊎_elim (λ s. head_found (joined all e) d (once all (e.name ∷ done) ds) s)
-  (λ m. later_found (joined all e) d (once all (e.name ∷ done) ds) (or_false (bytes_eq e.name d.name) (is_among done d.name) (not_done all (e.name ∷ done) ds d m)).0 (found_once all (e.name ∷ done) ds d m)) b))
+      rw n (⊎_elim (λ s. head_found (joined all e) d (once all (e.name ∷ done) ds) s)
+      (λ m. later_found (joined all e) d (once all (e.name ∷ done) ds) (or_false (bytes_eq e.name d.name) (is_among done d.name) (not_done all (e.name ∷ done) ds d m)).0 (found_once all (e.name ∷ done) ds d m)) b))
 ]
   where
     head_found : (h d : Decl) (rest : List Decl) → h ≡ d → decl_at (h ∷ rest) d.name ≡ Some d
@@ -107,10 +107,10 @@ pub top_is : (s : Scope) (t : List Link) → t ≡ map itself (bit_inputs s) →
 top_is s t is ms top at = λ x y. (
   λ e. (let r = itself_at (bit_inputs s) x y (ap (λ z. input_at z x) (sym is) ∙ e) in (r.0, s, at, is_bit s x r.1)),
   λ h. (
-    let same : Some s ≡ Some h.1 = sym at ∙ h.2 in
-    let one : s ≡ h.1 = cc in
-    ap (λ z. input_at z x) is ∙ (at_itself (bit_inputs s) x (bit_is s x (subst (λ z. IsBitInput z x) (sym one) h.3)) ∙ ap Some h.0)
-  ),
+      let same : Some s ≡ Some h.1 = sym at ∙ h.2 in
+      let one : s ≡ h.1 = cc in
+      ap (λ z. input_at z x) is ∙ (at_itself (bit_inputs s) x (bit_is s x (subst (λ z. IsBitInput z x) (sym one) h.3)) ∙ ap Some h.0)
+      ),
 )
 
 -- ---- what is found by its name
