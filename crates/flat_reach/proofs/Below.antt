@@ -1,6 +1,6 @@
 -- The table of an instance.
-use Rattle.std.proofs.Common.{◌≡◌, ℕ, ◌+◌, ◌<◌, length, drop, get_or, map, Bor, ◌⊎◌, inl, inr, ⊎_elim, Bool, true, false, List, [], ◌∷◌, ◌++◌, Option, Some, None, refl, sym, ap, subst, ◌∙◌, if◌then◌else◌}
-use Rattle.std.specs.Prelude.{◌↔◌, nat_eq, reverse}
+use Rattle.std.proofs.Common.{◌≡◌, ℕ, ◌+◌, ◌<◌, length, drop, get_or, map, Bor, ◌⊎◌, inl, inr, ⊎_elim, true, false, List, [], ◌∷◌, ◌++◌, Option, Some, None, refl, sym, ap, subst, ◌∙◌}
+use Rattle.std.specs.Prelude.{nat_eq, reverse}
 use Rattle.std.specs.Str.{bytes_eq}
 use Rattle.std.proofs.lemmas.Bool.{cases_Bool, eqb-true}
 use Rattle.std.proofs.lemmas.Slice.Eq.{bytes_eq-Decides}
@@ -13,7 +13,7 @@ use Rattle.vlog_runs.specs.Places.{Name, Among, read}
 use Rattle.vlog_runs.specs.Contents.{Inner, instances_in, port_names}
 use Rattle.vlog_runs.specs.Scopes.{Scope, scope_at, instance_at, child, Given, given_at, given_to}
 use Rattle.flat_faults.specs.Clocks.{IsBitInput, Reaches}
-use Rattle.flat_reach.specs.Tables.{Link, input_at, bit_inputs, reached_name, reached, link_of, links, link_meant, IsTable, IsTableBelow}
+use Rattle.flat_reach.specs.Tables.{Link, input_at, bit_inputs, reached, link_of, links, link_meant, IsTable, IsTableBelow}
 use Rattle.flat_laws.proofs.Lists.{map_append}
 use Rattle.flat_scopes.specs.Borrowed.{name_meant}
 use Rattle.flat_names.proofs.Searches.{rest_is}

@@ -1,8 +1,8 @@
 -- The inputs of one bit, and the table of the top.
-use Rattle.std.proofs.Common.{◌≡◌, ℕ, ◌⊎◌, inl, inr, ⊎_elim, Bool, true, false, ◌&&◌, ◌||◌, List, [], ◌∷◌, map, filter, Option, Some, None, Bor, refl, sym, ap, subst, ◌∙◌, if◌then◌else◌}
-use Rattle.std.specs.Prelude.{◌↔◌, nat_eq}
-use Rattle.std.specs.Option.{option_map, option_copied}
-use Rattle.std.specs.List.{find, slice_get}
+use Rattle.std.proofs.Common.{◌≡◌, ◌⊎◌, inl, inr, ⊎_elim, Bool, true, false, ◌&&◌, ◌||◌, List, [], ◌∷◌, map, filter, Option, Some, refl, sym, ap, subst, ◌∙◌}
+use Rattle.std.specs.Prelude.{nat_eq}
+use Rattle.std.specs.Option.{option_map}
+use Rattle.std.specs.List.{find}
 use Rattle.std.specs.Str.{bytes_eq}
 use Rattle.std.proofs.lemmas.Bool.{cases_Bool, eqb-true, eq-eqb}
 use Rattle.std.proofs.lemmas.Slice.Eq.{bytes_eq-Decides}
@@ -11,7 +11,7 @@ use Rattle.vlog_runs.specs.Places.{Name, Among}
 use Rattle.vlog_runs.specs.Contents.{Decl, is_among, joined, once, decls_in, signals_in}
 use Rattle.vlog_runs.specs.Scopes.{Scope, scope_at, decl_at, width_in}
 use Rattle.flat_laws.proofs.Lists.{among_map, map_among}
-use Rattle.flat_faults.specs.Clocks.{IsBitInput, Reaches}
+use Rattle.flat_faults.specs.Clocks.{IsBitInput}
 use Rattle.flat_scopes.specs.Finding.{decl_name}
 use Rattle.flat_names.proofs.Ports.{filter_has, has_filter}
 use Rattle.flat_names.proofs.Seconds.{among_at}

@@ -1,7 +1,7 @@
 use Rattle.std.proofs.Common.{map, refl, ap, ◌∙◌}
 use Rattle.std.specs.Option.{option_copied}
 use Rattle.flat_scopes.specs.Borrowed.{given_meant}
-use Rattle.flat_reach.specs.Tables.{link_meant, reached, links}
+use Rattle.flat_reach.specs.Tables.{link_meant, reached}
 use Rattle.flat_reach.proofs.Below.{put_link, no_link}
 use Rattle.flat_reach.proofs.table.links.Goals.{in-Some+in_ok-push, in_default}
 use Rattle.flat_reach.proofs.table.links.Goals as goal
