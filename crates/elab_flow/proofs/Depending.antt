@@ -1,5 +1,5 @@
 -- Edges of places as dependences of names.
-use Rattle.std.proofs.Common.{◌≡◌, ℕ, zero, suc, ◌+◌, ◌≤◌, ◌<◌, ◌⊎◌, ◌↔◌, inl, inr, Bool, false, List, [], ◌∷◌, ◌++◌, map, length, replicate, Some, None, Option, Vec, Global, arith, refl, sym, ap, ◌∙◌, subst}
+use Rattle.std.proofs.Common.{◌≡◌, ℕ, zero, suc, ◌≤◌, ◌<◌, ◌⊎◌, ◌↔◌, inl, inr, Bool, List, [], ◌∷◌, ◌++◌, map, length, replicate, Some, None, Option, Vec, Global, arith, refl, sym, ap, ◌∙◌, subst}
 use Rattle.std.specs.List.{flat_map}
 use Rattle.std.specs.Option.{option_to_list}
 use Rattle.std.proofs.lemmas.List.{map-append, length-replicate}
@@ -33,7 +33,7 @@ use Rattle.elab_flow.specs.Shows.{IsAt, Marks}
 use Rattle.elab_flow.proofs.Marking.{reads_names, parts_names}
 use Rattle.elab_flow.proofs.Setting.{among_signals}
 use Rattle.elab_flow.proofs.Placing.{place_name, place_of_name, shown_signal}
-use Rattle.elab_flow.proofs.Showing.{at_lt, named_at}
+use Rattle.elab_flow.proofs.Showing.{at_lt}
 use Rattle.elab_flow.proofs.Finding.{at_same}
 
 -- ---- graphs without edges
@@ -140,9 +140,12 @@ module _ (m : Flat) (can : CanPass m) where
       there h =
           let r = among_flat (assign_edges names) m.assigns (edge i j) h in
           let a = r.0 in
-          let k = paired (part_places names (parts_of a.left)) (part_places names (left_reads a.left ++ reads_of a.right)) (edge i j) r.2 in
-          (a, r.1, subst (λ xs. Among xs y) (sym (parts_names a.left)) ((place_named (parts_of a.left) i y p).0 k.0),
-          swapped (flat_map names_in (numbers_in a.left)) (names_in a.right) z (subst (λ xs. Among xs z) (assign_names a) ((place_named (left_reads a.left ++ reads_of a.right) j z q).0 k.1)))
+          let k = paired (part_places names (parts_of a.left)) (part_places names (left_reads a.left ++ reads_of a.right)) (edge i j) r.2 in (
+            a,
+            r.1,
+            subst (λ xs. Among xs y) (sym (parts_names a.left)) ((place_named (parts_of a.left) i y p).0 k.0),
+            swapped (flat_map names_in (numbers_in a.left)) (names_in a.right) z (subst (λ xs. Among xs z) (assign_names a) ((place_named (left_reads a.left ++ reads_of a.right) j z q).0 k.1)),
+          )
 
       back : Assigned y z → Among (flat_map (assign_edges names) m.assigns) (edge i j)
       back (a, among, left, reads) =

@@ -1,5 +1,5 @@
 -- What the tables at the end of a block say of its paths.
-use Rattle.std.proofs.Common.{◌≡◌, ◌≢◌, ℕ, zero, suc, ◌+◌, ◌≤◌, ◌<◌, ◌⊎◌, inl, inr, Bool, true, false, List, [], ◌∷◌, ◌++◌, Some, None, length, get_or, drop, arith, refl, sym, ap, ◌∙◌, subst}
+use Rattle.std.proofs.Common.{◌≡◌, ◌≢◌, ℕ, zero, suc, ◌+◌, ◌≤◌, ◌<◌, inl, inr, Bool, true, false, List, [], ◌∷◌, Some, None, length, get_or, drop, arith, sym, ap, ◌∙◌, subst}
 use Rattle.std.specs.Prelude.{Option, IfSome, IfNone}
 use Rattle.std.specs.List.{slice_get}
 use Rattle.std.proofs.lemmas.Bool.{cases_eq}
@@ -27,7 +27,7 @@ use Rattle.elab_drive.specs.Driving.{driver_claims}
 use Rattle.elab_drive.proofs.Naming.{among_of, of_among}
 use Rattle.elab_drive.proofs.Spots.{shown, width_is, has_spot}
 use Rattle.elab_drive.proofs.Twice.{driver_told, told_driver}
-use Rattle.elab_flow.specs.Asked.{ArePassable, Misses, BlockMisses, AnyMisses, ReadsBesides, BlockReadsUnlisted, AnyReadsUnlisted, OfSignal}
+use Rattle.elab_flow.specs.Asked.{ArePassable, Misses, AnyMisses, ReadsBesides, AnyReadsUnlisted, OfSignal}
 use Rattle.elab_flow.specs.Ready.{IsLeftReady, IsReady, AreReady, AreItemsReady}
 use Rattle.elab_flow.specs.Sets.{Tables, at, Has, HasBit}
 use Rattle.elab_flow.specs.Shows.{IsAt, Shows}
@@ -200,7 +200,6 @@ module _ (m : Flat) (gs : List Signal) (ks : List Always) (e : gs ≡ m.signals)
 
   pub none_there : (Q : List Signal → Always → Name → Type 0) → ((x : Name) → AnyBlock gs (Q gs) ks x → ⊥) → (x : Name) → AnyBlock m.signals (Q m.signals) m.blocks x → ⊥
   none_there Q h x q = h x (subst (λ z. AnyBlock z (Q z) ks x) (sym e) (subst (λ z. AnyBlock m.signals (Q m.signals) z x) (sym f) q))
-
 
 pub misses_bit : (m : Flat) (x : Name) → AnyMisses m.signals m.blocks x → MissesBit m x
 misses_bit m x (k, a, (c, (b, lt, d, u))) =

@@ -38,11 +38,7 @@ fn add_place(all: &mut Vec<usize>, names: &Names<'_>, part: Part<'_>) -> Result<
     Ok(())
 }
 
-fn places_of(
-    alloc: Global,
-    names: &Names<'_>,
-    parts: &[Part<'_>],
-) -> Result<Vec<usize>, AllocError>
+fn places_of(alloc: Global, names: &Names<'_>, parts: &[Part<'_>]) -> Result<Vec<usize>, AllocError>
     ensures { IfOk result (λ r. r.items ≡ part_places names.now (map part_meant parts.now)) }
 {
     let mut all = Vec::new(alloc);

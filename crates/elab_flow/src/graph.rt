@@ -39,11 +39,7 @@ fn add_edge(graph: &mut Vec<Vec<usize>>, edge: Edge) -> Result<(), AllocError>
 }
 
 // The graph of edges, without those from the places of a set.
-fn graph_from(
-    alloc: Global,
-    barred: &[bool],
-    edges: &[Edge],
-) -> Result<Vec<Vec<usize>>, AllocError>
+fn graph_from(alloc: Global, barred: &[bool], edges: &[Edge]) -> Result<Vec<Vec<usize>>, AllocError>
     requires { (e : Arrow) → Among edges.now e → e.from < length barred.now }
     ensures size { IfOk result (λ r. length r.items ≡ length barred.now) }
     ensures edges { IfOk result (λ r. (i j : ℕ) → Contains (successors (graph_of r.items) i) j ↔ ((Has barred.now i → ⊥) × Among edges.now (edge i j))) }
