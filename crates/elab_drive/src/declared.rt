@@ -35,7 +35,8 @@ impl<'a> Model for Declared<'a> {
     ghost invariant = { λ x. x.names ≡ map signal_name x.list.now };
 }
 
-fn names_of<'a>(alloc: Global, signals: &'a [Signal]) -> Result<Vec<&'a Text>, AllocError>
+/// The names of signals, in their order. Refused only for want of memory.
+pub fn names_of<'a>(alloc: Global, signals: &'a [Signal]) -> Result<Vec<&'a Text>, AllocError>
     ensures { IfOk result (λ names. map name_meant names.items ≡ map signal_name signals.now) }
 {
     let mut names = Vec::new(alloc);

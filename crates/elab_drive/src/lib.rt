@@ -13,11 +13,11 @@ mod pieces;
 mod wanted;
 
 pub use claims::{Claim, Run, bit_run, clipped, known, ones, span_run};
-pub use declared::Declared;
+pub use declared::{Declared, names_of};
 pub use drivers::{Driver, driven_twice, driver_claims};
 pub use kind::wrongly_assigned;
 pub use lacking::undriven;
-pub use masks::{Bit, clash};
+pub use masks::{Bit, clash, no_bits};
 pub use names::{Form, block_names};
 pub use parts::{Part, name_of, parts_of, reads_of};
 pub use pieces::{Piece, pieces_of};

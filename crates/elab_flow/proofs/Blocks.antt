@@ -1,22 +1,19 @@
 -- Statements and the items of case statements, one after another.
-use Rattle.std.proofs.Common.{◌≡◌, ℕ, ◌+◌, ◌≤◌, ◌<◌, ◌⊎◌, inl, inr, Bool, List, [], ◌∷◌, ◌++◌, length, get_or, drop, arith, refl, sym, ap, ◌∙◌, subst}
+use Rattle.std.proofs.Common.{◌≡◌, ℕ, ◌+◌, ◌≤◌, ◌<◌, inl, inr, Bool, List, [], ◌∷◌, ◌++◌, length, get_or, drop, refl, sym, ap, ◌∙◌, subst}
 use Rattle.std.specs.Prelude.{IsTrue}
-use Rattle.std.specs.List.{flat_map}
 use Rattle.vlog_tree.specs.declared.expr.Expr.{Expr}
 use Rattle.vlog_tree.specs.declared.stmt.CaseItem.{CaseItem}
 use Rattle.vlog_tree.specs.declared.stmt.CaseKind.{CaseKind}
-use Rattle.vlog_tree.specs.declared.stmt.Lval.{Lval}
 use Rattle.vlog_tree.specs.declared.stmt.Stmt.{Stmt, Row_of-Stmt, end_of-Stmt, more_of-Stmt, items-the_row-Stmt, items_hidden-the_row-Stmt-0, Row_of-CaseItem, end_of-CaseItem, more_of-CaseItem, items-the_row-CaseItem, items_hidden-the_row-CaseItem-2}
 use Rattle.vlog_tree.specs.declared.stmt.Stmt.TheVariants as s
 use Rattle.vlog_tree.specs.declared.stmt.Stmt.TheBlock.{shape-the_row-Stmt-1, hidden-the_row-Stmt-1, hidden-the_row-Stmt-0, hidden-the_row-CaseItem-2}
 use Rattle.vlog_runs.specs.declared.flat.Signal.{Signal}
-use Rattle.vlog_runs.specs.Places.{Among}
 use Rattle.vlog_runs.specs.Blocks.{labels_in, is_default, exprs_in}
 use Rattle.elab_faults.specs.Paths.{HasDefault, IsFull}
 use Rattle.flow_laws.specs.Laws.{place_over}
 use Rattle.elab_flow.specs.Sets.{Tables}
 use Rattle.elab_flow.specs.Cases.{at_rest, labels_of, AnyDefault, IsComparable}
-use Rattle.elab_flow.specs.Passes.{JoinTo, EnterTo, IsNowhere, LeadsPast, PastTo, LeadsPastEach, PastEachTo, Passes, RowPasses, ItemsPass, EachPasses, EachItemPasses}
+use Rattle.elab_flow.specs.Passes.{JoinTo, EnterTo, LeadsPast, PastTo, LeadsPastEach, PastEachTo, Passes, RowPasses, ItemsPass, EachPasses, EachItemPasses}
 use Rattle.elab_flow.specs.Ready.{IsReady, AreReady, AreItemsReady, EachReady, EachItemReady}
 use Rattle.elab_flow.proofs.Listing.{among_at}
 use Rattle.elab_flow.proofs.Marking.{cut, drop_past}

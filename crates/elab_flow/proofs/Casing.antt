@@ -1,6 +1,6 @@
 -- Case statements at rest: defaults, lengths and values of labels, and what these cover.
 use Rattle.std.proofs.Common.{◌≡◌, ℕ, zero, suc, ◌+◌, ◌≤◌, ◌<◌, ◌^◌, max, ◌⊎◌, ◌↔◌, ◌&&◌, inl, inr, Bool, true, false, List, [], ◌∷◌, map, length, get_or, drop, cond, arith, refl, sym, ap, ◌∙◌, subst}
-use Rattle.std.specs.Prelude.{IsTrue, nat_eq, if◌then◌else◌, MatchBool}
+use Rattle.std.specs.Prelude.{IsTrue, nat_eq, MatchBool}
 use Rattle.std.proofs.Math.Dec.{eqb-suc-zero}
 use Rattle.std.proofs.lemmas.Bool.{cases_Bool, eq-eqb, eqb-true}
 use Rattle.std.specs.Borrow.{Bor}
@@ -8,17 +8,16 @@ use Rattle.vlog_tree.specs.declared.expr.Expr.{Expr}
 use Rattle.vlog_tree.specs.declared.stmt.CaseItem.{CaseItem}
 use Rattle.vlog_tree.specs.declared.stmt.Lval.{Lval}
 use Rattle.vlog_tree.specs.declared.valuation.Entry.{Entry}
-use Rattle.vlog_tree.specs.Value.{IsFormed, NamesOnly, width_of, sign_of, value_of, extend}
+use Rattle.vlog_tree.specs.Value.{NamesOnly, width_of, sign_of, value_of, extend}
 use Rattle.vlog_runs.specs.Places.{Among, Place}
 use Rattle.vlog_runs.specs.Blocks.{is_default, widest, all_signed, case_width, case_sign}
 use Rattle.elab_faults.specs.Paths.{AllConstant, IsLabel, IsSimple, CoversAll}
-use Rattle.flow_laws.specs.Laws.{place_over}
 use Rattle.elab_drive.specs.declared.parts.Part.{Part}
 use Rattle.elab_drive.specs.Parts.{reads_of, part_meant}
 use Rattle.elab_drive.specs.Claims.{nothing}
 use Rattle.elab_drive.proofs.Constants.{no_names, no_reads}
 use Rattle.elab_flow.specs.Cases.{expr_meant, AnyDefault, AreConstant, AreValues, HasAll}
-use Rattle.elab_flow.proofs.Listing.{among_at, first_or, none_left}
+use Rattle.elab_flow.proofs.Listing.{first_or, none_left}
 use Rattle.elab_flow.proofs.Marking.{cut, drop_past}
 
 -- ---- the default

@@ -1,5 +1,5 @@
 -- Edges of places as dependences of names.
-use Rattle.std.proofs.Common.{◌≡◌, ℕ, zero, suc, ◌+◌, ◌≤◌, ◌<◌, ◌⊎◌, ◌↔◌, inl, inr, Bool, false, List, [], ◌∷◌, ◌++◌, map, length, replicate, Some, None, Option, Vec, Global, arith, refl, sym, ap, ◌∙◌, subst}
+use Rattle.std.proofs.Common.{◌≡◌, ℕ, zero, suc, ◌≤◌, ◌<◌, ◌⊎◌, ◌↔◌, inl, inr, Bool, List, [], ◌∷◌, ◌++◌, map, length, replicate, Some, None, Option, Vec, Global, arith, refl, sym, ap, ◌∙◌, subst}
 use Rattle.std.specs.List.{flat_map}
 use Rattle.std.specs.Option.{option_to_list}
 use Rattle.std.proofs.lemmas.List.{map-append, length-replicate}
@@ -33,7 +33,7 @@ use Rattle.elab_flow.specs.Shows.{IsAt, Marks}
 use Rattle.elab_flow.proofs.Marking.{reads_names, parts_names}
 use Rattle.elab_flow.proofs.Setting.{among_signals}
 use Rattle.elab_flow.proofs.Placing.{place_name, place_of_name, shown_signal}
-use Rattle.elab_flow.proofs.Showing.{at_lt, named_at}
+use Rattle.elab_flow.proofs.Showing.{at_lt}
 use Rattle.elab_flow.proofs.Finding.{at_same}
 
 -- ---- graphs without edges

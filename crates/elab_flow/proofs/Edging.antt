@@ -1,10 +1,9 @@
 -- Edges of dependences, one after another.
-use Rattle.std.proofs.Common.{◌≡◌, ◌≢◌, ℕ, zero, suc, ◌+◌, ◌*◌, ◌≤◌, ◌<◌, ◌⊎◌, ◌↔◌, inl, inr, Bool, true, false, List, [], ◌∷◌, ◌++◌, map, length, get_or, set, drop, Vec, Global, arith, refl, sym, ap, ◌∙◌, subst}
+use Rattle.std.proofs.Common.{◌≡◌, ◌≢◌, ℕ, zero, suc, ◌+◌, ◌*◌, ◌≤◌, ◌<◌, ◌⊎◌, ◌↔◌, inl, inr, Bool, true, false, List, [], ◌∷◌, ◌++◌, length, get_or, set, drop, Vec, Global, arith, refl, sym, ap, ◌∙◌, subst}
 use Rattle.std.proofs.lemmas.Bool.{cases_eq}
-use Rattle.vlog_tree.specs.declared.stmt.Stmt.{Stmt}
 use Rattle.vlog_runs.specs.declared.flat.Always.{Always}
 use Rattle.vlog_runs.specs.declared.flat.Signal.{Signal}
-use Rattle.vlog_runs.specs.Places.{Name, Among}
+use Rattle.vlog_runs.specs.Places.{Among}
 use Rattle.flat_laws.proofs.Lists.{among_append, append_left, append_right}
 use Rattle.flow_laws.specs.Flows.{block_flow}
 use Rattle.flow_laws.specs.Laws.{place_over}
@@ -13,7 +12,7 @@ use Rattle.elab_order.specs.Graphs.{graph_of, successors, Among as Lists}
 use Rattle.elab_flow.specs.declared.edges.Edge.{Edge}
 use Rattle.elab_flow.specs.Edges.{edge, IsCell, IsCellBelow, IsBlockEdge, AnyBlockEdge}
 use Rattle.elab_flow.specs.Sets.{Tables, at, Has}
-use Rattle.elab_flow.specs.Shows.{IsAt, Shows}
+use Rattle.elab_flow.specs.Shows.{Shows}
 use Rattle.elab_flow.proofs.Listing.{first_or, none_left}
 use Rattle.elab_flow.proofs.Marking.{cut}
 use Rattle.elab_flow.proofs.Showing.{at_lt, named_at}

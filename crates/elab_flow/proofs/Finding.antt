@@ -1,5 +1,5 @@
 -- What the tables at the end of a block say of its paths.
-use Rattle.std.proofs.Common.{◌≡◌, ◌≢◌, ℕ, zero, suc, ◌+◌, ◌≤◌, ◌<◌, ◌⊎◌, inl, inr, Bool, true, false, List, [], ◌∷◌, ◌++◌, Some, None, length, get_or, drop, arith, refl, sym, ap, ◌∙◌, subst}
+use Rattle.std.proofs.Common.{◌≡◌, ◌≢◌, ℕ, zero, suc, ◌+◌, ◌≤◌, ◌<◌, inl, inr, Bool, true, false, List, [], ◌∷◌, Some, None, length, get_or, drop, arith, sym, ap, ◌∙◌, subst}
 use Rattle.std.specs.Prelude.{Option, IfSome, IfNone}
 use Rattle.std.specs.List.{slice_get}
 use Rattle.std.proofs.lemmas.Bool.{cases_eq}
@@ -27,7 +27,7 @@ use Rattle.elab_drive.specs.Driving.{driver_claims}
 use Rattle.elab_drive.proofs.Naming.{among_of, of_among}
 use Rattle.elab_drive.proofs.Spots.{shown, width_is, has_spot}
 use Rattle.elab_drive.proofs.Twice.{driver_told, told_driver}
-use Rattle.elab_flow.specs.Asked.{ArePassable, Misses, BlockMisses, AnyMisses, ReadsBesides, BlockReadsUnlisted, AnyReadsUnlisted, OfSignal}
+use Rattle.elab_flow.specs.Asked.{ArePassable, Misses, AnyMisses, ReadsBesides, AnyReadsUnlisted, OfSignal}
 use Rattle.elab_flow.specs.Ready.{IsLeftReady, IsReady, AreReady, AreItemsReady}
 use Rattle.elab_flow.specs.Sets.{Tables, at, Has, HasBit}
 use Rattle.elab_flow.specs.Shows.{IsAt, Shows}

@@ -1,20 +1,17 @@
 -- The tables before the first statement.
-use Rattle.std.proofs.Common.{◌≡◌, ℕ, zero, suc, ◌+◌, ◌*◌, ◌≤◌, ◌<◌, ◌↔◌, inl, inr, Bool, true, false, List, [], ◌∷◌, map, length, replicate, get_or, arith, refl, sym, ap, ◌∙◌, subst}
+use Rattle.std.proofs.Common.{◌≡◌, ℕ, zero, suc, ◌+◌, ◌*◌, ◌<◌, inl, inr, Bool, true, false, List, [], ◌∷◌, map, length, replicate, get_or, arith, sym, ap, ◌∙◌, subst}
 use Rattle.std.specs.Int.{bit_at}
 use Rattle.std.proofs.lemmas.Bool.{cases_Bool}
 use Rattle.vlog_runs.specs.declared.flat.Signal.{Signal}
-use Rattle.vlog_runs.specs.Places.{Name, Among}
-use Rattle.elab_faults.specs.Paths.{width_in}
 use Rattle.flow_laws.specs.Flows.{at_start, block_flow}
 use Rattle.flow_laws.specs.Laws.{place_over}
 use Rattle.vlog_tree.specs.declared.stmt.Stmt.{Stmt}
 use Rattle.elab_drive.specs.Claims.{ones}
 use Rattle.elab_drive.proofs.Bits.{ones_set, set_ones}
-use Rattle.elab_flow.specs.Sets.{Tables, at, Has, HasBit}
-use Rattle.elab_flow.specs.Shows.{IsAt, Marks, Shows, AreDistinct, AreAllDeclared}
+use Rattle.elab_flow.specs.Sets.{Tables, at, Has}
+use Rattle.elab_flow.specs.Shows.{Marks, Shows, AreDistinct, AreAllDeclared}
 use Rattle.elab_flow.specs.Words.{IsSignalAt, all_ones}
 use Rattle.elab_flow.specs.Passes.{IsStart, Passes}
-use Rattle.elab_flow.proofs.Rows.{cell_within}
 use Rattle.elab_flow.proofs.Marking.{none_in}
 use Rattle.elab_flow.proofs.Placing.{shown_signal}
 use Rattle.elab_flow.proofs.Showing.{at_lt, passes_show}

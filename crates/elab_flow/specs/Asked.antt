@@ -1,5 +1,5 @@
 -- What is asked of a module whose combinational blocks are passed through, and what is found there (IEEE 1364-2005, sections 9.5 and 9.7.5).
-use Rattle.std.specs.Prelude.{ℕ, ◌≡◌, ◌⊎◌, ◌<◌, false, List, Some}
+use Rattle.std.specs.Prelude.{ℕ, ◌≡◌, ◌<◌, false, List, Some}
 use Rattle.vlog_tree.specs.declared.stmt.Lval.{Lval}
 use Rattle.vlog_tree.specs.declared.stmt.Stmt.{Stmt}
 use Rattle.vlog_runs.specs.declared.flat.Always.{Always}

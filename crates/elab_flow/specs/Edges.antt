@@ -1,5 +1,5 @@
 -- Dependences of signals as edges of a graph of their places (IEEE 1364-2005, sections 6.1 and 9.4).
-use Rattle.std.specs.Prelude.{ℕ, ◌≡◌, ◌+◌, ◌*◌, ◌<◌, ◌↔◌, ◌++◌, Bool, false, List, length, map}
+use Rattle.std.specs.Prelude.{ℕ, ◌≡◌, ◌+◌, ◌*◌, ◌<◌, ◌↔◌, ◌++◌, Bool, false, List, map}
 use Rattle.std.specs.List.{flat_map}
 use Rattle.std.specs.Option.{option_to_list}
 use Rattle.vlog_tree.specs.declared.item.Assign.{Assign}

@@ -1,44 +1,20 @@
 // The places of the names in expressions and left sides.
 
-ghost use Rattle.std.specs.Prelude.{◌≡◌, [], ◌∷◌, map, length, IfOk, OnOk};
+ghost use Rattle.std.specs.Prelude.{◌≡◌, [], ◌∷◌, map, length, OnOk};
 ghost use Rattle.std.specs.List.{flat_map};
 ghost use Rattle.vlog_runs.specs.Blocks.{left_names};
 ghost use Rattle.flat_faults.specs.Texts.{names_in, numbers_in};
 ghost use Rattle.flat_scopes.specs.Borrowed.{name_meant};
 ghost use Rattle.elab_drive.specs.Parts.{part_meant};
 ghost use Rattle.elab_drive.specs.Claims.{part_name};
-ghost use Rattle.elab_drive.specs.Spots.{signal_name};
 ghost use Rattle.elab_flow.specs.Cases.{expr_meant};
 ghost use Rattle.elab_flow.specs.Marks.{Adds};
 
-use elab_drive::{Part, parts_of, reads_of};
+use elab_drive::{Part, name_of, parts_of, reads_of};
 use flat_scopes::Names;
 use outside::Text;
 use std::alloc::{AllocError, Global};
-use vlog_runs::Signal;
 use vlog_tree::{Expr, Lval};
-
-/// The names of signals, in their order. Refused only for want of memory.
-pub fn names_of<'a>(alloc: Global, signals: &'a [Signal]) -> Result<Vec<&'a Text>, AllocError>
-    ensures { IfOk result (λ names. map name_meant names.items ≡ map signal_name signals.now) }
-{
-    let mut names = Vec::new(alloc);
-    for signal in signals {
-        names.push(&signal.name)?;
-    }
-    Ok(names)
-}
-
-/// The name of the signal of a part.
-pub fn name_of(part: Part<'_>) -> &Text
-    ensures { result.now ≡ part_name (part_meant part.entry) }
-{
-    match part {
-        Part::Whole(name) => name,
-        Part::Bit(name, _) => name,
-        Part::Bits(name, _, _, _) => name,
-    }
-}
 
 fn mark(set: &mut [bool], names: &Names<'_>, name: &Text)
     requires { length set.old ≡ length names.now }

@@ -9,7 +9,7 @@ ghost use Rattle.elab_drive.specs.Spots.{signal_name};
 ghost use Rattle.elab_flow.specs.Cases.{at_rest};
 ghost use Rattle.elab_flow.specs.Words.{AreWide};
 
-use crate::marks::names_of;
+use elab_drive::names_of;
 use flat_scopes::Names;
 use outside::Text;
 use std::alloc::{AllocError, Global};

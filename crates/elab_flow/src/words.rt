@@ -12,8 +12,7 @@ ghost use Rattle.flat_scopes.specs.Finding.{place_in};
 ghost use Rattle.elab_flow.specs.Sets.{HasBit};
 ghost use Rattle.elab_drive.specs.Spots.{signal_name};
 
-use crate::marks::name_of;
-use elab_drive::{Part, Run, bit_run, clipped, known, ones, parts_of, span_run};
+use elab_drive::{Part, Run, bit_run, clipped, known, name_of, no_bits, ones, parts_of, span_run};
 use flat_scopes::Names;
 use std::alloc::{AllocError, Global};
 use vlog_runs::Signal;
@@ -125,13 +124,6 @@ fn add_words(
         add_word(words, alloc, signals, names, *part)?;
     }
     Ok(())
-}
-
-fn no_bits(alloc: Global, count: usize) -> Result<Vec<u64>, AllocError>
-    ensures size { IfOk result (λ r. length r.items ≡ count) }
-    ensures items { IfOk result (λ r. r.items ≡ replicate count 0) }
-{
-    vec![in alloc; 0; count]
 }
 
 /// For each signal a 1 for each bit that a left side surely sets. Refused only for want of memory.

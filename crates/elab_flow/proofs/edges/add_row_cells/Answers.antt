@@ -1,5 +1,4 @@
-use Rattle.std.proofs.Common.{◌<◌, arith, ap, subst}
-use Rattle.vlog_runs.specs.Places.{Among}
+use Rattle.std.proofs.Common.{◌<◌, arith}
 use Rattle.elab_flow.proofs.Edging.{cell_added, cell_passed}
 use Rattle.elab_flow.proofs.edges.add_row_cells.Goals.{then-table-from+in_ok-push, else-table-from}
 use Rattle.elab_flow.proofs.edges.add_row_cells.Goals as goal

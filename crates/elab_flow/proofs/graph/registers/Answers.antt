@@ -1,7 +1,7 @@
 use Rattle.std.proofs.Common.{◌≡◌, ℕ, List, length, map, drop, subst, sym, ap, ◌∙◌, arith}
 use Rattle.std.specs.List.{flat_map}
 use Rattle.vlog_runs.specs.declared.flat.Signal.{Signal}
-use Rattle.vlog_runs.specs.Places.{Name, Among}
+use Rattle.vlog_runs.specs.Places.{Name}
 use Rattle.vlog_runs.specs.Cycles.{IsRegister}
 use Rattle.flat_scopes.specs.Borrowed.{name_meant}
 use Rattle.elab_drive.specs.Spots.{signal_name}

@@ -12,4 +12,4 @@ loop-part-preserved c =
     let rest = drop (c.loop-part.part-index + 1) ps in
     step names (map part_name (map part_meant ps)) c.args.set.now (part_name (part_meant c.part-item.result)) (map part_name (map part_meant rest)) c.loop-part.set c.mark.new.set
     (subst (λ qs. WithRest names (map part_name (map part_meant ps)) c.args.set.now (map part_name (map part_meant qs)) c.loop-part.set) (cut ps c.loop-part.part-index c.part-item.result c.loop-part-test.true c.part-item.is) c.loop-part.invariant)
-    (subst (λ y. Adds names (y ∷ []) c.loop-part.set c.mark.new.set) c.name_of.ensures c.mark.ensures)
+    (subst (λ y. Adds names (y ∷ []) c.loop-part.set c.mark.new.set) c.name_of.ensures.name c.mark.ensures)

@@ -1,11 +1,11 @@
-use Rattle.std.proofs.Common.{ℕ, ◌∷◌, List, Bool, length, map, sym, ap, ◌∙◌, subst}
+use Rattle.std.proofs.Common.{◌∷◌, List, Bool, length, map, sym, ap, ◌∙◌, subst}
 use Rattle.vlog_tree.specs.declared.expr.Expr.{Expr}
 use Rattle.vlog_tree.specs.declared.stmt.CaseItem.{CaseItem}
 use Rattle.elab_drive.proofs.Growing.{ok_then}
 use Rattle.elab_flow.specs.Cases.{at_rest, expr_meant, labels_of, IsComparable}
-use Rattle.elab_flow.specs.Passes.{JoinTo, EnterTo, PastEachTo, Passes, EachPasses, EachItemPasses}
+use Rattle.elab_flow.specs.Passes.{JoinTo, EnterTo, PastEachTo, Passes, EachItemPasses}
 use Rattle.elab_flow.specs.Sets.{tables}
-use Rattle.elab_flow.proofs.Blocks.{block_ready, if_ready, if_else_ready, case_ready, each_ready, item_ready, block_passes, if_passes, if_else_passes, case_passes, joins_to, passing_next, passing_end, adding_next, adding_end}
+use Rattle.elab_flow.proofs.Blocks.{block_ready, if_ready, if_else_ready, case_ready, each_ready, item_ready, block_passes, if_passes, if_else_passes, case_passes, joins_to}
 use Rattle.elab_flow.proofs.pass.+pass.Goals as goal
 
 pub pass-statements-requires : goal.pass-statements-requires

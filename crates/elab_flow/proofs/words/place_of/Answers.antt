@@ -17,5 +17,5 @@ below gs x (Some i) e =
 
 pub returns : goal.returns
 returns c =
-    let e = c.place.ensures ∙ (λ i. place_in (c.requires i) ((c.bytes.ensures ∙ c.name_of.ensures) i)) in
+    let e = c.place.ensures ∙ (λ i. place_in (c.requires i) ((c.bytes.ensures ∙ c.name_of.ensures.name) i)) in
     record { place = e; within = below c.args.signals.now _ c.place.result e }

@@ -15,4 +15,4 @@ returns-clause-words c =
     let back = written_back c.in_ok-words.words.len new (drop (length new) items) fits in
     let parts = ap (map part_meant) c.deref.ensures.value ∙ c.in_ok-parts.ensures in
     λ i b. subst (λ ws. HasBit ws i b ↔ AnySetAt gs (parts_of c.args.left.now) i b) (sym back)
-    (set_is gs (parts_of c.args.left.now) (map part_meant c.deref.result.now) c.deref_mut.result.now new (length gs) (c.deref_mut.ensures.value ∙ c.in_ok-words.ensures.items) parts c.in_ok-add_words.ensures i b)
+    (set_is gs (parts_of c.args.left.now) (map part_meant c.deref.result.now) c.deref_mut.result.now new (length gs) (c.deref_mut.ensures.value ∙ c.in_ok-words.ensures) parts c.in_ok-add_words.ensures i b)
