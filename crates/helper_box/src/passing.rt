@@ -1,5 +1,5 @@
 //! Whether a claim holds, by a check of our own.
-ghost use Rattle.std.specs.Prelude.{◌≡◌, ◌≤◌, IfOk, IsTrue, length};
+ghost use Rattle.std.specs.Prelude.{◌≡◌, ◌≤◌, ◌↔◌, IfOk, IsTrue, length};
 ghost use Rattle.clause_check.specs.Derivations.{IsRefutation};
 ghost use Rattle.helper_box.specs.Asked.{MakesRoot1, Passes};
 
@@ -11,14 +11,14 @@ use word_dag::{Ob, Table, fits, value_at};
 /// Whether these are values of the free words at which the root is 1.
 pub fn makes_root_1(ob: &Ob, values: &[u64], table: &mut Table) -> bool
     requires room { length ob.now.nodes ≤ table.old }
-    ensures root { IsTrue result → MakesRoot1 ob.now values.now }
+    ensures root { IsTrue result ↔ MakesRoot1 ob.now values.now }
     ensures table { table.new ≡ table.old }
 {
     fits(ob.nodes(), values) && value_at(ob, values, table).value() == 1
 }
 
 fn refutes(alloc: Global, cnf: &Cnf, steps: &[Step]) -> Result<bool, AllocError>
-    ensures { IfOk result (λ b. IsTrue b → IsRefutation cnf.now steps.now) }
+    ensures { IfOk result (λ b. IsTrue b ↔ IsRefutation cnf.now steps.now) }
 {
     let mut marks = Marks::new(alloc, cnf.vars)?;
     Ok(accept(cnf, steps, &mut marks))
@@ -26,7 +26,7 @@ fn refutes(alloc: Global, cnf: &Cnf, steps: &[Step]) -> Result<bool, AllocError>
 
 /// Whether a claim passes. Refused only for want of memory.
 pub fn passes(alloc: Global, ob: &Ob, cnf: &Cnf, claim: &Claim) -> Result<bool, AllocError>
-    ensures { IfOk result (λ b. IsTrue b → Passes ob.now cnf.now claim.now) }
+    ensures { IfOk result (λ b. IsTrue b ↔ Passes ob.now cnf.now claim.now) }
 {
     match claim {
         Claim::Nothing => Ok(true),

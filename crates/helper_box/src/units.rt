@@ -39,12 +39,18 @@ fn index_of(lit: Lit) -> usize {
         .saturating_add(usize::from(lit.negative))
 }
 
-/// For each literal the numbers of the clauses that have it.
-fn occurrences(alloc: Global, cnf: &Cnf) -> Result<Vec<Vec<u64>>, AllocError> {
+/// A list without numbers for each literal.
+fn no_occurrences(alloc: Global, vars: u64) -> Result<Vec<Vec<u64>>, AllocError> {
     let mut table = Vec::new(alloc);
-    for _ in 0..cnf.vars.saturating_mul(2) {
+    for _ in 0..vars.saturating_mul(2) {
         table.push(Vec::new(alloc))?;
     }
+    Ok(table)
+}
+
+/// For each literal the numbers of the clauses that have it.
+fn occurrences(alloc: Global, cnf: &Cnf) -> Result<Vec<Vec<u64>>, AllocError> {
+    let mut table = no_occurrences(alloc, cnf.vars)?;
     for (number, clause) in cnf.clauses.iter().enumerate() {
         note(&mut table, clause.lits(), number as u64)?;
     }
