@@ -1,1 +1,2 @@
 pub mod Namings
+pub mod Taken

@@ -3,4 +3,4 @@
 
 mod law;
 
-pub use law::values_have_namings;
+pub use law::{obligations_have_one_word_each, values_have_namings};
