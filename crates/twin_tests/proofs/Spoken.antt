@@ -1,5 +1,6 @@
 -- The lines of a set name properties that are there.
-use Rattle.std.proofs.Common.{◌≡◌, ℕ, zero, suc, ◌+◌, ◌<◌, ◌≤◌, List, [], ◌∷◌, ◌++◌, length, map, take, get_or, sym, ap, ◌∙◌, subst, arith}
+use Rattle.std.proofs.Common.{◌≡◌, ℕ, zero, suc, ◌+◌, ◌<◌, ◌≤◌, List, [], ◌∷◌, ◌++◌, length, map, take, get_or, refl, sym, ap, ◌∙◌, subst, arith}
+use Rattle.std.specs.Prelude.{◌⊎◌}
 use Rattle.std.specs.List.{All, AllZip, flat_map}
 use Rattle.std.proofs.lemmas.List.{take_more}
 use Rattle.std.proofs.lemmas.List.Concat.{flat_map-cons}
@@ -13,12 +14,16 @@ use Rattle.set_tree.specs.Report.{edge_lines, has_until, numbers_from, set_lines
 use Rattle.word_dag.specs.declared.node.Node.{Node}
 use Rattle.word_dag.specs.declared.ob.Named.{Named}
 use Rattle.word_dag.specs.Adding.{Keeps}
+use Rattle.elab_node.specs.Nodes.{AddsFrees}
 use Rattle.line_laws.specs.Laws.{HasLength, property_of}
+use Rattle.word_names.specs.Names.{HasOneWidthEach}
+use Rattle.word_names.proofs.Taken.{widths_are_kept}
 use Rattle.twin_tests.specs.declared.frame.Frames.{Frames}
-use Rattle.twin_tests.specs.Framing.{AreFrames, SpeaksOf}
+use Rattle.twin_tests.specs.Framing.{AreFrames, IsWindowWord, SpeaksOf}
 use Rattle.twin_tests.specs.Named.{IsNamedOf}
 use Rattle.twin_tests.specs.Reading.{HasStructure}
 use Rattle.twin_tests.proofs.Framed.{frames_later, next_positions}
+use Rattle.twin_tests.proofs.Words.{window_widths}
 
 numbers_below : (n k m : ℕ) → n + k ≤ m → All (λ p. p < m) (numbers_from n k)
 numbers_below n zero m le = All-nil (λ p. p < m)
@@ -72,6 +77,17 @@ line_length set line s h = (s.sound.lengths (property_of line) (position_of set 
 pub record ObsLoop (set : Set) (nodes : List Node) (frames : Frames) (lines : List Line) (obs : List Named) : Type 0 where
   pub held : AreFrames set nodes frames
   pub each : AllZip (IsNamedOf set) lines obs
+  pub words : HasOneWidthEach nodes
+
+pub obs_begin : (set given : Set) (start nodes : List Node) (frames : Frames) (lines : List Line) (obs : List Named) → given ≡ set → HasStructure given → start ≡ [] → AreFrames given nodes frames
+    → AddsFrees (λ n. IsWindowWord given.names 0 n ⊎ IsWindowWord given.names 1 n) start nodes → lines ≡ [] → obs ≡ [] → ObsLoop set nodes frames lines obs
+obs_begin set given start nodes frames lines obs same s empty held frees none made =
+    let widths : HasOneWidthEach nodes = window_widths given.names s.formed.distinct_names start nodes empty frees in
+    record {
+      held = subst (λ (z : Set). AreFrames z nodes frames) same held;
+      each = rw (none, made) tt;
+      words = widths;
+    }
 
 pub obs_step : (set : Set) (a b : List Node) (frames : Frames) (lines : List Line) (obs new : List Named) (i : ℕ) (line : Line) (named : Named) → Keeps a b → i < length lines → line ≡ get_or lines i line → new ≡ obs ++ named ∷ [] → IsNamedOf set line named → ObsLoop set a frames (take i lines) obs → ObsLoop set b frames (take (i + 1) lines) new
 obs_step set a b frames lines obs new i line named ab lt is made here before =
@@ -79,4 +95,5 @@ obs_step set a b frames lines obs new i line named ab lt is made here before =
     record {
       held = frames_later a b set frames ab before.held;
       each = rw (more, made) (all_zipped_more (IsNamedOf set) (take i lines) obs line named before.each here);
+      words = widths_are_kept a b ab before.words;
     }

@@ -6,8 +6,10 @@ use Rattle.set_tree.specs.Formulas.{meaning_of}
 use Rattle.word_dag.specs.declared.ob.Named.{Named}
 use Rattle.line_laws.specs.Lines.{IsOf}
 use Rattle.line_laws.specs.Names.{line_name}
+use Rattle.word_names.specs.Names.{HasOneWordEach}
 
--- an obligation of the line under the line's name
+-- an obligation of the line under the line's name, no two free words of which have one name, side and cycle
 pub record IsNamedOf (set : Set) (line : Line) (named : Named) : Type 0 where
   pub name : named.name ≡ line_name set line
   pub of_line : IsOf (meaning_of set) set line named.ob.nodes named.ob.root
+  pub words : HasOneWordEach named.ob.nodes

@@ -6,6 +6,7 @@ ghost use Rattle.twin_tests.specs.Framing.{AreFrames, SpeaksOf};
 ghost use Rattle.twin_tests.specs.Named.{IsNamedOf};
 ghost use Rattle.twin_tests.specs.Reading.{HasStructure};
 ghost use Rattle.word_dag.specs.Adding.{Keeps};
+ghost use Rattle.word_names.specs.Names.{HasOneWidthEach};
 
 use crate::frame::{Frames, frames_of};
 use crate::line::line_node;
@@ -28,6 +29,7 @@ fn named_ob(
     requires structure { HasStructure set.now }
     requires line { SpeaksOf set.now line }
     requires frames { AreFrames set.now dag.old frames.now }
+    requires words { HasOneWidthEach dag.old }
     ensures keeps { IfOk result (λ _. Keeps dag.old dag.new) }
     ensures named { IfOk result (λ named. IsNamedOf set.now line named) }
 {
@@ -38,7 +40,7 @@ fn named_ob(
 }
 
 /// The obligations of the lines of a set, in the order of a report: for each line its name, and nodes whose root is 1 exactly at values whose
-/// windows violate the line. Where the end of a property may lie at several offsets, the windows of each reach as far as that end asks. It is
+/// windows violate the line, no two free words of which have one name, side and cycle. Where the end of a property may lie at several offsets, the windows of each reach as far as that end asks. It is
 /// refused for want of memory alone.
 pub fn twin_obs(alloc: Global, sound: &Sound) -> Result<Vec<Named>, AllocError>
     ensures { IfOk result (λ obs. AllZip (IsNamedOf sound.now) (set_lines sound.now) obs.items) }

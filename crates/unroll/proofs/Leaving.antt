@@ -19,7 +19,7 @@ use Rattle.word_dag.proofs.NodeValues.{fits_at, width_at-map}
 use Rattle.elab_node.proofs.Fits.{words_fit}
 use Rattle.elab_node.proofs.Kept.{grows_then, keeps_same}
 use Rattle.word_dag.proofs.Valued.{grows_kept}
-use Rattle.elab_node.specs.Nodes.{IsNode}
+use Rattle.elab_node.specs.Nodes.{AddsFrees, IsNode}
 use Rattle.word_design.specs.declared.design.Net.{Net}
 use Rattle.word_design.specs.Designs.{IsDesign, Parts, free, naming_of, source, sources}
 use Rattle.word_design.specs.declared.design.Register.{Register}
@@ -28,6 +28,8 @@ use Rattle.segment_laws.specs.Segments.{cycle_number}
 use Rattle.segment_laws.proofs.Holding.{held_first, held_input, held_register, held_reset, node_word}
 use Rattle.segment_laws.proofs.Sources.{one_node}
 use Rattle.unroll.specs.Copies.{CopiedBefore, IsWordAt, ShowLeaves}
+use Rattle.unroll.specs.Unrolled.{IsSourceWord}
+use Rattle.unroll.proofs.Sourcing.{frees_again, frees_none, source_words}
 
 level_least : (a high : Bool) → (if same a high then 1 else 0) ≤ 1
 level_least true true = omega arith
@@ -181,13 +183,15 @@ among_taken (y ∷ xs) (suc j) x m = ⊎_elim (λ (is : y ≡ x). inl is) (λ (i
 -- the leaves so far
 pub record LeafLoop (d : Parts) (props : Set) (k i : ℕ) (start nodes : List Node) (leaves : List ℕ) (ss : List Net) : Type 0 where
   pub grows : Grows start nodes
+  pub frees : AddsFrees (IsSourceWord d) start nodes
   pub shows : ShowLeaves d props k i nodes leaves ss
   pub sources : (s : Net) → Among ss s → Among (sources d) s
 
-pub leaf_step : (d : Parts) → IsDesign d → (props : Set) (k i : ℕ) (start a b : List Node) (leaves new : List ℕ) (ss more : List Net) (s : Net) (n : ℕ) → Among (sources d) s → more ≡ ss ++ s ∷ [] → Grows a b → IsNode b n s.width →
+pub leaf_step : (d : Parts) → IsDesign d → (props : Set) (k i : ℕ) (start a b : List Node) (leaves new : List ℕ) (ss more : List Net) (s : Net) (n : ℕ) → Among (sources d) s → more ≡ ss ++ s ∷ [] → Grows a b → AddsFrees (λ m. m ≡ Free s.name s.width 0 (cycle_number k i)) a b → IsNode b n s.width →
     IsWordAt b n s.width (λ e. held d props k e i s.name) → new ≡ set leaves s.node n → LeafLoop d props k i start a leaves ss → LeafLoop d props k i start b new more
-leaf_step d h props k i start a b leaves new ss more s n among is ab node word made before = record {
+leaf_step d h props k i start a b leaves new ss more s n among is ab added node word made before = record {
   grows = grows_then start a b before.grows ab;
+  frees = frees_again (IsSourceWord d) start a b before.frees (source_words d s (cycle_number k i) a b among added);
   shows = subst (λ (zs : List Net). ShowLeaves d props k i b new zs) (sym is) (put_leaf d h props k i a b leaves new ss s n among before.sources ab node word made before.shows);
   sources = λ t m. ⊎_elim (λ (old : Among ss t). before.sources t old) (λ (same : s ≡ t). subst (λ (u : Net). Among (sources d) u) same among) (among_push ss s t (subst (λ (zs : List Net). Among zs t) is m));
 }
@@ -211,7 +215,7 @@ source_below d h leaves s m count = let there = (h.free_words s m).0 in omega (a
 pub leaf_start : (d : Parts) (props : Set) (k i : ℕ) (nodes : List Node) (leaves : List ℕ) (ss none : List Net) → none ≡ [] → ((s : Net) → Among ss s → Among (sources d) s) → ShowLeaves d props k i nodes leaves ss → LeafLoop d props k i nodes nodes leaves (ss ++ none)
 leaf_start d props k i nodes leaves ss none is all shows =
     let same : ss ++ none ≡ ss = ap (λ (zs : List Net). ss ++ zs) is ∙ append_nil ss in
-    subst (λ (zs : List Net). LeafLoop d props k i nodes nodes leaves zs) (sym same) (record { grows = grows_kept nodes nodes (keeps_same nodes); shows = shows; sources = all })
+    subst (λ (zs : List Net). LeafLoop d props k i nodes nodes leaves zs) (sym same) (record { grows = grows_kept nodes nodes (keeps_same nodes); frees = frees_none (IsSourceWord d) nodes; shows = shows; sources = all })
 
 -- one more register
 pub registers_more : (xs rs : List Register) (j : ℕ) (r : Register) → xs ≡ rs → j < length xs → r ≡ get_or xs j r → map source (take (j + 1) rs) ≡ map source (take j rs) ++ source r ∷ []

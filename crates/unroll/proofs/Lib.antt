@@ -1,3 +1,4 @@
+pub mod Sourcing
 pub mod Copying
 pub mod Leaving
 pub mod Rowing

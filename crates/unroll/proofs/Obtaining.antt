@@ -19,6 +19,8 @@ use Rattle.unroll.specs.declared.segment.Segments.{Segments}
 use Rattle.unroll.specs.Named.{IsNamedOf}
 use Rattle.unroll.specs.Unrolled.{AreSegments}
 use Rattle.unroll.proofs.Rowing.{segments_later, zip_more}
+use Rattle.word_names.specs.Names.{HasOneWidthEach}
+use Rattle.word_names.proofs.Taken.{widths_are_kept}
 
 -- one more line for a number
 pub number_step : (f : ℕ → Line) (old new next : List Line) (n k : ℕ) → new ≡ old ++ map f (numbers_from n k) → next ≡ new ++ f (n + k) ∷ [] → next ≡ old ++ map f (numbers_from n (k + 1))
@@ -42,11 +44,13 @@ lines_speak set =
 pub record ObsLoop (d : Parts) (set : Set) (nodes : List Node) (segments : Segments) (lines : List Line) (obs : List Named) : Type 0 where
   pub held : AreSegments d set nodes segments
   pub each : AllZip (IsNamedOf d set) lines obs
+  pub words : HasOneWidthEach nodes
 
 pub obs_step : (d : Parts) (set : Set) (a b : List Node) (segments : Segments) (lines : List Line) (obs new : List Named) (i : ℕ) (line : Line) (named : Named) → Keeps a b → i < length lines → line ≡ get_or lines i line → new ≡ obs ++ named ∷ [] → IsNamedOf d set line named → ObsLoop d set a segments (take i lines) obs → ObsLoop d set b segments (take (i + 1) lines) new
 obs_step d set a b segments lines obs new i line named ab lt is made here before = record {
   held = segments_later d set a b segments ab before.held;
   each = zip_more (IsNamedOf d set) lines i line obs new named lt is made here before.each;
+  words = widths_are_kept a b ab before.words;
 }
 
 -- the four parts of the report's lines on the design

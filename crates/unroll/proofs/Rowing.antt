@@ -17,6 +17,7 @@ use Rattle.word_dag.specs.Nodes.{Naming, dag_values, width_at, word_at}
 use Rattle.word_dag.proofs.NodeValues.{width_at-map}
 use Rattle.word_design.specs.declared.design.Net.{Net}
 use Rattle.word_design.specs.Designs.{IsDesign, Parts, word_in}
+use Rattle.elab_node.specs.Nodes.{AddsFrees}
 use Rattle.elab_node.proofs.Kept.{grows_then}
 use Rattle.segment_laws.specs.Tests.{held, row_at, rows_from, seen, segment_rows, shown}
 use Rattle.segment_laws.proofs.Fitting.{IsThere, name_there}
@@ -24,7 +25,8 @@ use Rattle.twin_tests.specs.Building.{HasWidth, IsLeafRow, Shows, ShowsRow, row_
 use Rattle.twin_tests.proofs.Standing.{shown_length, shows_grown, shows_later, shows_take}
 use Rattle.unroll.specs.Copies.{AreCopies, CopiedBefore, FitCopies, IsPlaceOf, place_at}
 use Rattle.unroll.specs.declared.segment.Segments.{Segments}
-use Rattle.unroll.specs.Unrolled.{AreSegments}
+use Rattle.unroll.specs.Unrolled.{AreSegments, IsSourceWord}
+use Rattle.unroll.proofs.Sourcing.{frees_again}
 
 -- a place is that of the signal that is there
 place_is : (d : Parts) (x : Name) (place : ℕ) (o : Option Net) (n : Net) → net_at d.nets x.name ≡ o → o ≡ Some n → IsPlaceOf d x place → place ≡ n.node
@@ -96,24 +98,27 @@ rows_push d props k e i (suc n) =
 -- the rows so far
 pub record RowsLoop (d : Parts) (props : Set) (k n : ℕ) (start nodes : List Node) (copies : List ℕ) (rows : List (List ℕ)) : Type 0 where
   pub grows : Grows start nodes
+  pub frees : AddsFrees (IsSourceWord d) start nodes
   pub copied : CopiedBefore d props k (k + n) nodes copies
   pub shows : Shows props.names nodes rows (λ e. rows_from d props k e k n)
 
-pub rows_begin : (d : Parts) (props : Set) (k : ℕ) (start nodes : List Node) (copies : List ℕ) (rows : List (List ℕ)) → Grows start nodes → rows ≡ [] → CopiedBefore d props k k nodes copies → RowsLoop d props k 0 start nodes copies rows
-rows_begin d props k start nodes copies rows grows none copied =
+pub rows_begin : (d : Parts) (props : Set) (k : ℕ) (start nodes : List Node) (copies : List ℕ) (rows : List (List ℕ)) → Grows start nodes → AddsFrees (IsSourceWord d) start nodes → rows ≡ [] → CopiedBefore d props k k nodes copies → RowsLoop d props k 0 start nodes copies rows
+rows_begin d props k start nodes copies rows grows frees none copied =
     let here : k + 0 ≡ k = omega arith in record {
       grows = grows;
+      frees = frees;
       copied = rw here copied;
       shows = subst (λ (zs : List (List ℕ)). Shows props.names nodes zs (λ e. [])) (sym none) (record { leaves = record { each = All-nil (IsLeafRow props.names nodes) }; means = λ e. refl });
     }
 
-pub rows_step : (d : Parts) → IsDesign d → (props : Set) → Fits d props → (k n : ℕ) (start a b : List Node) (old copies places : List ℕ) (rows new : List (List ℕ)) (row : List ℕ) → AllZip (IsPlaceOf d) props.names places → Grows a b →
+pub rows_step : (d : Parts) → IsDesign d → (props : Set) → Fits d props → (k n : ℕ) (start a b : List Node) (old copies places : List ℕ) (rows new : List (List ℕ)) (row : List ℕ) → AllZip (IsPlaceOf d) props.names places → Grows a b → AddsFrees (IsSourceWord d) a b →
     CopiedBefore d props k (suc (k + n)) b copies → row ≡ map (slice_index copies) places → new ≡ rows ++ row ∷ [] → RowsLoop d props k n start a old rows → RowsLoop d props k (n + 1) start b copies new
-rows_step d h props fits k n start a b old copies places rows new row at ab copied made pushed before =
+rows_step d h props fits k n start a b old copies places rows new row at ab added copied made pushed before =
     let one = row_shows d h props fits b copies copied.0 k (k + n) places row copied.1 at made in
     let shown = shows_grown a b props.names rows (λ e. rows_from d props k e k n) ab before.shows in
     let next : k + (n + 1) ≡ suc (k + n) = omega arith in record {
       grows = grows_then start a b before.grows ab;
+      frees = frees_again (IsSourceWord d) start a b before.frees added;
       copied = rw next copied;
       shows = subst (λ (zs : List (List ℕ)). Shows props.names b zs (λ e. rows_from d props k e k (n + 1))) (sym pushed) (record {
         leaves = record { each = All-push (IsLeafRow props.names b) rows row shown.leaves.each one.leaves };

@@ -8,6 +8,7 @@ use Rattle.word_dag.specs.declared.ob.Named.{Named}
 use Rattle.word_design.specs.Designs.{Parts}
 use Rattle.line_laws.specs.Names.{line_name}
 use Rattle.segment_laws.specs.Lines.{IsOf}
+use Rattle.word_names.specs.Names.{HasOneWordEach}
 use Rattle.unroll.specs.declared.lines.OfNumber.{OfNumber}
 use Rattle.unroll.specs.declared.lines.OfNumber.TheVariants as one
 
@@ -17,7 +18,8 @@ numbered_line one.Base i = l.Base i
 numbered_line one.Step i = l.Step i
 numbered_line one.Operation p = l.Operation p
 
--- an obligation of the line under the line's name
+-- an obligation of the line under the line's name, no two free words of which have one name, side and cycle
 pub record IsNamedOf (d : Parts) (set : Set) (line : Line) (named : Named) : Type 0 where
   pub name : named.name ≡ line_name set line
   pub of_line : IsOf d (meaning_of set) set line named.ob.nodes named.ob.root
+  pub words : HasOneWordEach named.ob.nodes

@@ -1,12 +1,19 @@
 -- The segments of a design as nodes.
-use Rattle.std.specs.Prelude.{ℕ, ◌<◌, List, length}
+use Rattle.std.specs.Prelude.{◌≡◌, ℕ, ℤ, ◌<◌, List, length}
 use Rattle.set_tree.specs.declared.set.Set.{Set}
 use Rattle.set_tree.specs.Parts.{IsPosition, window_of}
+use Rattle.vlog_runs.specs.Places.{Among}
 use Rattle.word_dag.specs.declared.node.Node.{Node}
-use Rattle.word_design.specs.Designs.{Parts}
+use Rattle.word_dag.specs.declared.node.Node.TheVariants.{Free}
+use Rattle.word_design.specs.declared.design.Net.{Net}
+use Rattle.word_design.specs.Designs.{Parts, sources}
 use Rattle.segment_laws.specs.Tests.{rows_from}
 use Rattle.twin_tests.specs.Building.{Shows}
 use Rattle.unroll.specs.declared.segment.Segments.{Segments}
+
+-- a node is the free word of a register or an input in some cycle
+abbrev pub IsSourceWord : Parts → Node → Type 0
+IsSourceWord d n = (s : Net) × (t : ℤ) × Among (sources d) s × (n ≡ Free s.name s.width 0 t)
 
 -- the rows of both kinds of segments, which reach as far as any line of the design does
 pub record AreSegments (d : Parts) (set : Set) (nodes : List Node) (segments : Segments) : Type 0 where

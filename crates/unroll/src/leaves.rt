@@ -2,13 +2,15 @@
 ghost use Rattle.std.specs.Prelude.{◌≡◌, ◌<◌, ◌≤◌, pos, ◌-ℤ◌, nat_lt, [], length, map, if◌then◌else◌, IfOk, OnOk};
 ghost use Rattle.std.specs.Str.{bytes_eq};
 ghost use Rattle.binding.specs.Binding.{Fits};
-ghost use Rattle.elab_node.specs.Nodes.{IsNode};
+ghost use Rattle.elab_node.specs.Nodes.{AddsFrees, IsNode};
 ghost use Rattle.segment_laws.specs.Segments.{cycle_number};
 ghost use Rattle.segment_laws.specs.Tests.{held, level};
 ghost use Rattle.unroll.specs.Copies.{AreLeaves, CopiedBefore, FitLeaves, IsWordAt, ShowLeaves};
+ghost use Rattle.unroll.specs.Unrolled.{IsSourceWord};
 ghost use Rattle.vlog_runs.specs.Places.{Among};
 ghost use Rattle.word_core.specs.Words.{word};
 ghost use Rattle.word_dag.specs.Adding.{Grows};
+ghost use Rattle.word_dag.specs.declared.node.Node.TheVariants.{Free};
 ghost use Rattle.word_design.specs.Designs.{IsDesign, source, sources};
 
 use binding::Bound;
@@ -44,6 +46,7 @@ fn free_node(
     requires some { 0 < width }
     requires most { width ≤ 64 }
     ensures grows { IfOk result (λ _. Grows dag.old dag.new) }
+    ensures frees { IfOk result (λ _. AddsFrees (λ n. n ≡ Free name.now width 0 (cycle_number moment.resets moment.position)) dag.old dag.new) }
     ensures node { IfOk result (λ i. IsNode dag.new i width) }
     ensures word { IfOk result (λ i. IsWordAt dag.new i width (λ e. e name.now 0 (cycle_number moment.resets moment.position))) }
 {
@@ -75,6 +78,7 @@ fn input_node(
     requires some { 0 < input.now.width }
     requires most { input.now.width ≤ 64 }
     ensures grows { IfOk result (λ _. Grows dag.old dag.new) }
+    ensures frees { IfOk result (λ _. AddsFrees (λ n. n ≡ Free input.now.name input.now.width 0 (cycle_number moment.resets moment.position)) dag.old dag.new) }
     ensures node { IfOk result (λ i. IsNode dag.new i input.now.width) }
     ensures word { IfOk result (λ i. IsWordAt dag.new i input.now.width (λ e. if bytes_eq input.now.name set.now.reset then level set.now (nat_lt moment.position moment.resets) else e input.now.name 0 (cycle_number moment.resets moment.position))) }
 {
@@ -101,6 +105,7 @@ fn register_node(
     requires fits { Fits bound.now.design bound.now.set }
     requires before { CopiedBefore bound.now.design bound.now.set moment.resets moment.position dag.old copies.now }
     ensures grows { IfOk result (λ _. Grows dag.old dag.new) }
+    ensures frees { IfOk result (λ _. AddsFrees (λ n. n ≡ Free register.now.name register.now.width 0 (cycle_number moment.resets moment.position)) dag.old dag.new) }
     ensures node { IfOk result (λ i. IsNode dag.new i register.now.width) }
     ensures word { IfOk result (λ i. IsWordAt dag.new i register.now.width (λ e. held bound.now.design bound.now.set moment.resets e moment.position register.now.name)) }
 {
@@ -125,6 +130,7 @@ fn put_registers(
     requires before { CopiedBefore bound.now.design bound.now.set moment.resets moment.position dag.old copies.now }
     requires count { length leaves.old ≡ length bound.now.design.nodes }
     ensures grows { OnOk result (Grows dag.old dag.new) }
+    ensures frees { OnOk result (AddsFrees (IsSourceWord bound.now.design) dag.old dag.new) }
     ensures leaves { OnOk result (ShowLeaves bound.now.design bound.now.set moment.resets moment.position dag.new leaves.new (map source bound.now.design.registers)) }
 {
     for register in bound.design().registers() {
@@ -146,6 +152,7 @@ fn put_inputs(
     requires fits { Fits bound.now.design bound.now.set }
     requires leaves { ShowLeaves bound.now.design bound.now.set moment.resets moment.position dag.old leaves.old (map source bound.now.design.registers) }
     ensures grows { OnOk result (Grows dag.old dag.new) }
+    ensures frees { OnOk result (AddsFrees (IsSourceWord bound.now.design) dag.old dag.new) }
     ensures leaves { OnOk result (ShowLeaves bound.now.design bound.now.set moment.resets moment.position dag.new leaves.new (sources bound.now.design)) }
 {
     let set = bound.set().set();
@@ -167,6 +174,7 @@ pub fn leaves_of(
 ) -> Result<Vec<u64>, AllocError>
     requires { CopiedBefore bound.now.design bound.now.set moment.resets moment.position dag.old copies.now }
     ensures grows { IfOk result (λ _. Grows dag.old dag.new) }
+    ensures frees { IfOk result (λ _. AddsFrees (IsSourceWord bound.now.design) dag.old dag.new) }
     ensures fit { IfOk result (λ leaves. FitLeaves bound.now.design dag.new leaves.items) }
     ensures leaves { IfOk result (λ leaves. AreLeaves bound.now.design dag.new leaves.items (λ e. held bound.now.design bound.now.set moment.resets e moment.position)) }
 {

@@ -11,6 +11,7 @@ ghost use Rattle.twin_tests.specs.Reading.{HasStructure};
 ghost use Rattle.unroll.specs.Named.{IsNamedOf};
 ghost use Rattle.unroll.specs.Unrolled.{AreSegments};
 ghost use Rattle.word_dag.specs.Adding.{Keeps};
+ghost use Rattle.word_names.specs.Names.{HasOneWidthEach};
 ghost use Rattle.word_design.specs.Designs.{IsDesign, Parts};
 
 use crate::line::{base_node, operation_node, reset_node, step_node};
@@ -84,6 +85,7 @@ fn named_ob(
     requires structure { HasStructure set.now }
     requires line { SpeaksOf set.now line }
     requires segments { (d : Parts) × AreSegments d set.now dag.old segments.now }
+    requires words { HasOneWidthEach dag.old }
     ensures keeps { IfOk result (λ _. Keeps dag.old dag.new) }
     ensures named { IfOk result (λ named. (d : Parts) → IsDesign d → Fits d set.now → AreSegments d set.now dag.old segments.now → IsNamedOf d set.now line named) }
 {
@@ -94,7 +96,7 @@ fn named_ob(
 }
 
 /// The obligations of the lines of a design, in the order of a report: for each line its name, and nodes whose root is 1 exactly at values
-/// whose segment violates the line. The free words are the registers' in a segment's first cycle and the inputs' in each of its cycles, the
+/// whose segment violates the line, no two free words of which have one name and cycle. The free words are the registers' in a segment's first cycle and the inputs' in each of its cycles, the
 /// reset cycles among them; the reset is a constant. It is refused for want of memory alone.
 pub fn design_obs(alloc: Global, bound: &Bound) -> Result<Vec<Named>, AllocError>
     ensures { IfOk result (λ obs. AllZip (IsNamedOf bound.now.design bound.now.set) (design_lines bound.now.set) obs.items) }

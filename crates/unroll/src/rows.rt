@@ -2,9 +2,11 @@
 ghost use Rattle.std.specs.Prelude.{◌≡◌, ◌+◌, ◌<◌, ◌≤◌, ◌^◌, suc, true, is_some, length, map, slice_index, IfOk};
 ghost use Rattle.std.specs.List.{All, AllZip};
 ghost use Rattle.binding.specs.Binding.{Fits, net_at};
+ghost use Rattle.elab_node.specs.Nodes.{AddsFrees};
 ghost use Rattle.segment_laws.specs.Tests.{rows_from};
 ghost use Rattle.twin_tests.specs.Building.{Shows};
 ghost use Rattle.unroll.specs.Copies.{CopiedBefore, IsPlaceOf, place_at};
+ghost use Rattle.unroll.specs.Unrolled.{IsSourceWord};
 ghost use Rattle.word_dag.specs.Adding.{Grows};
 ghost use Rattle.word_design.specs.Designs.{IsDesign};
 
@@ -38,6 +40,7 @@ fn cycle_nodes(
 ) -> Result<Vec<u64>, AllocError>
     requires { CopiedBefore bound.now.design bound.now.set moment.resets moment.position dag.old before.now }
     ensures grows { IfOk result (λ _. Grows dag.old dag.new) }
+    ensures frees { IfOk result (λ _. AddsFrees (IsSourceWord bound.now.design) dag.old dag.new) }
     ensures copied { IfOk result (λ copies. CopiedBefore bound.now.design bound.now.set moment.resets (suc moment.position) dag.new copies.items) }
 {
     let leaves = leaves_of(alloc, dag, bound, moment, before)?;
@@ -53,6 +56,7 @@ fn reset_nodes(
     resets: u8,
 ) -> Result<Vec<u64>, AllocError>
     ensures grows { IfOk result (λ _. Grows dag.old dag.new) }
+    ensures frees { IfOk result (λ _. AddsFrees (IsSourceWord bound.now.design) dag.old dag.new) }
     ensures copied { IfOk result (λ copies. CopiedBefore bound.now.design bound.now.set resets resets dag.new copies.items) }
 {
     let mut copies = Vec::new(alloc);
@@ -92,6 +96,7 @@ pub fn segment_nodes(
     requires places { AllZip (IsPlaceOf bound.now.design) bound.now.set.names places.now }
     requires small { resets + count < 2 ^ 8 }
     ensures grows { IfOk result (λ _. Grows dag.old dag.new) }
+    ensures frees { IfOk result (λ _. AddsFrees (IsSourceWord bound.now.design) dag.old dag.new) }
     ensures rows { IfOk result (λ rows. Shows bound.now.set.names dag.new rows.items (λ e. rows_from bound.now.design bound.now.set resets e resets count)) }
 {
     // the nodes of a design fit

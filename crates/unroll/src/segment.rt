@@ -1,9 +1,10 @@
 // The segments of a design as nodes.
 ghost use Rattle.std.specs.Prelude.{◌≡◌, IfOk};
 ghost use Rattle.std.specs.List.{AllZip};
+ghost use Rattle.elab_node.specs.Nodes.{AddsFrees};
 ghost use Rattle.twin_tests.specs.Reading.{HasStructure};
 ghost use Rattle.unroll.specs.Copies.{IsPlaceOf};
-ghost use Rattle.unroll.specs.Unrolled.{AreSegments};
+ghost use Rattle.unroll.specs.Unrolled.{AreSegments, IsSourceWord};
 ghost use Rattle.word_dag.specs.Adding.{Grows};
 
 use crate::rows::{place_of, segment_nodes};
@@ -37,6 +38,7 @@ fn places_of(alloc: Global, bound: &Bound) -> Result<Vec<u64>, AllocError>
 pub fn segments_of(alloc: Global, dag: &mut Dag, bound: &Bound) -> Result<Segments, AllocError>
     requires { HasStructure bound.now.set }
     ensures grows { IfOk result (λ _. Grows dag.old dag.new) }
+    ensures frees { IfOk result (λ _. AddsFrees (IsSourceWord bound.now.design) dag.old dag.new) }
     ensures segments { IfOk result (λ segments. AreSegments bound.now.design bound.now.set dag.new segments) }
 {
     let places = places_of(alloc, bound)?;

@@ -1,4 +1,4 @@
-use Rattle.std.proofs.Common.{◌≡◌, ◌<◌, List, get_or, length, sym, ◌∙◌, subst, arith}
+use Rattle.std.proofs.Common.{◌≡◌, ◌<◌, List, get_or, length, refl, sym, ◌∙◌, subst, arith}
 use Rattle.std.specs.List.{All}
 use Rattle.set_tree.specs.declared.line.Line.{Line}
 use Rattle.set_tree.specs.declared.line.Line.TheVariants.{Base}
@@ -8,7 +8,7 @@ use Rattle.twin_tests.specs.Framing.{SpeaksOf}
 use Rattle.twin_tests.specs.Named.{IsNamedOf}
 use Rattle.twin_tests.specs.Reading.{HasStructure}
 use Rattle.twin_tests.proofs.Handing.{get_again}
-use Rattle.twin_tests.proofs.Spoken.{lines_speak, obs_step}
+use Rattle.twin_tests.proofs.Spoken.{lines_speak, obs_begin, obs_step}
 use Rattle.twin_tests.proofs.obs.twin_obs.Goals as goal
 
 pub named_ob-requires-clause-line : goal.named_ob-requires-clause-line
@@ -20,6 +20,12 @@ named_ob-requires-clause-line c =
     let listed : items ≡ set_lines set = c.deref-line-items.ensures.value ∙ c.in_ok-lines.ensures in
     let all : All (SpeaksOf set) items = subst (λ (ls : List Line). All (SpeaksOf set) ls) (sym listed) (lines_speak set structure) in
     all c.loop-line.line-index (Base 0) lt
+
+pub loop-line-init : goal.loop-line-init
+loop-line-init c =
+    let set = c.set-set.result.now in
+    let structure : HasStructure set = subst (λ (z : Set). HasStructure z) (sym c.set-set.ensures.value) (record { sound = c.set-set.ensures.sound; formed = c.set-set.ensures.formed }) in
+    obs_begin c.args.sound.now set _ c.frames_of.new.dag c.in_ok-frames.frames _ _ c.set-set.ensures.value structure c.new-dag.ensures c.in_ok-frames.ensures.frames c.in_ok-frames.ensures.frees refl c.in_ok-obs.ensures.items
 
 pub loop-line-preserved : goal.loop-line-preserved
 loop-line-preserved c =

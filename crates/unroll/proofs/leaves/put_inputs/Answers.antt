@@ -58,4 +58,4 @@ loop-input-preserved c =
     let m = item_among xs d.inputs j n listed c.loop-input-test.true c.input-item.is in
     let same = c.set-set.ensures.value ∙ c.set.ensures in
     let word = input_held d c.requires.design b.set c.requires.fits t.resets t.position c.input_node.new.dag c.in_ok-node.node n m (subst (λ (z : Set). IsWordAt c.input_node.new.dag c.in_ok-node.node n.width (λ e. if bytes_eq n.name z.reset then level z (nat_lt t.position t.resets) else e n.name 0 (cycle_number t.resets t.position))) same c.in_ok-node.ensures.word) in
-    leaf_step d c.requires.design b.set t.resets t.position c.args.dag.now c.loop-input.dag c.input_node.new.dag c.loop-input.leaves _ _ _ n c.in_ok-node.node (input_source d n m) (inputs_more (map source d.registers) xs d.inputs j n listed c.loop-input-test.true c.input-item.is) c.in_ok-node.ensures.grows c.in_ok-node.ensures.node word refl c.loop-input.invariant
+    leaf_step d c.requires.design b.set t.resets t.position c.args.dag.now c.loop-input.dag c.input_node.new.dag c.loop-input.leaves _ _ _ n c.in_ok-node.node (input_source d n m) (inputs_more (map source d.registers) xs d.inputs j n listed c.loop-input-test.true c.input-item.is) c.in_ok-node.ensures.grows c.in_ok-node.ensures.frees c.in_ok-node.ensures.node word refl c.loop-input.invariant

@@ -41,4 +41,4 @@ loop-register-preserved c =
     let j = c.loop-register.register-index in
     let xs = c.registers-register-items.result.now in
     let m = item_among xs d.registers j r listed c.loop-register-test.true c.register-item.is in
-    leaf_step d c.requires.design b.set c.args.moment.resets c.args.moment.position c.args.dag.now c.loop-register.dag c.register_node.new.dag c.loop-register.leaves _ _ _ (source r) c.in_ok-node.node (register_source d r m) (registers_more xs d.registers j r listed c.loop-register-test.true c.register-item.is) c.in_ok-node.ensures.grows c.in_ok-node.ensures.node c.in_ok-node.ensures.word refl c.loop-register.invariant
+    leaf_step d c.requires.design b.set c.args.moment.resets c.args.moment.position c.args.dag.now c.loop-register.dag c.register_node.new.dag c.loop-register.leaves _ _ _ (source r) c.in_ok-node.node (register_source d r m) (registers_more xs d.registers j r listed c.loop-register-test.true c.register-item.is) c.in_ok-node.ensures.grows c.in_ok-node.ensures.frees c.in_ok-node.ensures.node c.in_ok-node.ensures.word refl c.loop-register.invariant

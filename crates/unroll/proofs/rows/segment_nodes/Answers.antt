@@ -20,4 +20,4 @@ loop-end-preserved c =
     let design = design_is b.design c.design.result.now c.design.ensures.value c.dag-fit.ensures.design in
     let copies = c.in_ok-copies-2.copies.items in
     let row = c.in_ok-row.ensures ∙ ap (λ (xs : List ℕ). map (slice_index xs) c.args.places.now) c.as_slice-in-loop-end.ensures.value in
-    rows_step b.design design b.set c.design.ensures.fits c.args.resets loop.end c.args.dag.now loop.dag c.cycle_nodes.new.dag loop.copies.items copies c.args.places.now loop.rows.items c.push.new.self.items c.in_ok-row.row c.requires.places c.in_ok-copies-2.ensures.grows c.in_ok-copies-2.ensures.copied row c.in_ok-push.ensures.items loop.invariant
+    rows_step b.design design b.set c.design.ensures.fits c.args.resets loop.end c.args.dag.now loop.dag c.cycle_nodes.new.dag loop.copies.items copies c.args.places.now loop.rows.items c.push.new.self.items c.in_ok-row.row c.requires.places c.in_ok-copies-2.ensures.grows c.in_ok-copies-2.ensures.frees c.in_ok-copies-2.ensures.copied row c.in_ok-push.ensures.items loop.invariant

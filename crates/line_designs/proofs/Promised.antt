@@ -1,0 +1,27 @@
+-- A report without a violated line is a promise.
+use Rattle.std.proofs.Common.{ap}
+use Rattle.vlog_tree.specs.Value.{own_value}
+use Rattle.set_tree.specs.declared.set.Set.{Set}
+use Rattle.set_tree.specs.Formulas.{entries_from, meaning_of}
+use Rattle.set_tree.specs.Meaning.{ReadsWithin}
+use Rattle.set_designs.specs.Designs.{design_from}
+use Rattle.completeness.proofs.Complete.{complete}
+use Rattle.completeness.proofs.Forever.{complete_forever}
+use Rattle.completeness.proofs.ReportLines.{are_design_lines_valid}
+use Rattle.completeness.proofs.SignedOff.{runs, set_valid}
+use Rattle.completeness.proofs.Sound.{runs_satisfy}
+use Rattle.line_designs.specs.Promises.{CleanDesignLinesHold, CleanReportsSignOff}
+
+reads : (set : Set) → ReadsWithin (meaning_of set)
+reads set f xs ys same = ap (λ rows. own_value (entries_from set.names 0 rows) f) same
+
+pub design_lines_hold : CleanDesignLinesHold
+design_lines_hold ms top set sound valid =
+    runs_satisfy (design_from ms top set) (meaning_of set) (reads set) set sound.offsets (are_design_lines_valid (design_from ms top set) (meaning_of set) set valid)
+
+pub reports_sign_off : CleanReportsSignOff
+reports_sign_off ms top set sound clean =
+    let m = meaning_of set in
+    let d = design_from ms top set in
+    let whole = complete m (reads set) set sound (set_valid d m (reads set) set sound clean) in
+    record { runs = runs d m (reads set) set sound clean; complete = whole; forever = complete_forever m (reads set) set sound whole }
