@@ -1,0 +1,57 @@
+// Why a stage refuses.
+use binding::BindFault;
+use elab_faults::ElabFault;
+use flat_faults::FlatFault;
+use outside::Text;
+use set_read::SetFault;
+use set_sound::Unsound;
+use std::alloc::AllocError;
+use vlog_lex::ReadFault;
+
+/// What is wrong with a module text.
+#[derive(Drop)]
+pub enum ModuleFault {
+    /// It has more than 1,048,576 bytes.
+    TooLong,
+    /// It isn't read.
+    Read(ReadFault),
+    /// Its modules don't make a module without instances.
+    Flat(FlatFault),
+    /// A signal of this name is a memory, of which no design is made yet.
+    Later(Text),
+    /// The module without instances has no functions.
+    Elab(ElabFault),
+}
+
+/// What is wrong with a set's text.
+#[derive(Drop)]
+pub enum SetStop {
+    /// It has more than 1,048,576 bytes.
+    TooLong,
+    /// It isn't read.
+    Read(SetFault),
+    /// The structure of the set isn't sound.
+    Graph(Unsound),
+}
+
+/// The first stage that refuses two texts.
+#[derive(Drop)]
+pub enum StageFault {
+    Module(ModuleFault),
+    Set(SetStop),
+    /// The set doesn't fit the design.
+    Bind(BindFault),
+    /// Want of memory.
+    Memory,
+}
+
+impl From<AllocError> for StageFault {
+    ghost use Rattle.std.specs.Prelude.{◌≡◌};
+    ghost use Rattle.check_stages.specs.declared.fault.StageFault.TheVariants.{Memory};
+
+    ghost from_gives = { λ _ fault. fault ≡ Memory };
+
+    fn from(_error: AllocError) -> StageFault {
+        StageFault::Memory
+    }
+}
