@@ -22,8 +22,8 @@ use Rattle.set_sound.specs.Faults.{IsFirst}
 use Rattle.binding.specs.Binding.{Fits, Pair, Stands as StandsBetween}
 use Rattle.check_stages.specs.declared.fault.ModuleFault.TheVariants as m
 use Rattle.check_stages.specs.declared.fault.SetStop.TheVariants as t
-use Rattle.check_stages.specs.declared.fault.StageFault.{StageFault}
-use Rattle.check_stages.specs.declared.fault.StageFault.TheVariants as f
+use Rattle.check_stages.specs.declared.fault.CheckFault.{CheckFault}
+use Rattle.check_stages.specs.declared.fault.CheckFault.TheVariants as f
 
 -- ---- what the stages give
 
@@ -66,7 +66,7 @@ pub record IsBoundOf (text set_text : List ℕ) (b : Pair) : Type 0 where
 -- ---- refusals
 
 -- the module text is too long, or isn't read
-abbrev pub RefusesModules : List ℕ → StageFault → Type 0
+abbrev pub RefusesModules : List ℕ → CheckFault → Type 0
 RefusesModules text (f.Module m.TooLong) = 1048576 < length text
 RefusesModules text (f.Module (m.Read fault)) = (length text ≤ 1048576) × RefusesText text fault × (fault ≢ r.Memory)
 RefusesModules text (f.Module (m.Flat fault)) = ⊥
@@ -74,19 +74,21 @@ RefusesModules text (f.Module (m.Later n)) = ⊥
 RefusesModules text (f.Module (m.Elab fault)) = ⊥
 RefusesModules text (f.Set stop) = ⊥
 RefusesModules text (f.Bind fault) = ⊥
+RefusesModules text f.NoLine = ⊥
 RefusesModules text f.Memory = Unit {0}
 
 -- the set's text is too long, isn't read, or spells a set whose structure has this first fault
-abbrev pub RefusesSet : List ℕ → StageFault → Type 0
+abbrev pub RefusesSet : List ℕ → CheckFault → Type 0
 RefusesSet text (f.Set t.TooLong) = 1048576 < length text
 RefusesSet text (f.Set (t.Read fault)) = (length text ≤ 1048576) × RefusesSetText text fault × (fault ≢ s.Memory)
 RefusesSet text (f.Set (t.Graph u)) = (length text ≤ 1048576) × Spells text u.set × IsFirst u.set u.fault
 RefusesSet text (f.Module fault) = ⊥
 RefusesSet text (f.Bind fault) = ⊥
+RefusesSet text f.NoLine = ⊥
 RefusesSet text f.Memory = Unit {0}
 
 -- a fault of flattening stands for the modules, a signal is a memory, or a fault of elaboration stands
-abbrev pub RefusesDesign : List Module → Name → StageFault → Type 0
+abbrev pub RefusesDesign : List Module → Name → CheckFault → Type 0
 RefusesDesign ms top (f.Module (m.Flat fault)) = StandsFlat ms top fault
 RefusesDesign ms top (f.Module (m.Later n)) = (flat : Flat) × IsFlattened ms top flat × (g : Signal) × IsMemory flat.signals g × (n ≡ g.name)
 RefusesDesign ms top (f.Module (m.Elab fault)) = (flat : Flat) × IsPlainFlatOf ms top flat × IsFaultOf flat fault
@@ -94,6 +96,7 @@ RefusesDesign ms top (f.Module m.TooLong) = ⊥
 RefusesDesign ms top (f.Module (m.Read fault)) = ⊥
 RefusesDesign ms top (f.Set stop) = ⊥
 RefusesDesign ms top (f.Bind fault) = ⊥
+RefusesDesign ms top f.NoLine = ⊥
 RefusesDesign ms top f.Memory = Unit {0}
 
 -- the stages that refuse after texts were read
@@ -101,7 +104,7 @@ abbrev pub RefusesAfter : (List Module → Set → Type 0) → List ℕ → List
 RefusesAfter P text set_text = (ms : List Module) × (set : Set) × IsModuleText text ms × IsSetText set_text set × P ms set
 
 -- the first stage that refuses, and why
-abbrev pub Refuses : List ℕ → List ℕ → StageFault → Type 0
+abbrev pub Refuses : List ℕ → List ℕ → CheckFault → Type 0
 Refuses text set_text (f.Module m.TooLong) = RefusesModules text (f.Module m.TooLong)
 Refuses text set_text (f.Module (m.Read fault)) = RefusesModules text (f.Module (m.Read fault))
 Refuses text set_text (f.Set stop) = ((ms : List Module) × IsModuleText text ms) × RefusesSet set_text (f.Set stop)
@@ -109,4 +112,5 @@ Refuses text set_text (f.Module (m.Flat fault)) = RefusesAfter (λ ms set. Refus
 Refuses text set_text (f.Module (m.Later n)) = RefusesAfter (λ ms set. RefusesDesign ms set.block (f.Module (m.Later n))) text set_text
 Refuses text set_text (f.Module (m.Elab fault)) = RefusesAfter (λ ms set. RefusesDesign ms set.block (f.Module (m.Elab fault))) text set_text
 Refuses text set_text (f.Bind fault) = RefusesAfter (λ ms set. (d : Parts) × IsDesignOf ms set.block d × StandsBetween d set fault) text set_text
+Refuses text set_text f.NoLine = ⊥
 Refuses text set_text f.Memory = Unit {0}

@@ -3,7 +3,7 @@ ghost use Rattle.std.specs.Prelude.{IfOk, IfErr};
 ghost use Rattle.check_stages.specs.Stages.{IsBoundOf, Refuses};
 
 use crate::design::design_of;
-use crate::fault::StageFault;
+use crate::fault::CheckFault;
 use crate::texts::{modules_of, set_of};
 use binding::{BindFault, Bound, bind};
 use std::alloc::Global;
@@ -11,7 +11,7 @@ use std::alloc::Global;
 /// The set that a text spells, bound to the design of the modules that another text spells from the set's block. The stages come in this order,
 /// and the first that refuses is answered: the module text is read, the set's text is read and its structure tested, the modules are flattened and
 /// elaborated, and the set is bound to the design. Want of memory can come at any of them.
-pub fn bound_of(alloc: Global, module: &[u8], set: &[u8]) -> Result<Bound, StageFault>
+pub fn bound_of(alloc: Global, module: &[u8], set: &[u8]) -> Result<Bound, CheckFault>
     ensures ok { IfOk result (IsBoundOf «module».now set.now) }
     ensures err { IfErr result (Refuses «module».now set.now) }
 {
@@ -20,7 +20,7 @@ pub fn bound_of(alloc: Global, module: &[u8], set: &[u8]) -> Result<Bound, Stage
     let design = design_of(alloc, &modules, sound.set().block.bytes())?;
     match bind(alloc, design, sound) {
         Ok(bound) => Ok(bound),
-        Err(BindFault::Memory) => Err(StageFault::Memory),
-        Err(fault) => Err(StageFault::Bind(fault)),
+        Err(BindFault::Memory) => Err(CheckFault::Memory),
+        Err(fault) => Err(CheckFault::Bind(fault)),
     }
 }

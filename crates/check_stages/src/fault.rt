@@ -34,24 +34,28 @@ pub enum SetStop {
     Graph(Unsound),
 }
 
-/// The first stage that refuses two texts.
+/// Why a check refuses two texts: the first stage that does, or what it was asked for.
 #[derive(Drop)]
-pub enum StageFault {
+pub enum CheckFault {
+    /// The module text, or its modules.
     Module(ModuleFault),
+    /// The set's text, or its set.
     Set(SetStop),
     /// The set doesn't fit the design.
     Bind(BindFault),
+    /// The set's report has no line of the name that was asked for.
+    NoLine,
     /// Want of memory.
     Memory,
 }
 
-impl From<AllocError> for StageFault {
+impl From<AllocError> for CheckFault {
     ghost use Rattle.std.specs.Prelude.{◌≡◌};
-    ghost use Rattle.check_stages.specs.declared.fault.StageFault.TheVariants.{Memory};
+    ghost use Rattle.check_stages.specs.declared.fault.CheckFault.TheVariants.{Memory};
 
     ghost from_gives = { λ _ fault. fault ≡ Memory };
 
-    fn from(_error: AllocError) -> StageFault {
-        StageFault::Memory
+    fn from(_error: AllocError) -> CheckFault {
+        CheckFault::Memory
     }
 }

@@ -7,4 +7,4 @@ mod fault;
 mod texts;
 
 pub use bound::bound_of;
-pub use fault::{ModuleFault, SetStop, StageFault};
+pub use fault::{CheckFault, ModuleFault, SetStop};

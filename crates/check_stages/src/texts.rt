@@ -2,7 +2,7 @@
 ghost use Rattle.std.specs.Prelude.{IfOk, IfErr};
 ghost use Rattle.check_stages.specs.Stages.{IsModuleText, IsSetText, RefusesModules, RefusesSet};
 
-use crate::fault::{ModuleFault, SetStop, StageFault};
+use crate::fault::{ModuleFault, SetStop, CheckFault};
 use set_read::{SetFault, read_set};
 use set_sound::{Sound, structure};
 use std::alloc::Global;
@@ -14,36 +14,36 @@ use vlog_tree::Module;
 const LIMIT: usize = 1048576;
 
 /// The modules that a text spells. Refused where it is too long, or isn't read, and for want of memory.
-pub fn modules_of(alloc: Global, text: &[u8]) -> Result<Vec<Module>, StageFault>
+pub fn modules_of(alloc: Global, text: &[u8]) -> Result<Vec<Module>, CheckFault>
     ensures ok { IfOk result (λ modules. IsModuleText text.now modules.items) }
     ensures err { IfErr result (RefusesModules text.now) }
 {
     if text.len() > LIMIT {
-        return Err(StageFault::Module(ModuleFault::TooLong));
+        return Err(CheckFault::Module(ModuleFault::TooLong));
     }
     match read_modules(alloc, text) {
         Ok(modules) => Ok(modules),
-        Err(ReadFault::Memory) => Err(StageFault::Memory),
-        Err(fault) => Err(StageFault::Module(ModuleFault::Read(fault))),
+        Err(ReadFault::Memory) => Err(CheckFault::Memory),
+        Err(fault) => Err(CheckFault::Module(ModuleFault::Read(fault))),
     }
 }
 
 /// The set that a text spells, of a sound structure. Refused where the text is too long, isn't read, or spells a set whose structure isn't sound,
 /// and for want of memory.
-pub fn set_of(alloc: Global, text: &[u8]) -> Result<Sound, StageFault>
+pub fn set_of(alloc: Global, text: &[u8]) -> Result<Sound, CheckFault>
     ensures ok { IfOk result (λ set. IsSetText text.now set) }
     ensures err { IfErr result (RefusesSet text.now) }
 {
     if text.len() > LIMIT {
-        return Err(StageFault::Set(SetStop::TooLong));
+        return Err(CheckFault::Set(SetStop::TooLong));
     }
     let set = match read_set(alloc, text) {
         Ok(set) => set,
-        Err(SetFault::Memory) => return Err(StageFault::Memory),
-        Err(fault) => return Err(StageFault::Set(SetStop::Read(fault))),
+        Err(SetFault::Memory) => return Err(CheckFault::Memory),
+        Err(fault) => return Err(CheckFault::Set(SetStop::Read(fault))),
     };
     match structure(set) {
         Ok(sound) => Ok(sound),
-        Err(unsound) => Err(StageFault::Set(SetStop::Graph(unsound))),
+        Err(unsound) => Err(CheckFault::Set(SetStop::Graph(unsound))),
     }
 }

@@ -9,6 +9,7 @@ use Rattle.vlog_runs.specs.declared.flat.TopPort.{TopPort}
 use Rattle.vlog_runs.specs.Places.{Name, Among}
 use Rattle.vlog_runs.specs.Contents.{Decl, decls_in, declares, port_names, Block}
 use Rattle.vlog_runs.specs.Scopes.{Scope, scope_at, module_at}
+use Rattle.flat_laws.specs.Flattened.{AreScopes, IsFlatOf}
 use Rattle.flat_faults.specs.Clocks.{Reaches, WaitsFor, Reset}
 use Rattle.flat_faults.specs.Stands.{IsClockedBlock, IsClockOf}
 
@@ -40,3 +41,9 @@ pub record HasClocks (ms : List Module) (top : Name) (f : Flat) : Type 0 where
 -- no signal is a memory
 abbrev pub HasNoMemories : Flat → Type 0
 HasNoMemories f = (g : Signal) → Among f.signals g → g.depth ≡ 0
+
+-- ---- texts
+
+-- it is the texts of the instances one after another
+abbrev pub IsFlattened : List Module → Name → Flat → Type 0
+IsFlattened ms top f = (ss : List Scope) × AreScopes ms top ss × IsFlatOf ms top ss f

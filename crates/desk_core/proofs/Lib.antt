@@ -1,0 +1,2 @@
+pub mod Obliged
+pub mod Deciding

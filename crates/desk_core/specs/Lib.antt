@@ -1,0 +1,5 @@
+pub mod Obligations
+pub mod Lines
+pub mod Reports
+pub mod Checks
+pub mod Asked
