@@ -8,5 +8,5 @@ pub mod Naming
 pub mod Framed
 pub mod Reported
 pub mod Handing
-pub mod Words
+pub mod Widths
 pub mod Spoken

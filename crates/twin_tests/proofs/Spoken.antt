@@ -23,7 +23,7 @@ use Rattle.twin_tests.specs.Framing.{AreFrames, IsWindowWord, SpeaksOf}
 use Rattle.twin_tests.specs.Named.{IsNamedOf}
 use Rattle.twin_tests.specs.Reading.{HasStructure}
 use Rattle.twin_tests.proofs.Framed.{frames_later, next_positions}
-use Rattle.twin_tests.proofs.Words.{window_widths}
+use Rattle.twin_tests.proofs.Widths.{window_widths}
 
 numbers_below : (n k m : ℕ) → n + k ≤ m → All (λ p. p < m) (numbers_from n k)
 numbers_below n zero m le = All-nil (λ p. p < m)

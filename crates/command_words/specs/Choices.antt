@@ -1,0 +1,80 @@
+-- The options and the plain words among words.
+use Rattle.std.specs.Prelude.{ℕ, Bool, ◌&&◌, not, nat_eq, List, [], ◌∷◌, ◌++◌, drop, codes, Option, Some, None, is_some, if◌then◌else◌}
+use Rattle.std.specs.List.{starts_with}
+use Rattle.std.specs.Str.{bytes_eq}
+use Rattle.command_words.specs.declared.choices.Choice.{Choice}
+use Rattle.command_words.specs.declared.choices.Choice.TheVariants.{Budget, Workers}
+use Rattle.command_words.specs.Numbers.{number_within}
+
+-- what options have been given, and the plain words so far
+pub record Choices : Type 0 where
+  pub budget : Option ℕ
+  pub workers : Option ℕ
+  pub plain : List (List ℕ)
+
+abbrev pub nothing : Choices
+nothing = record { budget = None; workers = None; plain = [] }
+
+-- a value of an option
+abbrev pub value_of : Choice → List ℕ → Option ℕ
+value_of Budget word = number_within 1 10000000 word
+value_of Workers word = number_within 1 64 word
+
+-- a value is given to an option that has none yet
+abbrev pub with_budget : Option ℕ → Choices → Option Choices
+with_budget None c = None
+with_budget (Some n) c = if is_some c.budget then None else Some (record c { budget = Some n })
+
+abbrev pub with_workers : Option ℕ → Choices → Option Choices
+with_workers None c = None
+with_workers (Some n) c = if is_some c.workers then None else Some (record c { workers = Some n })
+
+abbrev pub given : Choice → List ℕ → Choices → Option Choices
+given Budget word c = with_budget (value_of Budget word) c
+given Workers word c = with_workers (value_of Workers word) c
+
+abbrev pub with_plain : List ℕ → Choices → Choices
+with_plain word c = record c { plain = c.plain ++ word ∷ [] }
+
+-- all further words are plain
+abbrev pub all_plain : List (List ℕ) → Choices → Choices
+all_plain [] c = c
+all_plain (w ∷ ws) c = all_plain ws (with_plain w c)
+
+abbrev pub is_hyphened : List ℕ → Bool
+is_hyphened word = starts_with nat_eq word (45 ∷ [])
+
+-- what a word is: `--` ends the options; `--x` waits for its value, and `--x=v` has it; any other word that begins with `-` and isn't `-` alone is wrong
+pub data Kind : Type 0 where
+  ends : Kind
+  waits : Choice → Kind
+  gives : Choice → List ℕ → Kind
+  wrong : Kind
+  plain : Kind
+
+abbrev pub kind_of : List ℕ → Kind
+kind_of word =
+    if bytes_eq word (codes "--") then ends
+    else if bytes_eq word (codes "--budget") then waits Budget
+    else if bytes_eq word (codes "--workers") then waits Workers
+    else if starts_with nat_eq word (codes "--budget=") then gives Budget (drop 9 word)
+    else if starts_with nat_eq word (codes "--workers=") then gives Workers (drop 10 word)
+    else if is_hyphened word && not (bytes_eq word (codes "-")) then wrong
+    else plain
+
+abbrev pub and_then : Option Choices → (Choices → Option Choices) → Option Choices
+and_then None f = None
+and_then (Some c) f = f c
+
+-- what words choose besides what was chosen before, where an option may wait for its value, which doesn't begin with `-`
+abbrev pub chosen : List (List ℕ) → Option Choice → Choices → Option Choices
+chosen [] None c = Some c
+chosen [] (Some o) c = None
+chosen (w ∷ ws) (Some o) c = if is_hyphened w then None else and_then (given o w c) (chosen ws None)
+chosen (w ∷ ws) None c = elim (kind_of w) [
+  | ends ↦ Some (all_plain ws c)
+  | waits o ↦ chosen ws (Some o) c
+  | gives o v ↦ and_then (given o v c) (chosen ws None)
+  | wrong ↦ None
+  | plain ↦ chosen ws None (with_plain w c)
+]

@@ -1,0 +1,4 @@
+pub mod Numbers
+pub mod Choices
+pub mod Seen
+pub mod Commands

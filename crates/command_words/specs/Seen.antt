@@ -1,0 +1,16 @@
+-- What choices and words of the code stand for.
+use Rattle.std.specs.Prelude.{List}
+use Rattle.command_words.specs.declared.choices.Chosen.{Chosen}
+use Rattle.command_words.specs.declared.choices.Kind.{Kind as View}
+use Rattle.command_words.specs.declared.choices.Kind.TheVariants as v
+use Rattle.command_words.specs.Choices.{Choices, Kind, ends, gives, plain, waits, wrong}
+
+abbrev pub choices_of : Chosen → Choices
+choices_of c = record { budget = c.budget; workers = c.workers; plain = c.plain.items }
+
+abbrev pub kind_meant : View → Kind
+kind_meant v.Ends = ends
+kind_meant (v.Waits o) = waits o
+kind_meant (v.Gives o w) = gives o w.now
+kind_meant v.Wrong = wrong
+kind_meant v.Plain = plain

@@ -1,0 +1,161 @@
+// Options and plain words.
+ghost use Rattle.std.specs.Prelude.{◌≡◌, None, map, option_map, string_bytes, IfOk};
+ghost use Rattle.command_words.specs.Choices.{all_plain, chosen, chosen_on, given, is_hyphened, kind_of, value_of, with_budget, with_plain, with_workers};
+ghost use Rattle.command_words.specs.Seen.{choices_of, kind_meant};
+
+use crate::number::number_within;
+use outside::Text;
+use std::alloc::{AllocError, Global};
+
+/// An option.
+#[derive(Clone, Copy, PartialEq, Eq)]
+pub enum Choice {
+    /// The most steps of the solver for a line.
+    Budget,
+    /// How many workers decide lines.
+    Workers,
+}
+
+/// The options that words give, and the plain words.
+#[derive(Drop)]
+pub struct Chosen {
+    pub budget: Option<u64>,
+    pub workers: Option<u64>,
+    pub plain: Vec<Text>,
+}
+
+/// What a word is.
+#[derive(Clone, Copy)]
+pub enum Kind<'a> {
+    /// It ends the options.
+    Ends,
+    /// An option whose value is the next word.
+    Waits(Choice),
+    /// An option with its value.
+    Gives(Choice, &'a [u8]),
+    Wrong,
+    Plain,
+}
+
+fn kind_of(word: &[u8]) -> Kind<'_>
+    ensures { kind_meant result ≡ kind_of word.now }
+{
+    if word == b"--" {
+        Kind::Ends
+    } else if word == b"--budget" {
+        Kind::Waits(Choice::Budget)
+    } else if word == b"--workers" {
+        Kind::Waits(Choice::Workers)
+    } else if word.starts_with(b"--budget=") {
+        Kind::Gives(Choice::Budget, &word[9..])
+    } else if word.starts_with(b"--workers=") {
+        Kind::Gives(Choice::Workers, &word[10..])
+    } else if word.starts_with(b"-") && word != b"-" {
+        Kind::Wrong
+    } else {
+        Kind::Plain
+    }
+}
+
+// Choices with a value of an option that has none yet.
+fn given(choice: Choice, word: &[u8], so_far: Chosen) -> Option<Chosen>
+    ensures { option_map choices_of result ≡ given choice word.now (choices_of so_far) }
+{
+    let Chosen {
+        budget,
+        workers,
+        plain,
+    } = so_far;
+    match choice {
+        Choice::Budget => {
+            let value = number_within(1, 10_000_000, word)?;
+            if budget.is_some() {
+                return None;
+            }
+            Some(Chosen {
+                budget: Some(value),
+                workers,
+                plain,
+            })
+        }
+        Choice::Workers => {
+            let value = number_within(1, 64, word)?;
+            if workers.is_some() {
+                return None;
+            }
+            Some(Chosen {
+                budget,
+                workers: Some(value),
+                plain,
+            })
+        }
+    }
+}
+
+// Choices with one more plain word.
+fn with_plain(alloc: Global, word: &[u8], so_far: Chosen) -> Result<Chosen, AllocError>
+    ensures { IfOk result (λ c. choices_of c ≡ with_plain word.now (choices_of so_far)) }
+{
+    let mut so_far = so_far;
+    so_far.plain.push(Text::copy(alloc, word)?)?;
+    Ok(so_far)
+}
+
+fn all_plain(alloc: Global, words: &[String], so_far: Chosen) -> Result<Chosen, AllocError>
+    ensures { IfOk result (λ c. choices_of c ≡ all_plain (map string_bytes words.now) (choices_of so_far)) }
+{
+    match words {
+        [] => Ok(so_far),
+        [word, rest @ ..] => {
+            let so_far = with_plain(alloc, word.as_bytes(), so_far)?;
+            all_plain(alloc, rest, so_far)
+        }
+    }
+}
+
+/// What words choose besides what was chosen before, where an option may wait for its value. None: they are no choices.
+pub fn chosen(
+    alloc: Global,
+    words: &[String],
+    waiting: Option<Choice>,
+    so_far: Chosen,
+) -> Result<Option<Chosen>, AllocError>
+    ensures { IfOk result (λ o. option_map choices_of o ≡ chosen (map string_bytes words.now) waiting (choices_of so_far)) }
+{
+    match words {
+        [] => match waiting {
+            None => Ok(Some(so_far)),
+            Some(_) => Ok(None),
+        },
+        [word, rest @ ..] => {
+            let word = word.as_bytes();
+            match waiting {
+                Some(choice) => {
+                    if word.starts_with(b"-") {
+                        return Ok(None);
+                    }
+                    match given(choice, word, so_far) {
+                        Some(so_far) => chosen(alloc, rest, None, so_far),
+                        None => Ok(None),
+                    }
+                }
+                None => match kind_of(word) {
+                    Kind::Ends => {
+                        let so_far = all_plain(alloc, rest, so_far)?;
+                        Ok(Some(so_far))
+                    }
+                    Kind::Waits(choice) => chosen(alloc, rest, Some(choice), so_far),
+                    Kind::Gives(choice, value) => match given(choice, value, so_far) {
+                        Some(so_far) => chosen(alloc, rest, None, so_far),
+                        None => Ok(None),
+                    },
+                    Kind::Wrong => Ok(None),
+                    Kind::Plain => {
+                        let so_far = with_plain(alloc, word, so_far)?;
+                        chosen(alloc, rest, None, so_far)
+                    }
+                },
+            }
+        }
+    }
+}
