@@ -1,0 +1,321 @@
+-- What has no fault can be made a design.
+use Rattle.std.proofs.Common.{◌≡◌, Bool, true, false, List, [], ◌∷◌, ◌++◌, Option, Some, None, map, sym, ap, ◌∙◌, refl, subst, ◌⊎◌, inl, inr, ⊎_elim, arith}
+use Rattle.std.specs.List.{flat_map}
+use Rattle.std.specs.Option.{option_map}
+use Rattle.std.specs.Str.{bytes_eq}
+use Rattle.std.proofs.lemmas.Slice.Eq.{bytes_eq-Decides}
+use Rattle.vlog_tree.specs.declared.expr.Expr.{Expr}
+use Rattle.vlog_tree.specs.declared.expr.Expr.TheVariants as e
+use Rattle.vlog_tree.specs.declared.item.Assign.{Assign}
+use Rattle.vlog_tree.specs.declared.item.Shape.{Shape}
+use Rattle.vlog_tree.specs.declared.module.Module.{Module}
+use Rattle.vlog_tree.specs.declared.stmt.Lval.{Lval, Row_of-Lval, end_of-Lval, more_of-Lval}
+use Rattle.vlog_tree.specs.declared.stmt.Lval.TheVariants as l
+use Rattle.vlog_tree.specs.declared.valuation.Entry.{Entry}
+use Rattle.vlog_tree.specs.Valuation.{IsLength, meant, meaning_of, named, depth_of}
+use Rattle.vlog_tree.specs.Value.{width_of, Stands as IsNamed, NamesOnly}
+use Rattle.vlog_runs.specs.declared.flat.Always.{Always}
+use Rattle.vlog_runs.specs.declared.flat.Flat.{Flat}
+use Rattle.vlog_runs.specs.declared.flat.Signal.{Signal}
+use Rattle.vlog_runs.specs.declared.flat.TopPort.{TopPort}
+use Rattle.vlog_runs.specs.Places.{Name, Among, Place, read}
+use Rattle.vlog_runs.specs.Blocks.{is_parameter}
+use Rattle.vlog_runs.specs.Contents.{Decl, decls_in, signals_in, port_names, assigns_in, blocks_in, Inner, instances_in}
+use Rattle.vlog_runs.specs.Scopes.{Scope, scope_at, module_at, place_of, signal_of, width_in, child, Given, given_to, decl_at, left_of, Link, links_of, own_link, inner_links, connections, connection, port_links, port_link}
+use Rattle.vlog_runs.specs.Cycles.{flat_place}
+use Rattle.flat_laws.specs.Moved.{moved, moved_name, moved_left, moved_lefts, moved_signal}
+use Rattle.flat_laws.specs.Uses.{known, IsSignal, AssignsSignals}
+use Rattle.flat_laws.specs.Flattened.{moved_link, moved_block, flat_signals, flat_assigns, flat_blocks, IsFlatOf, AreScopes, IsLinkDeclared, CanFlatten, HaveSimpleNames}
+use Rattle.flat_laws.specs.Laws.{MovesInto}
+use Rattle.flat_laws.proofs.Constants.{nothing, fixed}
+use Rattle.flat_laws.proofs.Finding.{bare}
+use Rattle.flat_laws.proofs.Lists.{bool_cases, among_append, append_left, among_map, map_among, map_append, among_flat, flat_among}
+use Rattle.flat_laws.proofs.Lows.{scope_moves}
+use Rattle.flat_faults.specs.declared.fault.FlatFault.{FlatFault}
+use Rattle.flat_faults.specs.Texts.{numbers_in, row_numbers_in}
+use Rattle.flat_faults.specs.Constants.{at_rest, alone, HasConstantNumbers}
+use Rattle.flat_faults.specs.Stands.{Stands}
+use Rattle.elab_block.specs.Ready.{left_width, IsReadyLeft, IsReadyStore, IsReadyStmt}
+use Rattle.elab_step.specs.Solving.{AreDistinct, ArePlain}
+use Rattle.elab_step.specs.Asked.{CanElaborate}
+use Rattle.ready_laws.specs.Fit.{IsFit}
+use Rattle.flat_ready.specs.Handed.{HasTopPorts, HasNoMemories}
+use Rattle.flat_ready.specs.Plain.{ArePlainTexts}
+use Rattle.ready_laws.specs.Laws.{HaveOwnPaths}
+use Rattle.ready_laws.proofs.Lengths.{name_length, longer}
+use Rattle.ready_laws.proofs.Standing as standing
+use Rattle.ready_laws.proofs.Sides.{left_ready, ready_store, moved_wide}
+use Rattle.ready_laws.proofs.Blocks.{stmt_ready, store_ready}
+use Rattle.ready_laws.proofs.Paths.{are_once}
+use Rattle.ready_laws.proofs.Signals.{signal_name, name_known, no_repeats, signal_shaped, all_distinct, all_plain, no_depth, signal_width, signal_stands, found_signal}
+use Rattle.ready_laws.proofs.Ports.{names_listed, top_found, ports_once, port_signal}
+
+-- ---- the numbers of a moved left side
+
+mutual
+  numbers_moved : (pre : Name) (ps : List Entry) (left : Lval) → numbers_in (moved_left pre ps left) ≡ map (moved pre ps) (numbers_in left)
+  numbers_moved pre ps (l.Name x) = refl
+  numbers_moved pre ps (l.Select x a) = refl
+  numbers_moved pre ps (l.Part x span a b) = refl
+  numbers_moved pre ps (l.Concat' h row) = row_moved pre ps row
+
+  row_moved : {m : _} (pre : Name) (ps : List Entry) (row : Row_of-Lval m) → row_numbers_in (moved_lefts pre ps row) ≡ map (moved pre ps) (row_numbers_in row)
+  row_moved pre ps end_of-Lval = refl
+  row_moved pre ps (more_of-Lval a rest) =
+      (λ r. numbers_moved pre ps a r ++ row_moved pre ps rest r) ∙ sym (map_append (moved pre ps) (numbers_in a) (row_numbers_in rest))
+
+numbers_constant : (p : Place) (left : Lval) → AssignsSignals p left → HasConstantNumbers (is_parameter p) left → (n : Expr) → Among (numbers_in (moved_left p.prefix p.params left)) n → NamesOnly nothing n
+numbers_constant p left d h n k =
+    let r = among_map (moved p.prefix p.params) (numbers_in left) n (subst (λ xs. Among xs n) (numbers_moved p.prefix p.params left) k) in
+    subst (λ z. NamesOnly nothing z) r.2 (fixed p r.0 (standing.numbers_use p left d r.0 r.1).1 (standing.number_constant (is_parameter p) left h r.0 r.1))
+
+-- ---- a name alone on the right
+
+name_store : (v : List Entry) (left : Lval) (x : Name) → IsReadyLeft v left → IsLength (left_width v left) → IsNamed v (read x) → IsReadyStore v left (e.Name (read x))
+name_store v left x ready len stands =
+    let own = name_length v (read x) stands in
+    let k = longer (width_of v (e.Name (read x))) (left_width v left) own len in
+    record {
+      left_side = ready;
+      length = len;
+      right_side = record { ready = record { formed = stands; some = k.0; long = omega arith; most = k.1 }; constant = tt; defined = refl };
+    }
+
+decl_found : (ds : List Decl) (x : Name) (d : Decl) → decl_at ds x ≡ Some d → Among ds d × (d.name ≡ x)
+decl_found [] x d h = cc
+decl_found (c ∷ ds) x d h =
+    ⊎_elim
+    (λ (t : bytes_eq c.name x ≡ true).
+    let s : Some c ≡ Some d = rw t at h in
+    let i : c ≡ d = cc in
+    (inl i, ap (λ (z : Decl). z.name) (sym i) ∙ (bytes_eq-Decides c.name x).0 t))
+    (λ (t : bytes_eq c.name x ≡ false). let r = decl_found ds x d (rw t at h) in (inr r.0, r.1))
+    (bool_cases (bytes_eq c.name x))
+
+-- ---- links by their forms
+
+abbrev in_link : Place → Place → Given → Link
+in_link r p g = record { into = p; left = l.Name g.name; from = r; right = g.value }
+
+abbrev out_link : Place → Place → Given → Link
+out_link r p g = record { into = r; left = left_of g.value; from = p; right = e.Name (read g.name) }
+
+port_in : (r p : Place) (g : Given) (d : Decl) (i o : Bool) → d.input ≡ i → d.output ≡ o → (k : Link) → Among (port_link r p g d) k →
+    ((d.input ≡ true) × (in_link r p g ≡ k)) ⊎ ((d.input ≡ false) × (out_link r p g ≡ k))
+port_in r p g d true o e f k h =
+    let z : Among (in_link r p g ∷ []) k = rw e at h in ⊎_elim (λ i. inl (e, i)) (λ z. absurd z) z
+port_in r p g d false true e f k h =
+    let z : Among (out_link r p g ∷ []) k = rw (e, f) at h in ⊎_elim (λ i. inr (e, i)) (λ z. absurd z) z
+port_in r p g d false false e f k h = let z : Among [] k = rw (e, f) at h in absurd z
+
+module _ (ms : List Module) (top : Name) (ss : List Scope) (f : Flat) (simple : HaveSimpleNames ms) (of : IsFlatOf ms top ss f) (are : AreScopes ms top ss) (own : HaveOwnPaths ms top ss)
+    (can : CanFlatten ms ss) (ports : HasTopPorts ms top f) (none : (fault : FlatFault) → Stands ms top fault → ⊥) (no_memories : HasNoMemories f) where
+  abbrev q : Place
+  q = flat_place f
+
+  moves : (u : Scope) → Among ss u → MovesInto (place_of u) q
+  moves u h = subst (λ gs. MovesInto (place_of u) (bare gs)) (sym of.signals) (scope_moves ss can.apart u h (can.usable u h).constants (can.usable u h).distinct)
+
+  -- ---- signals
+
+  distinct : AreDistinct (map signal_name f.signals)
+  distinct = subst (λ gs. AreDistinct (map signal_name gs)) (sym of.signals) (all_distinct ss can.apart ss (λ t n. n) (are_once ms simple top ss own.paths own.lead own.distinct))
+
+  plain : ArePlain f.signals
+  plain = all_plain f.signals no_memories
+
+  flat : (x : Name) → depth_of (at_rest q) (read x) ≡ 0
+  flat x = no_depth f.signals (λ y. 0) x plain
+
+  signal_in : (u : Scope) (g : Signal) → Among ss u → Among (place_of u).signals g → Among f.signals (moved_signal u.prefix g)
+  signal_in u g h k = subst (λ gs. Among gs (moved_signal u.prefix g)) (sym of.signals) (flat_among flat_signals ss u (moved_signal u.prefix g) h (map_among (moved_signal u.prefix) (place_of u).signals g k))
+
+  decl_wide : (u : Scope) → Among ss u → (d : Decl) → Among (signals_in u.module') d → IsLength (signal_of u.params d).width
+  decl_wide u h d m =
+      let at = are.only u h in
+      let r = signal_shaped u.module' d m in
+      subst (λ (z : Shape). IsLength (width_in z.range 1 u.params)) r.shape (standing.decl_wide ms top none u at.0 at.1 r.from r.among)
+
+  wide : (g : Signal) → Among f.signals g → IsLength g.width
+  wide g m =
+      let r = among_flat flat_signals ss g (subst (λ gs. Among gs g) of.signals m) in
+      let k = among_map (moved_signal r.0.prefix) (place_of r.0).signals g r.2 in
+      let d = among_map (signal_of r.0.params) (signals_in r.0.module') k.0 k.1 in
+      subst (λ (z : Signal). IsLength z.width) k.2 (subst (λ (z : Signal). IsLength z.width) d.2 (decl_wide r.0 r.1 d.0 d.1))
+
+  stands : (u : Scope) → Among ss u → (x : Name) → IsSignal (place_of u) x → IsNamed (at_rest q) (read (u.prefix ++ x))
+  stands u h x d =
+      let r = found_signal (place_of u).signals x d.1 in
+      let m = signal_in u r.0 h r.1 in
+      signal_stands f.signals distinct plain (λ y. 0) (moved_signal u.prefix r.0) m (u.prefix ++ x) (ap (λ y. u.prefix ++ y) r.2) (wide (moved_signal u.prefix r.0) m)
+
+  -- ---- blocks
+
+  block : (k : Always) → Among f.blocks k → IsReadyStmt (at_rest q) k.body
+  block k m =
+      let r = among_flat flat_blocks ss k (subst (λ bs. Among bs k) of.blocks m) in
+      let u = r.0 in
+      let at = are.only u r.1 in
+      let b = among_map (moved_block (place_of u)) (blocks_in u.module') k r.2 in
+      let d = (can.usable u r.1).blocks b.0 b.1 in
+      subst (λ (z : Always). IsReadyStmt (at_rest q) z.body) b.2
+      (stmt_ready (place_of u) q (moves u r.1) (stands u r.1) flat b.0.body d (standing.block_fit ms top none u at.0 at.1 b.0 b.1 d))
+
+  -- ---- equations
+
+  record IsReadyLink (k : Link) : Type 0 where
+    store : IsReadyStore (at_rest q) (moved_left k.into.prefix k.into.params k.left) (moved k.from.prefix k.from.params k.right)
+    constant : (n : Expr) → Among (numbers_in (moved_left k.into.prefix k.into.params k.left)) n → NamesOnly nothing n
+
+  module _ (s : Scope) (h : Among ss s) where
+    abbrev p : Place
+    p = place_of s
+
+    abbrev path : List Name
+    path = (are.only s h).0
+
+    at : scope_at ms top path ≡ Some s
+    at = (are.only s h).1
+
+    link_declared : (k : Link) → Among (links_of ms s) k → IsLinkDeclared k
+    link_declared k m = (can.usable s h).links k m
+
+    own_ready : (a : Assign) → Among (assigns_in s.module') a → IsReadyLink (own_link p a)
+    own_ready a m =
+        let d = link_declared (own_link p a) (append_left (map (own_link p) (assigns_in s.module')) (flat_map (inner_links ms s) (instances_in s.module')) (own_link p a) (map_among (own_link p) (assigns_in s.module') a m)) in
+        let numbers : (n : Expr) → Among (numbers_in a.left) n → IsFit p (alone (at_rest p) n) =
+        λ n k. standing.own_number ms top none s path at a m n k (standing.numbers_use p a.left d.left n k) in
+        let left = standing.own_left ms top none s path at a m in
+        record {
+          store = store_ready p q (moves s h) (stands s h) flat a.left a.right d.left d.right (standing.own_right ms top none s path at a m d.right)
+              (standing.fixed_fit ms top none s path at a.left left d.left numbers) numbers;
+          constant = numbers_constant p a.left d.left (standing.fixed_numbers ms top none s path at a.left left);
+        }
+
+    module _ (i : Inner) (m : Among (instances_in s.module') i) (t : Scope) (is : child ms s i ≡ Some t) (d : Given) (n : Among (given_to (port_names t.module') i.args) d)
+        (port : Decl) (declared : decl_at (signals_in t.module') d.name ≡ Some port) where
+      ht : Among ss t
+      ht = are.inner s t i h m is
+
+      -- the signal of the port
+      named_port : Among (signals_in t.module') port × (port.name ≡ d.name)
+      named_port = decl_found (signals_in t.module') d.name port declared
+
+      abbrev inner : Signal
+      inner = signal_of t.params port
+
+      inner_in : Among (place_of t).signals inner
+      inner_in = map_among (signal_of t.params) (signals_in t.module') port named_port.0
+
+      abbrev outer : Signal
+      outer = moved_signal t.prefix inner
+
+      outer_in : Among f.signals outer
+      outer_in = signal_in t inner ht inner_in
+
+      outer_named : outer.name ≡ t.prefix ++ d.name
+      outer_named = ap (λ y. t.prefix ++ y) named_port.1
+
+      port_stands : IsNamed (at_rest q) (read (t.prefix ++ d.name))
+      port_stands = signal_stands f.signals distinct plain (λ y. 0) outer outer_in (t.prefix ++ d.name) outer_named (wide outer outer_in)
+
+      input_ready : port.input ≡ true → IsLinkDeclared (in_link p (place_of t) d) → IsReadyLink (in_link p (place_of t) d)
+      input_ready inp u =
+          let same : outer.width ≡ (named (at_rest q) (read (t.prefix ++ d.name))).width =
+          sym (signal_width f.signals distinct plain (λ y. 0) outer outer_in (t.prefix ++ d.name) outer_named) in
+          record {
+            store = ready_store p q (moves s h) (stands s h) (l.Name (t.prefix ++ d.name)) d.value outer.width port_stands same (wide outer outer_in) u.right
+                (standing.input_fit ms top none s path at i m t is d n port declared inp u.right);
+            constant = λ x z. absurd z;
+          }
+
+      -- an output keeps its name
+      output_name : e.Name (read (t.prefix ++ d.name)) ≡ moved t.prefix t.params (e.Name (read d.name))
+      output_name =
+          let k = subst (λ y. Among (known (place_of t).signals) y) named_port.1 (name_known (place_of t).signals inner inner_in) in
+          let no : meaning_of t.params (read d.name) ≡ None = ap (option_map meant) ((can.usable t ht).distinct d.name k) in
+          sym (ap (λ o. moved_name t.prefix o (read d.name)) no)
+
+      output_ready : port.input ≡ false → IsLinkDeclared (out_link p (place_of t) d) → IsReadyLink (out_link p (place_of t) d)
+      output_ready inp u =
+          let left = left_of d.value in
+          let numbers : (x : Expr) → Among (numbers_in left) x → IsFit p (alone (at_rest p) x) =
+          λ x k. standing.output_number ms top none s path at i m t is d n port declared inp x k (standing.numbers_use p left u.left x k) in
+          let fixed_left = standing.output_left ms top none s path at i m t is d n port declared inp in
+          let fit = standing.fixed_fit ms top none s path at left fixed_left u.left numbers in
+          let ready = left_ready p q (moves s h) (stands s h) left u.left fit.spans fit.formed numbers in
+          let len = subst IsLength (moved_wide p q (moves s h) (stands s h) flat left u.left) fit.length in
+          record {
+            store = subst (λ x. IsReadyStore (at_rest q) (moved_left s.prefix s.params left) x) output_name
+                (name_store (at_rest q) (moved_left s.prefix s.params left) (t.prefix ++ d.name) ready len port_stands);
+            constant = numbers_constant p left u.left (standing.fixed_numbers ms top none s path at left fixed_left);
+          }
+
+    given_ready : (i : Inner) → Among (instances_in s.module') i → (t : Scope) → child ms s i ≡ Some t → (d : Given) → Among (given_to (port_names t.module') i.args) d →
+        (o : Option Decl) → decl_at (signals_in t.module') d.name ≡ o → (k : Link) → Among (port_links p (place_of t) d o) k → IsLinkDeclared k → IsReadyLink k
+    given_ready i m t is d n None declared k z u = absurd z
+    given_ready i m t is d n (Some port) declared k z u =
+        ⊎_elim
+        (λ r. subst IsReadyLink r.1 (input_ready i m t is d n port declared r.0 (subst IsLinkDeclared (sym r.1) u)))
+        (λ r. subst IsReadyLink r.1 (output_ready i m t is d n port declared r.0 (subst IsLinkDeclared (sym r.1) u)))
+        (port_in p (place_of t) d port port.input port.output refl refl k z)
+
+    inner_ready : (i : Inner) → Among (instances_in s.module') i → (o : Option Scope) → child ms s i ≡ o → (k : Link) → Among (connections p i o) k → IsLinkDeclared k → IsReadyLink k
+    inner_ready i m None is k z u = absurd z
+    inner_ready i m (Some t) is k z u =
+        let r = among_flat (connection p t) (given_to (port_names t.module') i.args) k z in
+        given_ready i m t is r.0 r.1 (decl_at (signals_in t.module') r.0.name) refl k r.2 u
+
+    link_ready : (k : Link) → Among (links_of ms s) k → IsReadyLink k
+    link_ready k m =
+        ⊎_elim
+        (λ a. let r = among_map (own_link p) (assigns_in s.module') k a in subst IsReadyLink r.2 (own_ready r.0 r.1))
+        (λ b. let r = among_flat (inner_links ms s) (instances_in s.module') k b in inner_ready r.0 r.1 (child ms s r.0) refl k r.2 (link_declared k m))
+        (among_append (map (own_link p) (assigns_in s.module')) (flat_map (inner_links ms s) (instances_in s.module')) k m)
+
+  -- each equation is the link of a scope
+  equation : (a : Assign) → Among f.assigns a → (k : Link) × IsReadyLink k × (moved_link k ≡ a)
+  equation a m =
+      let r = among_flat (flat_assigns ms) ss a (subst (λ xs. Among xs a) of.assigns m) in
+      let k = among_map moved_link (links_of ms r.0) a r.2 in
+      (k.0, link_ready r.0 r.1 k.0 k.1, k.2)
+
+  assign_store : (a : Assign) → Among f.assigns a → IsReadyStore (at_rest q) a.left a.right
+  assign_store a m = let r = equation a m in subst (λ (z : Assign). IsReadyStore (at_rest q) z.left z.right) r.2 r.1.store
+
+  assign_constant : (a : Assign) (n : Expr) → Among f.assigns a → Among (numbers_in a.left) n → NamesOnly nothing n
+  assign_constant a n m k =
+      let r = equation a m in r.1.constant n (subst (λ (z : Assign). Among (numbers_in z.left) n) (sym r.2) k)
+
+  -- ---- ports
+
+  header : (m : Module) × (module_at ms top ≡ Some m)
+  header = top_found ms top ss are none (module_at ms top) refl
+
+  listed : map (λ (p : TopPort). p.name) f.ports ≡ port_names header.0
+  listed = ap (map (λ (p : TopPort). p.name)) (ports header.0 header.1) ∙ names_listed (decls_in header.0) (port_names header.0)
+
+  port : (p : TopPort) → Among f.ports p → (g : Signal) × Among f.signals g × (g.name ≡ p.name)
+  port p m =
+      let n = subst (λ xs. Among xs p.name) listed (map_among (λ (z : TopPort). z.name) f.ports p m) in
+      let r = port_signal ms top ss are none header.0 header.1 p.name n in
+      (r.0, subst (λ gs. Among gs r.0) (sym of.signals) r.1, r.2)
+
+  once : AreDistinct (map (λ (p : TopPort). p.name) f.ports)
+  once = subst AreDistinct (sym listed) (no_repeats (port_names header.0) (λ x r. ports_once ms top ss are none header.0 header.1 x r))
+
+  all_ready : CanElaborate f
+  all_ready = record {
+    distinct = distinct;
+    plain = plain;
+    wide = wide;
+    assigns = assign_store;
+    constant = λ a n m k. assign_constant a n m k;
+    blocks = block;
+    ports = port;
+    once = once;
+  }
+
+pub can_elaborate : (ms : List Module) (top : Name) (ss : List Scope) (f : Flat) → ArePlainTexts ms → IsFlatOf ms top ss f → AreScopes ms top ss → HaveOwnPaths ms top ss → CanFlatten ms ss →
+    HasTopPorts ms top f → ((fault : FlatFault) → Stands ms top fault → ⊥) → HasNoMemories f → CanElaborate f
+can_elaborate ms top ss f texts of are own can ports none no_memories = all_ready ms top ss f (λ m h. (texts m h).names) of are own can ports none no_memories

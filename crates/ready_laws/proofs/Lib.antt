@@ -1,0 +1,10 @@
+pub mod Stable
+pub mod Lengths
+pub mod Keeping
+pub mod Standing
+pub mod Paths
+pub mod Signals
+pub mod Ports
+pub mod Sides
+pub mod Blocks
+pub mod Elaborating
