@@ -1,5 +1,5 @@
 -- What a module without instances has of the top's header, and which clocks it has (IEEE 1364-2005, sections 9.7.4 and 12.3).
-use Rattle.std.specs.Prelude.{◌≡◌, ◌↔◌, Bool, List, Some, map, reverse}
+use Rattle.std.specs.Prelude.{◌≡◌, ◌↔◌, ◌+◌, ◌≤◌, ◌^◌, Bool, List, Some, map, reverse}
 use Rattle.vlog_tree.specs.declared.module.Module.{Module}
 use Rattle.vlog_tree.specs.declared.stmt.Edge.{Edge}
 use Rattle.vlog_runs.specs.declared.flat.Async.{Async}
@@ -9,9 +9,9 @@ use Rattle.vlog_runs.specs.declared.flat.TopPort.{TopPort}
 use Rattle.vlog_runs.specs.Places.{Name, Among}
 use Rattle.vlog_runs.specs.Contents.{Decl, decls_in, declares, port_names, Block}
 use Rattle.vlog_runs.specs.Scopes.{Scope, scope_at, module_at}
-use Rattle.flat_laws.specs.Flattened.{AreScopes, IsFlatOf}
+use Rattle.flat_laws.specs.Flattened.{AreScopes, CanFlatten, IsFlatOf}
 use Rattle.flat_faults.specs.Clocks.{Reaches, WaitsFor, Reset}
-use Rattle.flat_faults.specs.Stands.{IsClockedBlock, IsClockOf}
+use Rattle.flat_faults.specs.Stands.{AreDistinct, IsClockedBlock, IsClockOf}
 
 -- ---- ports
 
@@ -44,6 +44,22 @@ HasNoMemories f = (g : Signal) → Among f.signals g → g.depth ≡ 0
 
 -- ---- texts
 
--- it is the texts of the instances one after another
-abbrev pub IsFlattened : List Module → Name → Flat → Type 0
-IsFlattened ms top f = (ss : List Scope) × AreScopes ms top ss × IsFlatOf ms top ss f
+-- each scope of a list stands at a path of its own
+pub record HaveOwnPaths (ms : List Module) (top : Name) (ss : List Scope) : Type 0 where
+  pub paths : List (List Name)
+  pub lead : map Some ss ≡ map (scope_at ms top) paths
+  pub distinct : AreDistinct paths
+
+-- the texts of the instances one after another, each instance told at a path of its own
+pub record IsFlattened (ms : List Module) (top : Name) (f : Flat) : Type 0 where
+  pub scopes : List Scope
+  pub all : AreScopes ms top scopes
+  pub own : HaveOwnPaths ms top scopes
+  pub texts : IsFlatOf ms top scopes f
+  pub usable : CanFlatten ms scopes
+
+-- ---- bits
+
+-- the bits of each signal have numbers below 2 ^ 64
+abbrev pub AreNumbered : Flat → Type 0
+AreNumbered f = (g : Signal) → Among f.signals g → g.low + g.width ≤ 2 ^ 64

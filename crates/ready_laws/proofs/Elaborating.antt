@@ -41,7 +41,7 @@ use Rattle.elab_step.specs.Asked.{CanElaborate}
 use Rattle.ready_laws.specs.Fit.{IsFit}
 use Rattle.flat_ready.specs.Handed.{HasTopPorts, HasNoMemories}
 use Rattle.flat_ready.specs.Plain.{ArePlainTexts}
-use Rattle.ready_laws.specs.Laws.{HaveOwnPaths}
+use Rattle.flat_ready.specs.Handed.{HaveOwnPaths}
 use Rattle.ready_laws.proofs.Lengths.{name_length, longer}
 use Rattle.ready_laws.proofs.Standing as standing
 use Rattle.ready_laws.proofs.Sides.{left_ready, ready_store, moved_wide}

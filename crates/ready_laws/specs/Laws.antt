@@ -19,14 +19,8 @@ use Rattle.flat_faults.specs.Stands.{AreDistinct, Stands}
 use Rattle.elab_block.specs.Ready.{IsReadyStmt}
 use Rattle.elab_step.specs.Asked.{CanElaborate}
 use Rattle.ready_laws.specs.Fit.{AreFit}
-use Rattle.flat_ready.specs.Handed.{HasTopPorts, HasNoMemories}
+use Rattle.flat_ready.specs.Handed.{HasTopPorts, HasNoMemories, HaveOwnPaths}
 use Rattle.flat_ready.specs.Plain.{ArePlainTexts}
-
--- each scope of a list stands at a path of its own
-pub record HaveOwnPaths (ms : List Module) (top : Name) (ss : List Scope) : Type 0 where
-  pub paths : List (List Name)
-  pub lead : map Some ss ≡ map (scope_at ms top) paths
-  pub distinct : AreDistinct paths
 
 -- the texts of a block may be taken in the place that it is moved to, where no name is a memory's: the block itself is fit, and its signals stand there
 abbrev pub MovedBlocksStayReady : Type 0
