@@ -2,8 +2,8 @@
 use Rattle.std.specs.Prelude.{ℕ, Bool, ◌&&◌, not, nat_eq, List, [], ◌∷◌, ◌++◌, drop, codes, Option, Some, None, is_some, if◌then◌else◌}
 use Rattle.std.specs.List.{starts_with}
 use Rattle.std.specs.Str.{bytes_eq}
-use Rattle.command_words.specs.declared.choices.Choice.{Choice}
-use Rattle.command_words.specs.declared.choices.Choice.TheVariants.{Budget, Workers}
+use Rattle.command_words.specs.declared.chosen.Choice.{Choice}
+use Rattle.command_words.specs.declared.chosen.Choice.TheVariants.{Budget, Workers}
 use Rattle.command_words.specs.Numbers.{number_within}
 
 -- what options have been given, and the plain words so far

@@ -1,9 +1,9 @@
 -- The command that words spell: its name, then options and the names of files.
-use Rattle.std.specs.Prelude.{ℕ, List, [], ◌∷◌, codes, Option, Some, None, unwrap_or, if◌then◌else◌}
+use Rattle.std.specs.Prelude.{ℕ, ◌<◌, ◌≤◌, List, [], ◌∷◌, codes, Option, Some, None, unwrap_or, if◌then◌else◌}
 use Rattle.std.specs.Str.{bytes_eq}
-use Rattle.command_words.specs.declared.command.Action.{Action}
-use Rattle.command_words.specs.declared.command.Action.TheVariants.{Ops, Check}
-use Rattle.command_words.specs.declared.command.Command.{Command}
+use Rattle.command_words.specs.declared.action.Action.{Action}
+use Rattle.command_words.specs.declared.action.Action.TheVariants.{Ops, Check}
+use Rattle.command_words.specs.declared.action.Command.{Command}
 use Rattle.command_words.specs.Choices.{Choices, chosen, nothing}
 
 -- two files, and what options leave out
@@ -26,3 +26,9 @@ command_by (Some action) ws = made_of action (chosen ws None nothing)
 abbrev pub command_of : List (List ℕ) → Option Command
 command_of [] = None
 command_of (w ∷ ws) = command_by (action_of w) ws
+
+-- a budget of at least 1, and 1 to 64 workers
+pub record IsBounded (c : Command) : Type 0 where
+  pub budget : 0 < c.budget
+  pub working : 0 < c.workers
+  pub few : c.workers ≤ 64

@@ -1,6 +1,6 @@
 -- What choices and words of the code stand for.
-use Rattle.std.specs.Prelude.{List}
-use Rattle.command_words.specs.declared.choices.Chosen.{Chosen}
+use Rattle.std.specs.Prelude.{ℕ, ◌<◌, ◌≤◌, List, IfSome}
+use Rattle.command_words.specs.declared.chosen.Chosen.{Chosen}
 use Rattle.command_words.specs.declared.choices.Kind.{Kind as View}
 use Rattle.command_words.specs.declared.choices.Kind.TheVariants as v
 use Rattle.command_words.specs.Choices.{Choices, Kind, ends, gives, plain, waits, wrong}
@@ -14,3 +14,9 @@ kind_meant (v.Waits o) = waits o
 kind_meant (v.Gives o w) = gives o w.now
 kind_meant v.Wrong = wrong
 kind_meant v.Plain = plain
+
+-- a budget of at least 1, and 1 to 64 workers, where they are given
+pub record AreBounded (c : Choices) : Type 0 where
+  pub budget : IfSome c.budget (λ n. 0 < n)
+  pub working : IfSome c.workers (λ n. 0 < n)
+  pub few : IfSome c.workers (λ n. n ≤ 64)

@@ -1,28 +1,12 @@
 // Options and plain words.
-ghost use Rattle.std.specs.Prelude.{◌≡◌, None, map, option_map, string_bytes, IfOk};
-ghost use Rattle.command_words.specs.Choices.{all_plain, chosen, chosen_on, given, is_hyphened, kind_of, value_of, with_budget, with_plain, with_workers};
-ghost use Rattle.command_words.specs.Seen.{choices_of, kind_meant};
+ghost use Rattle.std.specs.Prelude.{◌≡◌, None, map, option_map, string_bytes, IfOk, IfSome};
+ghost use Rattle.command_words.specs.Choices.{all_plain, chosen, given, is_hyphened, kind_of, value_of, with_budget, with_plain, with_workers};
+ghost use Rattle.command_words.specs.Seen.{AreBounded, choices_of, kind_meant};
 
+use crate::chosen::{Choice, Chosen};
 use crate::number::number_within;
 use outside::Text;
 use std::alloc::{AllocError, Global};
-
-/// An option.
-#[derive(Clone, Copy, PartialEq, Eq)]
-pub enum Choice {
-    /// The most steps of the solver for a line.
-    Budget,
-    /// How many workers decide lines.
-    Workers,
-}
-
-/// The options that words give, and the plain words.
-#[derive(Drop)]
-pub struct Chosen {
-    pub budget: Option<u64>,
-    pub workers: Option<u64>,
-    pub plain: Vec<Text>,
-}
 
 /// What a word is.
 #[derive(Clone, Copy)]
@@ -40,17 +24,17 @@ pub enum Kind<'a> {
 fn kind_of(word: &[u8]) -> Kind<'_>
     ensures { kind_meant result ≡ kind_of word.now }
 {
-    if word == b"--" {
+    if word == b"--".as_slice() {
         Kind::Ends
-    } else if word == b"--budget" {
+    } else if word == b"--budget".as_slice() {
         Kind::Waits(Choice::Budget)
-    } else if word == b"--workers" {
+    } else if word == b"--workers".as_slice() {
         Kind::Waits(Choice::Workers)
     } else if word.starts_with(b"--budget=") {
         Kind::Gives(Choice::Budget, &word[9..])
     } else if word.starts_with(b"--workers=") {
         Kind::Gives(Choice::Workers, &word[10..])
-    } else if word.starts_with(b"-") && word != b"-" {
+    } else if word.starts_with(b"-") && word != b"-".as_slice() {
         Kind::Wrong
     } else {
         Kind::Plain
@@ -59,7 +43,9 @@ fn kind_of(word: &[u8]) -> Kind<'_>
 
 // Choices with a value of an option that has none yet.
 fn given(choice: Choice, word: &[u8], so_far: Chosen) -> Option<Chosen>
-    ensures { option_map choices_of result ≡ given choice word.now (choices_of so_far) }
+    requires { AreBounded (choices_of so_far) }
+    ensures is { option_map choices_of result ≡ given choice word.now (choices_of so_far) }
+    ensures bounded { IfSome result (λ c. AreBounded (choices_of c)) }
 {
     let Chosen {
         budget,
@@ -85,7 +71,7 @@ fn given(choice: Choice, word: &[u8], so_far: Chosen) -> Option<Chosen>
             }
             Some(Chosen {
                 budget,
-                workers: Some(value),
+                workers: Some(value as u32),
                 plain,
             })
         }
@@ -94,7 +80,9 @@ fn given(choice: Choice, word: &[u8], so_far: Chosen) -> Option<Chosen>
 
 // Choices with one more plain word.
 fn with_plain(alloc: Global, word: &[u8], so_far: Chosen) -> Result<Chosen, AllocError>
-    ensures { IfOk result (λ c. choices_of c ≡ with_plain word.now (choices_of so_far)) }
+    requires { AreBounded (choices_of so_far) }
+    ensures is { IfOk result (λ c. choices_of c ≡ with_plain word.now (choices_of so_far)) }
+    ensures bounded { IfOk result (λ c. AreBounded (choices_of c)) }
 {
     let mut so_far = so_far;
     so_far.plain.push(Text::copy(alloc, word)?)?;
@@ -102,7 +90,9 @@ fn with_plain(alloc: Global, word: &[u8], so_far: Chosen) -> Result<Chosen, Allo
 }
 
 fn all_plain(alloc: Global, words: &[String], so_far: Chosen) -> Result<Chosen, AllocError>
-    ensures { IfOk result (λ c. choices_of c ≡ all_plain (map string_bytes words.now) (choices_of so_far)) }
+    requires { AreBounded (choices_of so_far) }
+    ensures is { IfOk result (λ c. choices_of c ≡ all_plain (map string_bytes words.now) (choices_of so_far)) }
+    ensures bounded { IfOk result (λ c. AreBounded (choices_of c)) }
 {
     match words {
         [] => Ok(so_far),
@@ -114,13 +104,15 @@ fn all_plain(alloc: Global, words: &[String], so_far: Chosen) -> Result<Chosen, 
 }
 
 /// What words choose besides what was chosen before, where an option may wait for its value. None: they are no choices.
-pub fn chosen(
+pub fn choices_in(
     alloc: Global,
     words: &[String],
     waiting: Option<Choice>,
     so_far: Chosen,
 ) -> Result<Option<Chosen>, AllocError>
-    ensures { IfOk result (λ o. option_map choices_of o ≡ chosen (map string_bytes words.now) waiting (choices_of so_far)) }
+    requires { AreBounded (choices_of so_far) }
+    ensures is { IfOk result (λ o. option_map choices_of o ≡ chosen (map string_bytes words.now) waiting (choices_of so_far)) }
+    ensures bounded { IfOk result (λ o. IfSome o (λ c. AreBounded (choices_of c))) }
 {
     match words {
         [] => match waiting {
@@ -135,7 +127,7 @@ pub fn chosen(
                         return Ok(None);
                     }
                     match given(choice, word, so_far) {
-                        Some(so_far) => chosen(alloc, rest, None, so_far),
+                        Some(so_far) => choices_in(alloc, rest, None, so_far),
                         None => Ok(None),
                     }
                 }
@@ -144,15 +136,15 @@ pub fn chosen(
                         let so_far = all_plain(alloc, rest, so_far)?;
                         Ok(Some(so_far))
                     }
-                    Kind::Waits(choice) => chosen(alloc, rest, Some(choice), so_far),
+                    Kind::Waits(choice) => choices_in(alloc, rest, Some(choice), so_far),
                     Kind::Gives(choice, value) => match given(choice, value, so_far) {
-                        Some(so_far) => chosen(alloc, rest, None, so_far),
+                        Some(so_far) => choices_in(alloc, rest, None, so_far),
                         None => Ok(None),
                     },
                     Kind::Wrong => Ok(None),
                     Kind::Plain => {
                         let so_far = with_plain(alloc, word, so_far)?;
-                        chosen(alloc, rest, None, so_far)
+                        choices_in(alloc, rest, None, so_far)
                     }
                 },
             }

@@ -1,8 +1,11 @@
 //! The commands that words spell.
 #![tactic(auto)]
 
+mod action;
 mod choices;
+mod chosen;
 mod command;
 mod number;
 
-pub use command::{Action, Command, command};
+pub use action::{Action, Command};
+pub use command::command_in;
