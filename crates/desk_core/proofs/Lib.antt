@@ -1,2 +1,0 @@
-pub mod Obliged
-pub mod Deciding
