@@ -1,5 +1,5 @@
 -- The laws.
-use Rattle.std.specs.Prelude.{◌≡◌, ◌++◌, List, Some, map}
+use Rattle.std.specs.Prelude.{◌≡◌, ◌++◌, List}
 use Rattle.vlog_tree.specs.declared.module.Module.{Module}
 use Rattle.vlog_tree.specs.declared.stmt.Stmt.{Stmt}
 use Rattle.vlog_tree.specs.Valuation.{depth_of}
@@ -7,7 +7,7 @@ use Rattle.vlog_tree.specs.Value.{Stands as IsNamed}
 use Rattle.vlog_runs.specs.declared.flat.Flat.{Flat}
 use Rattle.vlog_runs.specs.Places.{Name, Place, read}
 use Rattle.vlog_runs.specs.Blocks.{lefts}
-use Rattle.vlog_runs.specs.Scopes.{Scope, scope_at}
+use Rattle.vlog_runs.specs.Scopes.{Scope}
 use Rattle.flat_laws.specs.Moved.{moved_stmt}
 use Rattle.flat_laws.specs.Uses.{IsSignal, IsDeclared}
 use Rattle.flat_laws.specs.Flattened.{IsFlatOf, AreScopes, CanFlatten}
@@ -15,7 +15,7 @@ use Rattle.flat_laws.specs.Laws.{MovesInto}
 use Rattle.flat_faults.specs.declared.fault.FlatFault.{FlatFault}
 use Rattle.flat_faults.specs.Texts.{stores_in, alone_in, compared_in}
 use Rattle.flat_faults.specs.Constants.{at_rest}
-use Rattle.flat_faults.specs.Stands.{AreDistinct, Stands}
+use Rattle.flat_faults.specs.Stands.{Stands}
 use Rattle.elab_block.specs.Ready.{IsReadyStmt}
 use Rattle.elab_step.specs.Asked.{CanElaborate}
 use Rattle.ready_laws.specs.Fit.{AreFit}
