@@ -12,13 +12,15 @@ use Rattle.set_tree.specs.Report.{design_lines, numbers_from}
 use Rattle.word_dag.specs.declared.node.Node.{Node}
 use Rattle.word_dag.specs.declared.ob.Named.{Named}
 use Rattle.word_dag.specs.Adding.{Keeps}
-use Rattle.word_design.specs.Designs.{Parts}
+use Rattle.word_design.specs.Designs.{IsDesign, Parts}
 use Rattle.twin_tests.specs.Framing.{SpeaksOf}
 use Rattle.twin_tests.proofs.Reported.{numbers_more}
 use Rattle.unroll.specs.declared.segment.Segments.{Segments}
 use Rattle.unroll.specs.Named.{IsNamedOf}
-use Rattle.unroll.specs.Unrolled.{AreSegments}
+use Rattle.elab_node.specs.Nodes.{AddsFrees}
+use Rattle.unroll.specs.Unrolled.{AreSegments, IsSourceWord}
 use Rattle.unroll.proofs.Rowing.{segments_later, zip_more}
+use Rattle.unroll.proofs.Sourcing.{source_widths}
 use Rattle.word_names.specs.Names.{HasOneWidthEach}
 use Rattle.word_names.proofs.Taken.{widths_are_kept}
 
@@ -45,6 +47,14 @@ pub record ObsLoop (d : Parts) (set : Set) (nodes : List Node) (segments : Segme
   pub held : AreSegments d set nodes segments
   pub each : AllZip (IsNamedOf d set) lines obs
   pub words : HasOneWidthEach nodes
+
+-- no line has its obligation yet
+pub obs_begin : (d : Parts) (set : Set) (start nodes : List Node) (segments : Segments) (obs : List Named) → IsDesign d → start ≡ [] → AddsFrees (IsSourceWord d) start nodes → AreSegments d set nodes segments → obs ≡ [] → ObsLoop d set nodes segments [] obs
+obs_begin d set start nodes segments obs design empty frees held none = record {
+  held = held;
+  each = rw none tt;
+  words = source_widths d design start nodes empty frees;
+}
 
 pub obs_step : (d : Parts) (set : Set) (a b : List Node) (segments : Segments) (lines : List Line) (obs new : List Named) (i : ℕ) (line : Line) (named : Named) → Keeps a b → i < length lines → line ≡ get_or lines i line → new ≡ obs ++ named ∷ [] → IsNamedOf d set line named → ObsLoop d set a segments (take i lines) obs → ObsLoop d set b segments (take (i + 1) lines) new
 obs_step d set a b segments lines obs new i line named ab lt is made here before = record {

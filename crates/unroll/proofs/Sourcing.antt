@@ -1,11 +1,11 @@
 -- Free words of registers and inputs.
-use Rattle.std.proofs.Common.{◌≡◌, ◌≢◌, ℕ, zero, suc, ◌<◌, true, List, [], ◌∷◌, length, map, get_or, refl, sym, ap, ◌∙◌, subst, arith, inl, inr}
+use Rattle.std.proofs.Common.{◌≡◌, ◌≢◌, ℕ, zero, suc, ◌<◌, true, List, [], ◌∷◌, length, map, get_or, refl, sym, ap, ◌∙◌, arith, inl, inr}
 use Rattle.std.specs.Prelude.{ℤ, ◌⊎◌}
 use Rattle.std.specs.List.{AllPairs}
 use Rattle.std.proofs.lemmas.List.{length-map}
 use Rattle.vlog_runs.specs.Places.{Among}
 use Rattle.word_dag.specs.declared.node.Node.{Node}
-use Rattle.word_dag.specs.declared.node.Node.TheVariants.{Free, Const, Two, Not, Slice, Zext, Sext, Mux}
+use Rattle.word_dag.specs.declared.node.Node.TheVariants.{Free}
 use Rattle.word_dag.specs.Adding.{IsAt, Keeps}
 use Rattle.word_dag.specs.Given.{is_free}
 use Rattle.word_dag.specs.Nodes.{width_of}
@@ -65,9 +65,9 @@ one_source ss r s distinct here there same =
     let q = at_place ss s there in
     let names : (get_or ss p.0 r).name ≡ (get_or ss q.0 r).name = ap (λ (z : Net). z.name) (sym (p.2 r)) ∙ same ∙ ap (λ (z : Net). z.name) (q.2 r) in
     elim (order p.0 q.0) [
-      inl lt ↦ absurd (differ ss p.0 q.0 r distinct lt q.1 names)
-    | inr (inl e) ↦ ap (λ (z : Net). z.width) (p.2 r) ∙ ap (λ k. (get_or ss k r).width) e ∙ ap (λ (z : Net). z.width) (sym (q.2 r))
-    | inr (inr lt) ↦ absurd (differ ss q.0 p.0 r distinct lt p.1 (sym names))
+      | inl lt ↦ absurd (differ ss p.0 q.0 r distinct lt q.1 names)
+      | inr (inl e) ↦ ap (λ (z : Net). z.width) (p.2 r) ∙ ap (λ k. (get_or ss k r).width) e ∙ ap (λ (z : Net). z.width) (sym (q.2 r))
+      | inr (inr lt) ↦ absurd (differ ss q.0 p.0 r distinct lt p.1 (sym names))
     ]
 
 source_of : (d : Parts) (start nodes : List Node) (n : Node) (i : ℕ) → start ≡ [] → AddsFrees (IsSourceWord d) start nodes → is_free n ≡ true → IsAt nodes i n → IsSourceWord d n

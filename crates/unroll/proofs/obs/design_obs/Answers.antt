@@ -9,7 +9,7 @@ use Rattle.twin_tests.specs.Framing.{SpeaksOf}
 use Rattle.twin_tests.proofs.Handing.{get_again}
 use Rattle.unroll.specs.Named.{IsNamedOf}
 use Rattle.unroll.specs.Unrolled.{AreSegments}
-use Rattle.unroll.proofs.Obtaining.{lines_speak, obs_step}
+use Rattle.unroll.proofs.Obtaining.{lines_speak, obs_begin, obs_step}
 use Rattle.unroll.proofs.Rowing.{design_is}
 use Rattle.unroll.proofs.obs.design_obs.Goals as goal
 
@@ -21,6 +21,12 @@ named_ob-requires-clause-line c =
     let listed : items ≡ design_lines set = c.deref-line-items.ensures.value ∙ c.in_ok-lines.ensures in
     let all : All (SpeaksOf set) items = subst (λ (ls : List Line). All (SpeaksOf set) ls) (sym listed) (lines_speak set) in
     all c.loop-line.line-index (Base 0) lt
+
+pub loop-line-init : goal.loop-line-init
+loop-line-init c =
+    let b = c.args.bound.now in
+    let design = design_is b.design c.design.result.now c.design.ensures.value c.dag-fit.ensures.design in
+    obs_begin b.design b.set _ c.segments_of.new.dag c.in_ok-segments.segments _ design c.new-dag.ensures c.in_ok-segments.ensures.frees c.in_ok-segments.ensures.segments c.in_ok-obs.ensures.items
 
 pub loop-line-preserved : goal.loop-line-preserved
 loop-line-preserved c =
