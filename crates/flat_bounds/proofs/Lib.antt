@@ -1,2 +1,4 @@
 pub mod Constants
 pub mod Takes
+pub mod Lefts
+pub mod Stores

@@ -3,7 +3,9 @@
 
 mod breach;
 mod constant;
+mod side;
 mod taken;
 
+pub use side::Side;
 pub use breach::Breach;
 pub use taken::{check_alone, check_stored};
