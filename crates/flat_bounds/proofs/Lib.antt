@@ -2,3 +2,4 @@ pub mod Constants
 pub mod Takes
 pub mod Lefts
 pub mod Stores
+pub mod Params

@@ -1,3 +1,4 @@
 pub mod Taken
 pub mod Lefts
 pub mod Stores
+pub mod Scopes
