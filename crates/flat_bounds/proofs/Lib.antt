@@ -3,3 +3,4 @@ pub mod Takes
 pub mod Lefts
 pub mod Stores
 pub mod Params
+pub mod Usages

@@ -2,3 +2,4 @@ pub mod Taken
 pub mod Lefts
 pub mod Stores
 pub mod Scopes
+pub mod Usages
