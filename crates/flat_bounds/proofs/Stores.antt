@@ -169,3 +169,9 @@ module _ (side : Side) (p : Place) (left : Lval) where
   pub breaks_store : (a : Expr) → NamesSignals p left → (w : Breach) → BreaksTo side test v qs a w → BreaksStore side p (record { left = left; right = a }) w
   breaks_store a names w (inl h) = inl (breaks_left names w h)
   breaks_store a names w (inr h) = inr (subst (λ t. Breaks test v t w) (stored_is h.0 a h.1.size) h.2)
+
+-- a number that breaks a rule, in its part
+pub of_some : (side : Side) (test : Name → Bool) (v : List Entry) (q : Lval) (w : Breach) → SomeBreaks test v (map (alone v) (numbers_in q)) w → BreaksNumbers side test v q w
+of_some side test v q b.Constant h = inl h
+of_some side test v q b.Length h = h
+of_some side test v q b.Memory h = h.2

@@ -1,6 +1,6 @@
 -- An expression that keeps the rules breaks none.
-use Rattle.std.proofs.Common.{◌≡◌, ℕ, max, Bool, true, false, ◌&&◌, List, [], ◌∷◌, inl, inr, refl, sym, ap, subst, ◌∙◌}
-use Rattle.std.specs.Prelude.{IsTrue}
+use Rattle.std.proofs.Common.{◌≡◌, ℕ, max, Bool, true, false, ◌&&◌, List, [], ◌∷◌, Result, Ok, Err, inl, inr, refl, sym, ap, subst, ◌∙◌}
+use Rattle.std.specs.Prelude.{IsTrue, IfErr}
 use Rattle.vlog_tree.specs.declared.expr.Constant.{Constant}
 use Rattle.vlog_tree.specs.declared.expr.Expr.{Expr, Row_of-Expr, end_of-Expr, more_of-Expr}
 use Rattle.vlog_tree.specs.declared.expr.Expr.TheVariants as e
@@ -68,3 +68,7 @@ pub fails_map : (P Q : Breach → Type 0) → ((w : Breach) → P w → Q w) →
 fails_map P Q g b.Constant h = g b.Constant h
 fails_map P Q g b.Length h = g b.Length h
 fails_map P Q g b.Memory h = tt
+
+pub if_err : {T E : Type 0} (r : Result T E) (P Q : E → Type 0) → ((e : E) → P e → Q e) → IfErr r P → IfErr r Q
+if_err (Ok x) P Q f h = tt
+if_err (Err e) P Q f h = f e h

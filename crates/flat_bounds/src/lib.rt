@@ -3,9 +3,13 @@
 
 mod breach;
 mod constant;
+mod left;
+mod part;
 mod side;
+mod store;
 mod taken;
 
-pub use side::Side;
 pub use breach::Breach;
-pub use taken::{check_alone, check_stored};
+pub use side::Side;
+pub use store::check_store;
+pub use taken::check_alone;
