@@ -4,3 +4,4 @@ pub mod Lefts
 pub mod Stores
 pub mod Params
 pub mod Usages
+pub mod Forms

@@ -175,3 +175,13 @@ pub of_some : (side : Side) (test : Name → Bool) (v : List Entry) (q : Lval) (
 of_some side test v q b.Constant h = inl h
 of_some side test v q b.Length h = h
 of_some side test v q b.Memory h = h.2
+
+-- what the code tests by parts
+module _ (side : Side) (p : Place) (a : Assign) (qs : List Lval) (v : List Entry) (parts : qs ≡ parts_of a.left) (rest : v ≡ at_rest p) where
+  pub store_sound : IsSoundTo side (is_parameter p) v qs a.right → IsSoundStore side p a
+  store_sound h =
+      sound_store side p a.left a.right (subst (λ zs. IsSoundTo side (is_parameter p) (at_rest p) zs a.right) parts (subst (λ u. IsSoundTo side (is_parameter p) u qs a.right) rest h))
+
+  pub store_breaks : NamesSignals p a.left → (w : Breach) → BreaksTo side (is_parameter p) v qs a.right w → BreaksStore side p a w
+  store_breaks names w h =
+      breaks_store side p a.left a.right names w (subst (λ zs. BreaksTo side (is_parameter p) (at_rest p) zs a.right w) parts (subst (λ u. BreaksTo side (is_parameter p) u qs a.right w) rest h))

@@ -3,3 +3,4 @@ pub mod Lefts
 pub mod Stores
 pub mod Scopes
 pub mod Usages
+pub mod Sites

@@ -6,10 +6,12 @@ mod constant;
 mod left;
 mod part;
 mod side;
+mod site;
 mod store;
 mod taken;
 
 pub use breach::Breach;
 pub use side::Side;
+pub use site::sites_of;
 pub use store::check_store;
 pub use taken::check_alone;
