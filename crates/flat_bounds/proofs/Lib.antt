@@ -5,3 +5,4 @@ pub mod Stores
 pub mod Params
 pub mod Usages
 pub mod Forms
+pub mod Widest

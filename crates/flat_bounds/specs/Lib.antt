@@ -4,3 +4,4 @@ pub mod Stores
 pub mod Scopes
 pub mod Usages
 pub mod Sites
+pub mod Cases

@@ -2,6 +2,7 @@
 #![tactic(auto)]
 
 mod breach;
+mod cases;
 mod constant;
 mod left;
 mod part;
@@ -11,6 +12,7 @@ mod store;
 mod taken;
 
 pub use breach::Breach;
+pub use cases::check_cases;
 pub use side::Side;
 pub use site::sites_of;
 pub use store::check_store;
