@@ -77,3 +77,14 @@ abbrev pub UsesSignals : Place → Usage → Type 0
 UsesSignals p (Tests a) = Unit {0}
 UsesSignals p (Compares c) = Unit {0}
 UsesSignals p (Stores a) = NamesSignals p a.left
+
+-- ---- whole statements
+
+abbrev pub BodyUsesSignals : Place → Stmt → Type 0
+BodyUsesSignals p t = (u : Usage) → Among (usages t) u → UsesSignals p u
+
+abbrev pub IsSoundBody : Place → Stmt → Type 0
+IsSoundBody p t = (u : Usage) → Among (usages t) u → IsSoundUsage p u
+
+abbrev pub BreaksBody : Place → Stmt → Breach → Type 0
+BreaksBody p t w = (u : Usage) × Among (usages t) u × BreaksUsage p u w
