@@ -6,3 +6,4 @@ pub mod Params
 pub mod Usages
 pub mod Forms
 pub mod Widest
+pub mod Texts

@@ -5,3 +5,4 @@ pub mod Scopes
 pub mod Usages
 pub mod Sites
 pub mod Cases
+pub mod Texts
