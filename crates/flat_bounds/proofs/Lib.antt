@@ -7,3 +7,5 @@ pub mod Usages
 pub mod Forms
 pub mod Widest
 pub mod Texts
+pub mod Outputs
+pub mod Ends

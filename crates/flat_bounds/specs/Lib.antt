@@ -6,3 +6,4 @@ pub mod Usages
 pub mod Sites
 pub mod Cases
 pub mod Texts
+pub mod Outputs

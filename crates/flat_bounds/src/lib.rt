@@ -7,6 +7,7 @@ mod cases;
 mod constant;
 mod equation;
 mod left;
+mod output;
 mod part;
 mod side;
 mod site;
@@ -15,3 +16,4 @@ mod taken;
 
 pub use block::check_blocks;
 pub use equation::check_equations;
+pub use output::check_output;
