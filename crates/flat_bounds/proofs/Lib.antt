@@ -9,3 +9,5 @@ pub mod Widest
 pub mod Texts
 pub mod Outputs
 pub mod Ends
+pub mod Ranges
+pub mod Zeros

@@ -7,3 +7,4 @@ pub mod Sites
 pub mod Cases
 pub mod Texts
 pub mod Outputs
+pub mod Ranges
