@@ -11,3 +11,4 @@ pub mod Outputs
 pub mod Ends
 pub mod Ranges
 pub mod Zeros
+pub mod Standing

@@ -28,7 +28,7 @@ use Rattle.flat_bounds.proofs.Lefts.{each_numbers, all_numbers, each_spans, all_
 
 -- the numbers of a left side are those of its parts
 mutual
-  parts_numbers : (left : Lval) (a : Expr) → Among (numbers_in left) a → Among (flat_map numbers_in (parts_of left)) a
+  pub parts_numbers : (left : Lval) (a : Expr) → Among (numbers_in left) a → Among (flat_map numbers_in (parts_of left)) a
   parts_numbers (l.Name x) a h = absurd h
   parts_numbers (l.Select x i) a h = append_left (i ∷ []) [] a h
   parts_numbers (l.Part x span i j) a h = append_left (i ∷ j ∷ []) [] a h
@@ -42,7 +42,7 @@ mutual
       (λ k. let r = among_flat numbers_in (row_parts_of rest) a (row_parts rest a k) in flat_among numbers_in (parts_of x ++ row_parts_of rest) r.0 a (append_right (parts_of x) (row_parts_of rest) r.0 r.1) r.2) from
 
 mutual
-  numbers_parts : (left : Lval) (q : Lval) (a : Expr) → Among (parts_of left) q → Among (numbers_in q) a → Among (numbers_in left) a
+  pub numbers_parts : (left : Lval) (q : Lval) (a : Expr) → Among (parts_of left) q → Among (numbers_in q) a → Among (numbers_in left) a
   numbers_parts (l.Name x) q a (inl e) h = subst (λ z. Among (numbers_in z) a) (sym e) h
   numbers_parts (l.Name x) q a (inr k) h = absurd k
   numbers_parts (l.Select x i) q a (inl e) h = subst (λ z. Among (numbers_in z) a) (sym e) h
