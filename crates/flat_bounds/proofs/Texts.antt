@@ -29,7 +29,6 @@ use Rattle.flat_bounds.proofs.Usages.{alone_are, compared_are, stores_are, lefts
 abbrev equation_taken : Place → Assign → List Taken
 equation_taken p a = assigned_to p a ∷ map (alone (at_rest p)) (numbers_in a.left)
 
-
 module _ (p : Place) where
   abbrev v : List Entry
   v = at_rest p

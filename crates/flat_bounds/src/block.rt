@@ -46,12 +46,7 @@ fn check_site(
 }
 
 // A statement keeps the rules.
-fn check_body(
-    alloc: Global,
-    scope: &Scope<'_>,
-    rest: &Valuation,
-    body: &Stmt,
-) -> Result<(), Breach>
+fn check_body(alloc: Global, scope: &Scope<'_>, rest: &Valuation, body: &Stmt) -> Result<(), Breach>
     requires rest { rest.now ≡ at_rest (place_of (scope_meant scope.now)) }
     requires signals { BodyUsesSignals (place_of (scope_meant scope.now)) body.now }
     ensures ok { OnOk result (IsSoundBody (place_of (scope_meant scope.now)) body.now) }

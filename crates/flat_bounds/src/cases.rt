@@ -61,11 +61,7 @@ fn exprs_of<'a>(
 }
 
 // The greatest length of some expressions, and whether all are signed.
-fn common_shape(
-    exprs: &[&Expr],
-    params: &Valuation,
-    rest: &Valuation,
-) -> Result<(u8, bool), Breach>
+fn common_shape(exprs: &[&Expr], params: &Valuation, rest: &Valuation) -> Result<(u8, bool), Breach>
     ensures ok { IfOk result (λ s. HasCommonShape (is_known params.now) rest.now (map expr_meant exprs.now) s.0 s.1) }
     ensures err { (n : ℕ) (s : Bool) → IfErr result (λ w. (a : Form) × Among (map expr_meant exprs.now) a × Breaks (is_known params.now) rest.now (taken_at a n s) w) }
 {

@@ -20,7 +20,7 @@ has_constant_parts-returns-in-Unary t c =
 
 pub has_constant_parts-returns-in-Paren : goal.has_constant_parts-returns-in-Paren
 has_constant_parts-returns-in-Paren t c =
-    paren_parts (is_known c.args.params.now) c.args.expr.now  c.in-Paren.inner c.get-in-Paren.result.now c.has_constant_parts-in-Paren.result c.in-Paren.is c.get-in-Paren.ensures c.has_constant_parts-in-Paren.ensures
+    paren_parts (is_known c.args.params.now) c.args.expr.now c.in-Paren.inner c.get-in-Paren.result.now c.has_constant_parts-in-Paren.result c.in-Paren.is c.get-in-Paren.ensures c.has_constant_parts-in-Paren.ensures
 
 pub has_constant_parts-returns-in-Part : goal.has_constant_parts-returns-in-Part
 has_constant_parts-returns-in-Part t c =
