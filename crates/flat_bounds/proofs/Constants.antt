@@ -1,5 +1,5 @@
 -- Whether the parts of each form of an expression that must be constant are so.
-use Rattle.std.proofs.Common.{◌≡◌, ℕ, suc, ◌+◌, ◌<◌, Bool, true, false, ◌&&◌, List, ◌∷◌, length, drop, get_or, add-one, refl, sym, ap, subst, ◌∙◌}
+use Rattle.std.proofs.Common.{◌≡◌, ℕ, ◌+◌, ◌<◌, Bool, ◌&&◌, List, ◌∷◌, length, drop, get_or, add-one, refl, sym, ap, subst, ◌∙◌}
 use Rattle.vlog_tree.specs.declared.expr.Name.{Name as Read}
 use Rattle.vlog_tree.specs.declared.expr.Span.{Span}
 use Rattle.vlog_tree.specs.declared.expr.Unary.{Unary}

@@ -1,7 +1,6 @@
 -- What is tested of an expression that an output is connected to.
 use Rattle.std.proofs.Common.{◌≡◌, ℕ, List, [], ◌∷◌, map, inl, inr, refl, sym, ap, subst, ◌∙◌}
 use Rattle.std.specs.Prelude.{is_some}
-use Rattle.std.specs.List.{flat_map}
 use Rattle.std.specs.Str.{bytes_eq}
 use Rattle.std.proofs.lemmas.Bool.{cases_Bool}
 use Rattle.vlog_tree.specs.declared.expr.Expr.{Expr}
@@ -20,7 +19,7 @@ use Rattle.flat_bounds.specs.declared.breach.Breach.{Breach}
 use Rattle.flat_bounds.specs.declared.breach.Breach.TheVariants as b
 use Rattle.flat_bounds.specs.declared.side.Side.TheVariants as d
 use Rattle.flat_bounds.specs.Lefts.{HasSize, IsMissized}
-use Rattle.flat_bounds.specs.Outputs.{expr_parts, IsOf, AreOf}
+use Rattle.flat_bounds.specs.Outputs.{expr_parts, AreOf}
 use Rattle.flat_bounds.specs.Stores.{AllSoundNumbers, SomeBreaksNumbers, NamesSignals, IsSoundLeft, BreaksLeft}
 use Rattle.flat_bounds.proofs.Stores.{good_numbers, good_size, breaks_numbers, breaks_size}
 

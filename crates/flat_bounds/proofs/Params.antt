@@ -1,23 +1,22 @@
 -- Sound parameters, overrides and declarations break no rule.
-use Rattle.std.proofs.Common.{◌≡◌, ℕ, zero, suc, ◌+◌, ◌<◌, Bool, true, false, List, [], ◌∷◌, ◌++◌, length, take, Option, Some, None, inl, inr, ⊎_elim, refl, sym, ap, subst, ◌∙◌, arith, length-append, max}
-use Rattle.std.specs.Prelude.{pos, ◌+ℤ◌}
+use Rattle.std.proofs.Common.{◌≡◌, ℕ, zero, suc, ◌+◌, true, List, [], ◌∷◌, ◌++◌, length, take, Option, Some, None, inl, inr, refl, sym, subst, arith, length-append, max}
 use Rattle.std.specs.List.{slice_get}
 use Rattle.vlog_tree.specs.declared.expr.Expr.{Expr}
 use Rattle.vlog_tree.specs.declared.item.Range.{Range}
 use Rattle.vlog_tree.specs.declared.module.Module.{Module}
 use Rattle.vlog_tree.specs.declared.valuation.Entry.{Entry}
 use Rattle.vlog_tree.specs.Valuation.{IsLength}
-use Rattle.vlog_tree.specs.Value.{width_of, sign_of}
-use Rattle.vlog_runs.specs.Places.{Name, Among}
+use Rattle.vlog_tree.specs.Value.{width_of}
+use Rattle.vlog_runs.specs.Places.{Among}
 use Rattle.vlog_runs.specs.Blocks.{is_parameter}
-use Rattle.vlog_runs.specs.Contents.{Param, params_in, is_open, Decl, decls_in, Inner, instances_in}
+use Rattle.vlog_runs.specs.Contents.{Param, params_in, is_open, Inner}
 use Rattle.vlog_runs.specs.Scopes.{Scope, Given, given_at, overriding, param_entry, params_from, params_of, place_of, scope_in, child, module_at, width_in}
-use Rattle.flat_faults.specs.Constants.{Taken, alone, stored, IsInconstant, IsMissized, IsOrdered, IsFromZero, BreaksBounds, BreaksRange, BreaksWords, InRange}
+use Rattle.flat_faults.specs.Constants.{Taken, alone, IsInconstant, IsMissized, IsOrdered, IsFromZero, BreaksBounds, BreaksRange, BreaksWords, InRange}
 use Rattle.flat_faults.specs.Stands.{before, is_before, IsParam, param_value, IsOverride}
 use Rattle.flat_params.specs.declared.range.Vector.{Vector}
 use Rattle.flat_params.specs.Constants.{is_known, IsConstant, taken_at}
 use Rattle.flat_params.specs.Parameters.{AreSound}
-use Rattle.flat_params.specs.Signals.{HasWords, IsDeclared}
+use Rattle.flat_params.specs.Signals.{HasWords}
 use Rattle.flat_params.specs.Values.{HasBits, override_of, IfGiven, IsValue, IsSound}
 use Rattle.flat_params.proofs.Parameters.{those_before}
 use Rattle.flat_instances.specs.Unfolding.{HasSoundInners}

@@ -1,7 +1,6 @@
 -- Declarations that declare something break no rule, and the others do.
-use Rattle.std.proofs.Common.{◌≡◌, ℕ, zero, suc, ◌+◌, ◌-◌, ◌<◌, ◌≤◌, Bool, true, false, List, [], ◌∷◌, ◌++◌, map, Option, Some, None, inl, inr, ⊎_elim, refl, sym, ap, subst, ◌∙◌, arith}
-use Rattle.std.specs.Prelude.{ℤ, pos, ◌≤ℤ◌, ◌+ℤ◌, nat_eq}
-use Rattle.std.specs.List.{flat_map}
+use Rattle.std.proofs.Common.{◌≡◌, ℕ, ◌<◌, List, [], ◌∷◌, ◌++◌, Option, Some, None, inl, inr, ⊎_elim, refl, sym, subst, arith}
+use Rattle.std.specs.Prelude.{ℤ, pos, ◌≤ℤ◌, ◌+ℤ◌}
 use Rattle.std.proofs.lemmas.Int.{ints}
 use Rattle.std.proofs.lemmas.Bool.{cases_Bool}
 use Rattle.vlog_tree.specs.declared.item.Range.{Range}
@@ -13,7 +12,6 @@ use Rattle.vlog_tree.specs.Value.{natural}
 use Rattle.vlog_runs.specs.Places.{Name, Among}
 use Rattle.vlog_runs.specs.Contents.{Decl, decls_in, signals_in, is_among, once}
 use Rattle.vlog_runs.specs.Scopes.{Scope, signal_of, width_in}
-use Rattle.flat_faults.specs.declared.fault.FlatFault.TheVariants as f
 use Rattle.flat_faults.specs.Constants.{alone, IsOrdered, IsFromZero, BreaksBounds, BreaksRange, BreaksWords, InRange}
 use Rattle.flat_faults.specs.Stands.{Refuses}
 use Rattle.flat_params.specs.declared.range.Vector.{Vector}

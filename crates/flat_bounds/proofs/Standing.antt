@@ -1,5 +1,5 @@
 -- What breaks a rule in a scope's text stands there, and nothing else does.
-use Rattle.std.proofs.Common.{◌≡◌, ℕ, Bool, true, false, List, [], ◌∷◌, ◌++◌, map, Option, Some, None, ◌⊎◌, inl, inr, ⊎_elim, refl, sym, ap, subst, ◌∙◌, if◌then◌else◌}
+use Rattle.std.proofs.Common.{◌≡◌, ℕ, Bool, true, false, List, [], ◌∷◌, ◌++◌, map, Option, Some, None, inl, inr, ⊎_elim, refl, sym, ap, subst, if◌then◌else◌}
 use Rattle.std.specs.List.{flat_map}
 use Rattle.std.proofs.lemmas.Bool.{cases_Bool}
 use Rattle.vlog_tree.specs.declared.expr.Expr.{Expr, Row_of-Expr, end_of-Expr, more_of-Expr}
@@ -7,7 +7,6 @@ use Rattle.vlog_tree.specs.declared.expr.Expr.TheVariants as e
 use Rattle.vlog_tree.specs.declared.item.Args.{Args}
 use Rattle.vlog_tree.specs.declared.item.Args.TheVariants as g
 use Rattle.vlog_tree.specs.declared.item.Assign.{Assign}
-use Rattle.vlog_tree.specs.declared.item.Connection.{Connection}
 use Rattle.vlog_tree.specs.declared.module.Module.{Module}
 use Rattle.vlog_tree.specs.declared.stmt.Lval.{Lval}
 use Rattle.vlog_tree.specs.declared.stmt.Lval.TheVariants as l
@@ -20,7 +19,7 @@ use Rattle.flat_laws.proofs.Lists.{among_append, append_left, append_right, amon
 use Rattle.flat_laws.specs.Uses.{has_signal, is_declared}
 use Rattle.flat_faults.specs.declared.fault.FlatFault.TheVariants as f
 use Rattle.flat_faults.specs.Constants.{Taken, at_rest, alone, stored, assigned_to, compared}
-use Rattle.flat_faults.specs.Texts.{Compared, names_in, row_names_in, numbers_in, row_numbers_in, alone_in, compared_in, stores_in, args_in, named_expr, expr_of, compared_exprs, decl_exprs, param_exprs, assign_exprs, block_exprs, inner_exprs, all_exprs, assigned_in, waited_in}
+use Rattle.flat_faults.specs.Texts.{Compared, names_in, row_names_in, numbers_in, alone_in, compared_in, stores_in, args_in, named_expr, expr_of, compared_exprs, decl_exprs, param_exprs, assign_exprs, block_exprs, inner_exprs, all_exprs, assigned_in, waited_in}
 use Rattle.flat_faults.specs.Stands.{full, assigns_taken, block_taken, port_taken, inner_taken, all_taken, AreAllDeclared, BreaksConstant, BreaksWidth, StandsAt}
 use Rattle.elab_faults.specs.Drivers.{parts_of}
 use Rattle.elab_drive.proofs.Reading.{concat_parts}
@@ -30,7 +29,7 @@ use Rattle.flat_bounds.specs.declared.breach.Breach.TheVariants as b
 use Rattle.flat_bounds.specs.Ranges.{AreDeclared, fault_of}
 use Rattle.flat_bounds.specs.Scopes.{HasSoundParams}
 use Rattle.flat_bounds.specs.Stores.{NamesSignals}
-use Rattle.flat_bounds.specs.Usages.{Usage, Tests, Compares, Stores, usages, BodyUsesSignals}
+use Rattle.flat_bounds.specs.Usages.{Tests, Compares, Stores, BodyUsesSignals}
 use Rattle.flat_bounds.specs.Taken.{taken_at}
 use Rattle.flat_bounds.specs.Texts.{IsSoundText, BreaksText}
 use Rattle.flat_bounds.proofs.Params.{param_constant, param_inconstant, param_wide, param_missized, override_inconstant, override_missized}

@@ -1,6 +1,6 @@
 -- What holds of the parts of a left side holds of it.
 use Rattle.std.proofs.Common.{◌≡◌, ◌⊎◌, ℕ, List, [], ◌∷◌, ◌++◌, map, inl, inr, ⊎_elim, refl, sym, ap, subst, ◌∙◌}
-use Rattle.std.specs.Prelude.{Bool, IsTrue, max}
+use Rattle.std.specs.Prelude.{Bool, IsTrue}
 use Rattle.std.specs.List.{flat_map}
 use Rattle.vlog_tree.specs.declared.expr.Expr.{Expr}
 use Rattle.vlog_tree.specs.declared.expr.Span.{Span}
@@ -10,11 +10,11 @@ use Rattle.vlog_tree.specs.declared.stmt.Lval.{Lval, Row_of-Lval, end_of-Lval, m
 use Rattle.vlog_tree.specs.declared.stmt.Lval.TheVariants as l
 use Rattle.vlog_tree.specs.declared.valuation.Entry.{Entry}
 use Rattle.vlog_tree.specs.Valuation.{IsLength}
-use Rattle.vlog_tree.specs.Value.{IsFormed, operand_of, own_defined, width_of}
+use Rattle.vlog_tree.specs.Value.{IsFormed, operand_of, own_defined}
 use Rattle.vlog_runs.specs.Places.{Name, Among, Place, pieces, total}
 use Rattle.vlog_runs.specs.Blocks.{is_parameter}
 use Rattle.flat_laws.proofs.Lists.{among_append, append_left, append_right, among_map, map_among, among_flat, flat_among}
-use Rattle.flat_faults.specs.Constants.{Taken, at_rest, alone, stored, assigned_to, HasConstantNumbers, AllHaveConstantNumbers, HasConstantSpans, AllHaveConstantSpans, AreSpansDefined, AllSpansDefined, IsBoundDefined, IsLeftFormed}
+use Rattle.flat_faults.specs.Constants.{at_rest, alone, stored, assigned_to, HasConstantNumbers, AllHaveConstantNumbers, HasConstantSpans, AllHaveConstantSpans, AreSpansDefined, AllSpansDefined, IsBoundDefined, IsLeftFormed}
 use Rattle.flat_faults.specs.Texts.{numbers_in, row_numbers_in}
 use Rattle.elab_faults.specs.Drivers.{parts_of, row_parts_of}
 use Rattle.flat_bounds.specs.declared.breach.Breach.{Breach}
@@ -22,7 +22,7 @@ use Rattle.flat_bounds.specs.declared.breach.Breach.TheVariants as b
 use Rattle.flat_bounds.specs.declared.side.Side.{Side}
 use Rattle.flat_bounds.specs.declared.side.Side.TheVariants as d
 use Rattle.flat_bounds.specs.Taken.{IsSound, AllSound, Breaks, SomeBreaks}
-use Rattle.flat_bounds.specs.Lefts.{HasFineNumbers, IsConstantAs, HasSoundNumbers, BreaksNumbers, bits_in, HasSize, IsMissized}
+use Rattle.flat_bounds.specs.Lefts.{HasFineNumbers, IsConstantAs, BreaksNumbers, HasSize, IsMissized}
 use Rattle.flat_bounds.specs.Stores.{AllSoundNumbers, SomeBreaksNumbers, AreSoundParts, BreaksParts, IsSoundTo, BreaksTo, HasGoodNumbers, HasGoodSize, NamesSignals, IsSoundLeft, BreaksSize, BreaksLeft, IsSoundStore, BreaksStore}
 use Rattle.flat_bounds.proofs.Lefts.{each_numbers, all_numbers, each_spans, all_spans, each_formed, all_formed, total_is}
 

@@ -1,5 +1,5 @@
 -- An expression that keeps the rules breaks none.
-use Rattle.std.proofs.Common.{◌≡◌, ℕ, max, Bool, true, false, ◌&&◌, List, [], ◌∷◌, Result, Ok, Err, inl, inr, refl, sym, ap, subst, ◌∙◌}
+use Rattle.std.proofs.Common.{◌≡◌, ℕ, max, Bool, true, false, ◌&&◌, List, Result, Ok, Err, inl, inr, refl, ap, ◌∙◌}
 use Rattle.std.specs.Prelude.{IsTrue, IfErr}
 use Rattle.vlog_tree.specs.declared.expr.Constant.{Constant}
 use Rattle.vlog_tree.specs.declared.expr.Expr.{Expr, Row_of-Expr, end_of-Expr, more_of-Expr}
@@ -9,7 +9,7 @@ use Rattle.vlog_tree.specs.declared.expr.Span.TheVariants as w
 use Rattle.vlog_tree.specs.declared.valuation.Entry.{Entry}
 use Rattle.vlog_tree.specs.Valuation.{named}
 use Rattle.vlog_tree.specs.Value.{operand_of, own_defined, width_of, sign_of, IsFormed, AllFormed, IsPart}
-use Rattle.vlog_runs.specs.Places.{Name, Among}
+use Rattle.vlog_runs.specs.Places.{Name}
 use Rattle.flat_faults.specs.Constants.{Taken, stored, IsBoundDefined, BoundsDefined, AllBoundsDefined}
 use Rattle.flat_bounds.specs.declared.breach.Breach.{Breach}
 use Rattle.flat_bounds.specs.declared.breach.Breach.TheVariants as b

@@ -1,5 +1,5 @@
 -- Whole texts by their equations, blocks and connections.
-use Rattle.std.proofs.Common.{◌≡◌, ℕ, Bool, true, false, List, [], ◌∷◌, ◌++◌, map, Option, Some, None, ◌⊎◌, inl, inr, ⊎_elim, refl, sym, ap, subst, ◌∙◌, if◌then◌else◌}
+use Rattle.std.proofs.Common.{◌≡◌, ℕ, Bool, true, false, List, [], ◌∷◌, ◌++◌, map, Option, Some, None, ◌⊎◌, inl, inr, ⊎_elim, refl, sym, subst, if◌then◌else◌}
 use Rattle.std.specs.List.{flat_map}
 use Rattle.vlog_tree.specs.declared.expr.Expr.{Expr}
 use Rattle.vlog_tree.specs.declared.item.Assign.{Assign}
@@ -18,10 +18,10 @@ use Rattle.flat_faults.specs.Stands.{assigns_taken, block_taken, port_taken, por
 use Rattle.flat_bounds.specs.declared.breach.Breach.{Breach}
 use Rattle.flat_bounds.specs.declared.breach.Breach.TheVariants as b
 use Rattle.flat_bounds.specs.declared.side.Side.TheVariants as d
-use Rattle.flat_bounds.specs.Taken.{IsSound, AllSound, Breaks, SomeBreaks}
+use Rattle.flat_bounds.specs.Taken.{IsSound, AllSound, SomeBreaks}
 use Rattle.flat_bounds.specs.Stores.{NamesSignals, BreaksSize, IsSoundLeft, BreaksLeft, IsSoundStore, BreaksStore}
 use Rattle.flat_bounds.specs.Usages.{Usage, Tests, Compares, Stores, usages, alones_of, compares_of, stores_of, IsSoundUsage, BreaksUsage, IsSoundBody, BreaksBody}
-use Rattle.flat_bounds.specs.Texts.{taking, IsSoundGiven, BreaksGiven, IsSoundGift, BreaksGift, AreSoundGifts, SomeGiftBreaks, IsSoundText, BreaksText}
+use Rattle.flat_bounds.specs.Texts.{IsSoundGiven, BreaksGiven, IsSoundGift, BreaksGift, AreSoundGifts, SomeGiftBreaks, IsSoundText, BreaksText}
 use Rattle.flat_bounds.proofs.Takes.{all_keep}
 use Rattle.flat_bounds.proofs.Usages.{alone_are, compared_are, stores_are, lefts_are}
 

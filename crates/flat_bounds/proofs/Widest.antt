@@ -1,16 +1,16 @@
 -- The longest of some expressions.
-use Rattle.std.proofs.Common.{◌≡◌, ℕ, ◌+◌, ◌<◌, ◌≤◌, max, Bool, true, false, ◌&&◌, List, [], ◌∷◌, map, length, drop, drop_of_length-le, ◌⊎◌, inl, inr, ⊎_elim, refl, sym, ap, subst, ◌∙◌, arith, Bor}
+use Rattle.std.proofs.Common.{◌≡◌, ℕ, ◌≤◌, max, Bool, true, false, ◌&&◌, List, [], ◌∷◌, map, length, drop, drop_of_length-le, ◌⊎◌, inl, inr, ⊎_elim, refl, sym, ap, subst, ◌∙◌, arith, Bor}
 use Rattle.std.proofs.Math.Nat.{max-zero}
 use Rattle.vlog_tree.specs.declared.expr.Expr.{Expr}
 use Rattle.vlog_tree.specs.declared.valuation.Entry.{Entry}
-use Rattle.vlog_tree.specs.Value.{width_of, sign_of, IsFormed, HasConstantParts}
+use Rattle.vlog_tree.specs.Value.{width_of, IsFormed, HasConstantParts}
 use Rattle.vlog_runs.specs.Places.{Name, Among}
 use Rattle.vlog_runs.specs.Blocks.{widest, all_signed}
 use Rattle.flat_laws.proofs.Lists.{among_map, map_among}
-use Rattle.flat_faults.specs.Constants.{Taken, compared}
+use Rattle.flat_faults.specs.Constants.{compared}
 use Rattle.flat_faults.specs.Texts.{Compared}
 use Rattle.flat_bounds.specs.declared.breach.Breach.{Breach}
-use Rattle.flat_bounds.specs.Cases.{HasCommonShape, CanTake, expr_meant}
+use Rattle.flat_bounds.specs.Cases.{HasCommonShape, expr_meant}
 use Rattle.flat_bounds.specs.Taken.{IsSound, AllSound, Breaks, SomeBreaks, taken_at}
 
 pub in_widest : (v : List Entry) (as' : List Expr) (a : Expr) → Among as' a → width_of v a ≤ widest v as'

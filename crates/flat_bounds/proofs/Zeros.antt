@@ -1,13 +1,13 @@
 -- Signals that are 0.
-use Rattle.std.proofs.Common.{◌≡◌, ℕ, zero, suc, ◌+◌, ◌-◌, ◌<◌, ◌≤◌, Bool, true, false, List, [], ◌∷◌, ◌++◌, map, length, drop, get_or, drop_of_length-le, add-one, inl, inr, refl, sym, ap, subst, ◌∙◌, arith, append_assoc, append-nil, codes, if◌then◌else◌}
+use Rattle.std.proofs.Common.{◌≡◌, ℕ, zero, suc, ◌+◌, ◌-◌, ◌<◌, ◌≤◌, false, List, [], ◌∷◌, ◌++◌, map, length, drop, get_or, drop_of_length-le, add-one, refl, sym, ap, subst, ◌∙◌, arith, append_assoc, append-nil, codes, if◌then◌else◌}
 use Rattle.std.specs.Prelude.{nat_eq, decimal}
 use Rattle.std.proofs.lemmas.Bool.Decides.{nat_tests}
 use Rattle.std.specs.List.{flat_map}
 use Rattle.vlog_tree.specs.declared.valuation.Entry.{Entry}
-use Rattle.vlog_tree.specs.Valuation.{IsLength, EntryFits, AllFit}
+use Rattle.vlog_tree.specs.Valuation.{EntryFits, AllFit}
 use Rattle.vlog_runs.specs.declared.flat.Signal.{Signal}
-use Rattle.vlog_runs.specs.Places.{Name, Among, entry_of, entries_of, words_from}
-use Rattle.vlog_runs.specs.Contents.{Decl, signals_in}
+use Rattle.vlog_runs.specs.Places.{Name, entry_of, entries_of, words_from}
+use Rattle.vlog_runs.specs.Contents.{signals_in}
 use Rattle.vlog_runs.specs.Scopes.{Scope, signal_of, place_of}
 use Rattle.flat_faults.specs.Constants.{at_rest}
 use Rattle.flat_scopes.specs.declared.decl.Decl.{Decl as View}

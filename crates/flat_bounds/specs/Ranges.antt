@@ -1,5 +1,5 @@
 -- Declarations that keep the rules or break one, and the faults of what breaks one (IEEE 1364-2005, sections 4.3 and 4.9).
-use Rattle.std.specs.Prelude.{ℕ, ◌⊎◌, List, ◌∷◌, ◌++◌, map}
+use Rattle.std.specs.Prelude.{◌⊎◌, List, ◌∷◌, map}
 use Rattle.vlog_tree.specs.declared.module.Module.{Module}
 use Rattle.vlog_tree.specs.declared.valuation.Entry.{Entry}
 use Rattle.vlog_runs.specs.declared.flat.Signal.{Signal}

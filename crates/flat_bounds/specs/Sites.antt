@@ -1,5 +1,4 @@
 -- What views of statements stand for.
-use Rattle.std.specs.Prelude.{List}
 use Rattle.std.specs.List.{flat_map}
 use Rattle.flat_bounds.specs.declared.site.Site.{Site}
 use Rattle.flat_bounds.specs.declared.site.Site.TheVariants as v

@@ -1,5 +1,5 @@
 -- Assignments, and the left sides of equations and blocks, that keep the rules or break one (IEEE 1364-2005, sections 6.1 and 9.2).
-use Rattle.std.specs.Prelude.{ℕ, ◌≡◌, ◌⊎◌, Bool, true, List, [], ◌∷◌, map}
+use Rattle.std.specs.Prelude.{ℕ, ◌≡◌, ◌⊎◌, Bool, true, List, map}
 use Rattle.vlog_tree.specs.declared.expr.Expr.{Expr}
 use Rattle.vlog_tree.specs.declared.item.Assign.{Assign}
 use Rattle.vlog_tree.specs.declared.stmt.Lval.{Lval}

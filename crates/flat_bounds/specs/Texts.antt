@@ -4,7 +4,7 @@ use Rattle.vlog_tree.specs.declared.expr.Expr.{Expr}
 use Rattle.vlog_tree.specs.declared.item.Assign.{Assign}
 use Rattle.vlog_tree.specs.declared.module.Module.{Module}
 use Rattle.vlog_tree.specs.declared.stmt.Lval.{Lval}
-use Rattle.vlog_runs.specs.Places.{Name, Among, Place}
+use Rattle.vlog_runs.specs.Places.{Among, Place}
 use Rattle.vlog_runs.specs.Blocks.{is_parameter}
 use Rattle.vlog_runs.specs.Contents.{Decl, signals_in, port_names, assigns_in, Block, blocks_in, Inner, instances_in}
 use Rattle.vlog_runs.specs.Scopes.{Scope, place_of, Given, given_to, left_of, child, decl_at, signal_of}

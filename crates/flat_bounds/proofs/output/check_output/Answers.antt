@@ -1,16 +1,13 @@
 use Rattle.std.proofs.Common.{map, sym, ap, subst, ◌∙◌}
 use Rattle.vlog_runs.specs.Places.{Among}
-use Rattle.vlog_runs.specs.Blocks.{is_parameter}
 use Rattle.vlog_runs.specs.Scopes.{place_of, left_of}
 use Rattle.flat_params.specs.Constants.{is_known}
 use Rattle.flat_params.proofs.Divisors.{decided_true, decided_false}
 use Rattle.flat_instances.specs.Unfolding.{scope_meant}
 use Rattle.elab_drive.specs.Parts.{part_meant}
-use Rattle.elab_drive.proofs.Naming.{meant_at}
-use Rattle.flat_bounds.specs.declared.breach.Breach.{Breach}
 use Rattle.flat_bounds.specs.declared.side.Side.TheVariants as d
 use Rattle.flat_bounds.specs.Outputs.{AreOf}
-use Rattle.flat_bounds.specs.Stores.{SomeBreaksNumbers, BreaksLeft}
+use Rattle.flat_bounds.specs.Stores.{BreaksLeft}
 use Rattle.flat_bounds.proofs.Takes.{fails}
 use Rattle.flat_bounds.proofs.Stores.{fine}
 use Rattle.flat_bounds.proofs.Ends.{output_numbers, output_breaks, unnamed, sized, missized, named_parts}

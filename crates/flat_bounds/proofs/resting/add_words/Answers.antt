@@ -1,4 +1,4 @@
-use Rattle.std.proofs.Common.{◌≡◌, ◌++◌, map, codes, false, sym, ap, ◌∙◌}
+use Rattle.std.proofs.Common.{◌≡◌, ◌++◌, map, codes, false, ap, ◌∙◌}
 use Rattle.std.specs.Prelude.{decimal}
 use Rattle.vlog_runs.specs.Places.{words_from}
 use Rattle.vlog_tree.specs.declared.valuation.Entry.{Entry}
