@@ -1,0 +1,14 @@
+pub mod Constants
+pub mod Takes
+pub mod Lefts
+pub mod Stores
+pub mod Params
+pub mod Usages
+pub mod Forms
+pub mod Widest
+pub mod Texts
+pub mod Outputs
+pub mod Ends
+pub mod Ranges
+pub mod Zeros
+pub mod Standing

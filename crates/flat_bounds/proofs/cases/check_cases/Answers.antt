@@ -1,0 +1,48 @@
+use Rattle.std.proofs.Common.{◌≡◌, ◌∷◌, map, refl, sym, ap, subst, ◌∙◌}
+use Rattle.std.specs.List.{flat_map}
+use Rattle.vlog_tree.specs.declared.expr.Expr.{Expr}
+use Rattle.vlog_runs.specs.Places.{Among}
+use Rattle.vlog_runs.specs.Blocks.{widest, all_signed}
+use Rattle.flat_params.specs.Constants.{is_known}
+use Rattle.flat_faults.specs.Constants.{compared}
+use Rattle.flat_faults.specs.Texts.{Compared}
+use Rattle.elab_drive.proofs.Growing.{ok_then}
+use Rattle.flat_bounds.specs.Usages.{item_labels}
+use Rattle.flat_bounds.specs.Cases.{HasCommonShape, expr_meant}
+use Rattle.flat_bounds.specs.declared.breach.Breach.{Breach}
+use Rattle.flat_bounds.specs.Taken.{IsSound, AllSound, Breaks, SomeBreaks, Fails, taken_at}
+use Rattle.flat_bounds.proofs.Takes.{if_err, fails}
+use Rattle.flat_bounds.proofs.Widest.{all_sound, some_breaks}
+use Rattle.flat_bounds.proofs.cases.check_cases.Goals as goal
+
+pub returns-in-Ok-clause-ok : goal.returns-in-Ok-clause-ok
+returns-in-Ok-clause-ok c =
+    let test = is_known c.args.params.now in
+    let v = c.args.rest.now in
+    let k : Compared = record { value = c.args.subject.now; labels = flat_map item_labels c.args.items.now } in
+    let as' = map expr_meant c.deref-in-Ok.result.now in
+    let is : as' ≡ k.value ∷ k.labels = ap (map expr_meant) c.deref-in-Ok.ensures.value ∙ c.in_ok-exprs.ensures in
+    let shape = subst (λ xs. HasCommonShape test v (map expr_meant xs) c.in-Ok.width c.in-Ok.signed) (c.deref.ensures.value ∙ sym c.deref-in-Ok.ensures.value) c.in-Ok.ensures.ok in
+    ok_then c.check_all_at.result ((a : Expr) → Among as' a → IsSound test v (taken_at a c.in-Ok.width c.in-Ok.signed)) (AllSound test v (compared v k)) c.check_all_at.ensures.ok
+    (all_sound test v k as' is c.in-Ok.width c.in-Ok.signed shape.width shape.sign)
+
+pub returns-in-Ok-clause-err : goal.returns-in-Ok-clause-err
+returns-in-Ok-clause-err c =
+    let test = is_known c.args.params.now in
+    let v = c.args.rest.now in
+    let k : Compared = record { value = c.args.subject.now; labels = flat_map item_labels c.args.items.now } in
+    let as' = map expr_meant c.deref-in-Ok.result.now in
+    let is : as' ≡ k.value ∷ k.labels = ap (map expr_meant) c.deref-in-Ok.ensures.value ∙ c.in_ok-exprs.ensures in
+    let shape = subst (λ xs. HasCommonShape test v (map expr_meant xs) c.in-Ok.width c.in-Ok.signed) (c.deref.ensures.value ∙ sym c.deref-in-Ok.ensures.value) c.in-Ok.ensures.ok in
+    if_err c.check_all_at.result (λ (w : Breach). (a : Expr) × Among as' a × Breaks test v (taken_at a c.in-Ok.width c.in-Ok.signed) w) (Fails (SomeBreaks test v (compared v k)))
+    (λ w h. fails (SomeBreaks test v (compared v k)) w (some_breaks test v k as' is c.in-Ok.width c.in-Ok.signed shape.width shape.sign w h)) c.check_all_at.ensures.err
+
+pub returns-clause-err : goal.returns-clause-err
+returns-clause-err c =
+    let test = is_known c.args.params.now in
+    let v = c.args.rest.now in
+    let k : Compared = record { value = c.args.subject.now; labels = flat_map item_labels c.args.items.now } in
+    let as' = map expr_meant c.deref.result.now in
+    let is : as' ≡ k.value ∷ k.labels = ap (map expr_meant) c.deref.ensures.value ∙ c.in_ok-exprs.ensures in
+    fails (SomeBreaks test v (compared v k)) c.in-Err.breach
+    (some_breaks test v k as' is (widest v as') (all_signed v as') refl refl c.in-Err.breach (c.in-Err.ensures.err (widest v as') (all_signed v as')))

@@ -1,0 +1,18 @@
+use Rattle.std.proofs.Common.{refl}
+use Rattle.flat_bounds.specs.Cases.{expr_meant}
+use Rattle.elab_drive.proofs.Naming.{meant_at}
+use Rattle.flat_params.specs.Constants.{is_known}
+use Rattle.flat_bounds.proofs.Widest.{at_end}
+use Rattle.flat_bounds.proofs.cases.common_shape.Goals as goal
+
+pub returns-in-Err-clause-err : goal.returns-in-Err-clause-err
+returns-in-Err-clause-err c = λ n s. (
+  c.expr-item.result.now,
+  meant_at expr_meant c.args.exprs.now c.args.exprs.now _ c.loop-expr.expr-index c.expr-item.result c.loop-expr-test.true c.expr-item.is refl refl,
+  c.in-Err.ensures.err n s,
+)
+
+pub returns-clause-ok : goal.returns-clause-ok
+returns-clause-ok c =
+    let inv = c.loop-expr.invariant in
+    at_end (is_known c.args.params.now) c.args.rest.now c.args.exprs.now c.loop-expr.expr-index c.loop-expr.longest c.loop-expr.all_signed c.loop-expr-test.false inv.most inv.width inv.sign inv.ready

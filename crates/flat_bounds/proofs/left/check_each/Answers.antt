@@ -1,0 +1,19 @@
+use Rattle.std.proofs.Common.{inl, refl, map, sym, subst, ◌∷◌, []}
+use Rattle.std.specs.Prelude.{IfErr}
+use Rattle.flat_faults.specs.Constants.{alone}
+use Rattle.flat_faults.specs.Texts.{numbers_in}
+use Rattle.flat_params.specs.Constants.{is_known}
+use Rattle.elab_drive.specs.declared.parts.Part.{Part}
+use Rattle.elab_drive.specs.Parts.{part_meant}
+use Rattle.flat_bounds.specs.Taken.{Breaks, SomeBreaks}
+use Rattle.flat_bounds.proofs.Takes.{if_err}
+use Rattle.flat_bounds.proofs.left.check_each.Goals as goal
+
+pub returns-in-Bit-clause-err : goal.returns-in-Bit-clause-err
+returns-in-Bit-clause-err c =
+    let test = is_known c.args.params.now in
+    let v = c.args.rest.now in
+    let a = c.in-Bit.index.now in
+    let r = c.check_alone.result in
+    subst (λ (p : Part). IfErr r (SomeBreaks test v (map (alone v) (numbers_in (part_meant p))))) (sym c.in-Bit.is)
+    (if_err r (Breaks test v (alone v a)) (SomeBreaks test v (map (alone v) (a ∷ []))) (λ w h. (alone v a, inl refl, h)) c.check_alone.ensures.err)

@@ -1,0 +1,15 @@
+use Rattle.vlog_runs.specs.Contents.{signals_in}
+use Rattle.flat_scopes.specs.Borrowed.{decl_meant}
+use Rattle.flat_instances.specs.Unfolding.{scope_meant}
+use Rattle.elab_drive.proofs.Naming.{meant_at}
+use Rattle.flat_bounds.proofs.Ranges.{only_memory, signal_declared}
+use Rattle.flat_bounds.proofs.resting.at_rest.Goals as goal
+
+pub returns-in-Err-clause-err : goal.returns-in-Err-clause-err
+returns-in-Err-clause-err c =
+    let s = scope_meant c.args.scope.now in
+    let d = decl_meant c.decl-item.result in
+    only_memory s.params d
+    (signal_declared s c.requires d
+    (meant_at decl_meant c.deref-decl-items.result.now c.in_ok-signals.signals.items (signals_in s.module') c.loop-decl.decl-index c.decl-item.result c.loop-decl-test.true c.decl-item.is c.deref-decl-items.ensures.value c.in_ok-signals.ensures))
+    c.in-Err.breach c.in-Err.ensures.err

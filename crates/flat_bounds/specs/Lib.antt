@@ -1,0 +1,10 @@
+pub mod Taken
+pub mod Lefts
+pub mod Stores
+pub mod Scopes
+pub mod Usages
+pub mod Sites
+pub mod Cases
+pub mod Texts
+pub mod Outputs
+pub mod Ranges

@@ -1,0 +1,74 @@
+-- Declarations that keep the rules or break one, and the faults of what breaks one (IEEE 1364-2005, sections 4.3 and 4.9).
+use Rattle.std.specs.Prelude.{◌⊎◌, List, ◌∷◌, map}
+use Rattle.vlog_tree.specs.declared.module.Module.{Module}
+use Rattle.vlog_tree.specs.declared.valuation.Entry.{Entry}
+use Rattle.vlog_runs.specs.declared.flat.Signal.{Signal}
+use Rattle.vlog_runs.specs.Places.{Name, Among, entry_of, words_from}
+use Rattle.vlog_runs.specs.Contents.{Decl, decls_in}
+use Rattle.vlog_runs.specs.Scopes.{Scope}
+use Rattle.flat_faults.specs.declared.fault.FlatFault.{FlatFault}
+use Rattle.flat_faults.specs.declared.fault.FlatFault.TheVariants as f
+use Rattle.flat_faults.specs.Constants.{IsOrdered, IsFromZero, BreaksBounds, BreaksRange, BreaksWords, InRange}
+use Rattle.flat_params.specs.declared.unfit.BadRange.{BadRange}
+use Rattle.flat_params.specs.declared.unfit.BadRange.TheVariants as r
+use Rattle.flat_params.specs.declared.unfit.BadSignal.{BadSignal}
+use Rattle.flat_params.specs.declared.unfit.BadSignal.TheVariants as g
+use Rattle.flat_params.specs.declared.unfit.BadWords.{BadWords}
+use Rattle.flat_params.specs.declared.unfit.BadWords.TheVariants as w
+use Rattle.flat_params.specs.declared.unfit.Unfit.{Unfit}
+use Rattle.flat_params.specs.declared.unfit.Unfit.TheVariants as u
+use Rattle.flat_params.specs.Constants.{is_known}
+use Rattle.flat_params.specs.Signals.{IsDeclared}
+use Rattle.flat_instances.specs.Unfolding.{StandsIn}
+use Rattle.flat_bounds.specs.declared.breach.Breach.{Breach}
+use Rattle.flat_bounds.specs.declared.breach.Breach.TheVariants as b
+
+-- which rule a declaration breaks, by why it declares nothing
+abbrev pub unfit_breach : Unfit → Breach
+unfit_breach u.Name = b.Constant
+unfit_breach u.Length = b.Length
+unfit_breach u.Divisor = b.Constant
+
+abbrev pub range_breach : BadRange → Breach
+range_breach (r.High cause) = unfit_breach cause
+range_breach (r.Low cause) = unfit_breach cause
+range_breach r.Order = b.Constant
+range_breach r.Long = b.Length
+
+abbrev pub words_breach : BadWords → Breach
+words_breach (w.First cause) = unfit_breach cause
+words_breach (w.Last cause) = unfit_breach cause
+words_breach w.Order = b.Constant
+words_breach w.Many = b.Length
+
+abbrev pub signal_breach : BadSignal → Breach
+signal_breach (g.Bits cause) = range_breach cause
+signal_breach (g.Words cause) = words_breach cause
+signal_breach g.Memory = b.Memory
+
+-- a declaration's ranges break a rule
+abbrev pub BreaksDecl : List Entry → Decl → Breach → Type 0
+BreaksDecl v d b.Constant = InRange (BreaksBounds IsOrdered (is_known v) v) d.shape.range ⊎ InRange (BreaksBounds IsFromZero (is_known v) v) d.words
+BreaksDecl v d b.Length = InRange (BreaksRange (is_known v) v) d.shape.range ⊎ InRange (BreaksWords (is_known v) v) d.words
+BreaksDecl v d b.Memory = ⊥
+
+-- all declarations of a scope declare bits and words
+abbrev pub AreDeclared : Scope → Type 0
+AreDeclared s = (d : Decl) → Among (decls_in s.module') d → IsDeclared s.params d
+
+-- the fault of what breaks a rule
+abbrev pub fault_of : Name → Breach → FlatFault
+fault_of n b.Constant = f.Constant n
+fault_of n b.Length = f.Width n
+fault_of n b.Memory = f.Memory
+
+-- a fault stands at a scope, whatever the modules and its name
+abbrev pub StandsAlone : Scope → FlatFault → Type 0
+StandsAlone s fault = (ms : List Module) → StandsIn ms s fault
+
+-- what a signal and its words stand for, the numbers being 0
+abbrev pub resting_word : Signal → Entry
+resting_word g = entry_of g 0
+
+abbrev pub resting : Signal → List Entry
+resting g = entry_of g 0 ∷ map resting_word (words_from g 0 g.depth)

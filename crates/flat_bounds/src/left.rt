@@ -1,0 +1,115 @@
+// Left sides, by their parts (IEEE 1364-2005, sections 6.1 and 9.2).
+
+ghost use Rattle.std.specs.Prelude.{◌≡◌, ◌≤◌, ◌⊎◌, IsTrue, map, OnOk, IfErr, IfSome, IfNone, ◌∷◌, []};
+ghost use Rattle.std.specs.Bool.{MatchBool};
+ghost use Rattle.vlog_tree.specs.declared.stmt.Lval.{Lval as Left};
+ghost use Rattle.vlog_runs.specs.Places.{Among};
+ghost use Rattle.flat_params.specs.Constants.{is_known};
+ghost use Rattle.flat_faults.specs.Constants.{alone};
+ghost use Rattle.flat_faults.specs.Texts.{numbers_in};
+ghost use Rattle.elab_drive.specs.Parts.{part_meant};
+ghost use Rattle.flat_bounds.specs.Taken.{AllSound, SomeBreaks};
+ghost use Rattle.flat_bounds.specs.Lefts.{IsConstantAs, HasSoundNumbers, BreaksNumbers, HasFineNumbers, HasSize, IsMissized};
+
+use crate::breach::Breach;
+use crate::constant::{is_constant, is_part_constant};
+use crate::part::part_bits;
+use crate::side::Side;
+use crate::taken::check_alone;
+use elab_drive::Part;
+use vlog_tree::{Expr, Valuation};
+
+// Two numbers keep the rules by themselves.
+fn check_two(a: &Expr, b: &Expr, params: &Valuation, rest: &Valuation) -> Result<(), Breach>
+    ensures ok { OnOk result (AllSound (is_known params.now) rest.now (map (alone rest.now) (a.now ∷ b.now ∷ []))) }
+    ensures err { IfErr result (SomeBreaks (is_known params.now) rest.now (map (alone rest.now) (a.now ∷ b.now ∷ []))) }
+{
+    match check_alone(a, params, rest) {
+        Ok(()) => check_alone(b, params, rest),
+        Err(breach) => Err(breach),
+    }
+}
+
+// The numbers of a part keep the rules by themselves.
+fn check_each(part: Part<'_>, params: &Valuation, rest: &Valuation) -> Result<(), Breach>
+    ensures ok { OnOk result (AllSound (is_known params.now) rest.now (map (alone rest.now) (numbers_in (part_meant part.entry)))) }
+    ensures err { IfErr result (SomeBreaks (is_known params.now) rest.now (map (alone rest.now) (numbers_in (part_meant part.entry)))) }
+{
+    match part {
+        Part::Whole(_) => Ok(()),
+        Part::Bit(_, index) => check_alone(index, params, rest),
+        Part::Bits(_, _, a, b) => check_two(a, b, params, rest),
+    }
+}
+
+// Whether the numbers of a part are as constant as its place asks.
+fn is_constant_as(side: Side, part: Part<'_>, params: &Valuation) -> bool
+    ensures { MatchBool result (IsConstantAs side (is_known params.now) (part_meant part.entry)) (IsConstantAs side (is_known params.now) (part_meant part.entry) → ⊥) }
+{
+    match side {
+        Side::Equation => match part {
+            Part::Whole(_) => true,
+            Part::Bit(_, index) => is_constant(index, params),
+            Part::Bits(_, _, a, b) => is_constant(a, params) && is_constant(b, params),
+        },
+        Side::Block => match part {
+            Part::Whole(_) => true,
+            Part::Bit(_, _) => true,
+            Part::Bits(_, span, a, b) => is_part_constant(span, a, b, params),
+        },
+    }
+}
+
+// The numbers of a part keep the rules.
+fn check_part(
+    side: Side,
+    part: Part<'_>,
+    params: &Valuation,
+    rest: &Valuation,
+) -> Result<(), Breach>
+    ensures ok { OnOk result (HasSoundNumbers side (is_known params.now) rest.now (part_meant part.entry)) }
+    ensures err { IfErr result (BreaksNumbers side (is_known params.now) rest.now (part_meant part.entry)) }
+{
+    if !is_constant_as(side, part, params) {
+        return Err(Breach::Constant);
+    }
+    check_each(part, params, rest)
+}
+
+/// The numbers of the parts of a left side keep the rules.
+pub fn check_numbers(
+    side: Side,
+    parts: &[Part<'_>],
+    params: &Valuation,
+    rest: &Valuation,
+) -> Result<(), Breach>
+    ensures ok { OnOk result ((q : Left) → Among (map part_meant parts.now) q → HasSoundNumbers side (is_known params.now) rest.now q) }
+    ensures err { IfErr result (λ w. (q : Left) × Among (map part_meant parts.now) q × BreaksNumbers side (is_known params.now) rest.now q w) }
+{
+    for part in parts {
+        match check_part(side, *part, params, rest) {
+            Ok(()) => {}
+            Err(breach) => return Err(breach),
+        }
+    }
+    Ok(())
+}
+
+/// How many bits the parts of a left side have together, from 1 to 64; none where they haven't, or a part isn't well formed.
+pub fn total_bits(parts: &[Part<'_>], rest: &Valuation) -> Option<u8>
+    requires { (q : Left) → Among (map part_meant parts.now) q → HasFineNumbers rest.now q }
+    ensures some { IfSome result (HasSize rest.now (map part_meant parts.now)) }
+    ensures none { IfNone result (IsMissized rest.now (map part_meant parts.now)) }
+{
+    let mut total = 0;
+    for part in parts {
+        match part_bits(*part, rest) {
+            Some(count) => total += count,
+            None => return None,
+        }
+        if total > 64 {
+            return None;
+        }
+    }
+    if total == 0 { None } else { Some(total) }
+}
