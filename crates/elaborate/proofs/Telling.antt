@@ -20,7 +20,7 @@ use Rattle.flat_laws.proofs.Lists.{among_append, append_left, append_right, amon
 use Rattle.elab_faults.specs.Drivers.{Driver, Input, Part, Block, parts_of, row_parts_of, input_drivers, drivers_of}
 use Rattle.elab_drive.specs.declared.names.Form.TheVariants as m
 use Rattle.elab_drive.specs.Claims.{IsPartReady}
-use Rattle.elab_drive.specs.Driving.{AreNarrow, IsDriverReady}
+use Rattle.elab_drive.specs.Driving.{AreNarrow, IsDriverReady, CanDrive}
 use Rattle.elab_drive.specs.Names.{action_lefts}
 use Rattle.elab_drive.specs.Parts.{reads_of}
 use Rattle.elab_drive.specs.Pieces.{Action, Tests, Assigns, Schedules, actions, row_actions, case_actions}
@@ -192,5 +192,8 @@ module _ (f : Flat) (can : CanElaborate f) where
       action_read (at_rest f) d.0 q (action_ready (at_rest f) k.0.body d.0 (can.blocks k.0 k.1) d.1) d.2)
       (among_append (flat_map output_parts f.ports ++ flat_map assign_reads f.assigns) (flat_map block_reads f.blocks) q n)
 
+  pub can_drive : AreNumbered f → CanDrive f
+  can_drive numbers = record { narrow = narrow_signals f can numbers; ready = driver_ready }
+
   pub can_tell : AreNumbered f → CanTell f
-  can_tell numbers = record { drives = record { narrow = narrow_signals f can numbers; ready = driver_ready }; wants = wanted_ready }
+  can_tell numbers = record { drives = can_drive numbers; wants = wanted_ready }

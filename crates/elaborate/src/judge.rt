@@ -18,6 +18,7 @@ use vlog_runs::Flat;
 use word_design::Design;
 
 // A fault of a module other than a loop.
+#[tactic(auto, using(crate::proofs::Telling::can_drive, crate::proofs::Telling::can_tell, crate::proofs::Passing::can_pass))]
 fn fault_of(alloc: Global, flat: &Flat) -> Result<Option<ElabFault>, AllocError>
     requires can { CanElaborate flat.now }
     requires numbers { AreNumbered flat.now }
@@ -49,6 +50,7 @@ fn fault_of(alloc: Global, flat: &Flat) -> Result<Option<ElabFault>, AllocError>
 /// The design of a module without instances: it has the module's cycles, and the same cycles follow (IEEE 1364-2005, sections 6.1 and 9.2). It is
 /// refused where a fault of the module stands, and for want of memory. Faults are looked for in this order: wrong forms of assignment, inputs of
 /// the top that clocked blocks assign among them; bits with two drivers; bits without one; latches; lists of names that leave one out; and loops.
+#[tactic(auto, using(crate::proofs::Passing::can_pass))]
 pub fn elaborate(alloc: Global, flat: &Flat) -> Result<Design, ElabFault>
     requires can { CanElaborate flat.now }
     requires numbers { AreNumbered flat.now }

@@ -4,11 +4,7 @@ use Rattle.vlog_runs.specs.Places.{Name}
 use Rattle.vlog_runs.specs.Cycles.{IsInput, IsRegister}
 use Rattle.elab_drive.proofs.Kinding.{none_is}
 use Rattle.elaborate.proofs.Judging.{faultless, fault_free}
-use Rattle.elaborate.proofs.Passing.{can_pass}
 use Rattle.elaborate.proofs.judge.elaborate.Goals as goal
-
-pub dependences-requires : goal.dependences-requires
-dependences-requires c = can_pass c.args.flat.now c.requires.can c.requires.numbers
 
 pub returns-clause-runs : goal.returns-clause-runs
 returns-clause-runs c =
