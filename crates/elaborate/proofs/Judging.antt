@@ -9,7 +9,6 @@ use Rattle.vlog_runs.specs.Contents.{is_among}
 use Rattle.vlog_runs.specs.Cycles.{IsInput, IsRegister}
 use Rattle.vlog_value.proofs.Facts.{both_true}
 use Rattle.flat_laws.proofs.Lists.{among_append, flat_among}
-use Rattle.elab_faults.specs.declared.fault.ElabFault.{ElabFault}
 use Rattle.elab_faults.specs.declared.fault.ElabFault.TheVariants as f
 use Rattle.elab_faults.specs.Stands.{Stands}
 use Rattle.elab_drive.proofs.Naming.{among_of, of_among}

@@ -1,6 +1,5 @@
 -- An order of the dependences leaves no loop.
-use Rattle.std.proofs.Common.{◌≡◌, ℕ, zero, suc, ◌<◌, List, [], ◌∷◌, ◌++◌, length, arith, refl, sym, ap, subst, ◌⊎◌, inl, inr, ⊎_elim}
-use Rattle.std.specs.List.{flat_map}
+use Rattle.std.proofs.Common.{◌≡◌, ℕ, zero, suc, ◌<◌, List, [], ◌∷◌, ◌++◌, length, arith, refl, sym, subst, ◌⊎◌, inl, inr, ⊎_elim}
 use Rattle.vlog_tree.specs.declared.expr.Expr.{Expr}
 use Rattle.vlog_tree.specs.declared.stmt.Lval.{Lval}
 use Rattle.vlog_tree.specs.declared.stmt.Stmt.{Stmt, Row_of-Stmt, end_of-Stmt, more_of-Stmt, Row_of-CaseItem, end_of-CaseItem, more_of-CaseItem}
@@ -11,8 +10,7 @@ use Rattle.vlog_runs.specs.Places.{Name, Among, Place}
 use Rattle.vlog_runs.specs.Blocks.{lefts, row_lefts, case_lefts, left_names, labels_in}
 use Rattle.vlog_runs.specs.Cycles.{flat_place}
 use Rattle.flat_laws.proofs.Lists.{among_append, append_left, append_right, flat_among}
-use Rattle.flat_faults.specs.Texts.{numbers_in}
-use Rattle.elab_faults.specs.Paths.{Step, Reads, Enters, Leaves, Assigns, branch, assignment, IsPath, IsRowPath, IsItemPath}
+use Rattle.elab_faults.specs.Paths.{Step, Leaves, Assigns, branch, assignment, IsPath, IsRowPath, IsItemPath}
 use Rattle.elab_faults.specs.Drivers.{DependsOn, IsChain}
 use Rattle.elab_order.specs.Graphs.{successors, IsOrder, IsPathTo, AreAfter, Among as Lists, AreDistinct as AreApart}
 use Rattle.elab_flow.specs.Edges.{AreDependences}

@@ -1,8 +1,7 @@
 -- The combinational blocks of a module that can be made a design can be passed through.
-use Rattle.std.proofs.Common.{◌≡◌, ℕ, zero, suc, Bool, true, false, ◌&&◌, List, [], ◌∷◌, ◌++◌, map, Option, Some, None, refl, sym, ap, ◌∙◌, subst, inl, inr, ⊎_elim}
+use Rattle.std.proofs.Common.{◌≡◌, ℕ, zero, suc, true, false, ◌&&◌, List, [], ◌∷◌, ◌++◌, Option, Some, None, refl, sym, ap, ◌∙◌, subst, inl, inr, ⊎_elim}
 use Rattle.std.specs.Prelude.{IsSomeAnd, nat_eq}
 use Rattle.std.specs.Option.{option_map}
-use Rattle.std.specs.List.{flat_map}
 use Rattle.std.specs.Str.{bytes_eq}
 use Rattle.std.proofs.lemmas.Slice.Eq.{bytes_eq-Decides}
 use Rattle.vlog_tree.specs.declared.expr.Expr.{Expr, Row_of-Expr, end_of-Expr, more_of-Expr}
@@ -17,12 +16,12 @@ use Rattle.vlog_tree.specs.Valuation.{IsLength, entry_at, meant}
 use Rattle.vlog_tree.specs.Value.{IsFormed, AllFormed, Stands}
 use Rattle.vlog_runs.specs.declared.flat.Flat.{Flat}
 use Rattle.vlog_runs.specs.declared.flat.Signal.{Signal}
-use Rattle.vlog_runs.specs.Places.{Name, Among, entries_of, held_entry}
+use Rattle.vlog_runs.specs.Places.{Name, Among, held_entry}
 use Rattle.vlog_runs.specs.Blocks.{labels_in, case_width, case_sign}
 use Rattle.vlog_value.proofs.Facts.{both_true}
 use Rattle.flat_laws.proofs.Lists.{among_append, among_flat}
 use Rattle.flat_faults.specs.Texts.{names_in, row_names_in, numbers_in, row_numbers_in}
-use Rattle.elab_block.specs.Ready.{IsPlaced, IsSingle, IsReadyLeft, AreReadyLefts, IsReadyStore, ArePlaced, IsReadyStmt, AreReadyStmts, AreReadyItems}
+use Rattle.elab_block.specs.Ready.{IsPlaced, IsReadyLeft, AreReadyLefts, IsReadyStore, ArePlaced, IsReadyStmt, AreReadyStmts, AreReadyItems}
 use Rattle.elab_flow.specs.Asked.{CanPass}
 use Rattle.elab_flow.specs.Cases.{at_rest, IsComparable}
 use Rattle.elab_flow.specs.Ready.{IsReady, AreReady, AreItemsReady}

@@ -1,5 +1,5 @@
 -- What drives and what reads the bits of a module that can be made a design can be told.
-use Rattle.std.proofs.Common.{◌≡◌, ℕ, Bool, true, false, List, [], ◌∷◌, ◌++◌, map, sym, ap, subst, inl, inr, ⊎_elim}
+use Rattle.std.proofs.Common.{◌≡◌, ℕ, Bool, true, false, List, [], ◌∷◌, ◌++◌, map, sym, subst, inl, inr, ⊎_elim}
 use Rattle.std.specs.Prelude.{if◌then◌else◌}
 use Rattle.std.specs.List.{flat_map}
 use Rattle.vlog_tree.specs.declared.expr.Expr.{Expr}
@@ -12,7 +12,6 @@ use Rattle.vlog_tree.specs.declared.valuation.Entry.{Entry}
 use Rattle.vlog_tree.specs.Value.{IsFormed, IsDefined, width_of, sign_of}
 use Rattle.vlog_runs.specs.declared.flat.Always.{Always}
 use Rattle.vlog_runs.specs.declared.flat.Flat.{Flat}
-use Rattle.vlog_runs.specs.declared.flat.Signal.{Signal}
 use Rattle.vlog_runs.specs.declared.flat.TopPort.{TopPort}
 use Rattle.vlog_runs.specs.Places.{Among}
 use Rattle.vlog_runs.specs.Blocks.{lefts, labels_in, exprs_in, case_width, case_sign}
@@ -28,7 +27,6 @@ use Rattle.elab_drive.specs.Wanting.{CanTell, part_reads, left_reads, action_rea
 use Rattle.elab_drive.proofs.Naming.{actions_lefts}
 use Rattle.elab_block.specs.Ready.{IsPlaced, IsSingle, IsReadyLeft, AreReadyLefts, IsReadyStore, ArePlaced, IsReadyStmt, AreReadyStmts, AreReadyItems}
 use Rattle.elab_step.specs.Asked.{CanElaborate, at_rest}
-use Rattle.elab_step.proofs.Solving.{bool_cases}
 use Rattle.elab_step.proofs.Cycles.{plain_signal}
 use Rattle.elaborate.specs.Asked.{AreNumbered}
 use Rattle.elaborate.proofs.Reading.{evaluable, reads_ready}

@@ -1,6 +1,6 @@
-use Rattle.std.proofs.Common.{◌≡◌, sym, ap, ◌∙◌, subst, List}
+use Rattle.std.proofs.Common.{◌≡◌, sym, ap, ◌∙◌, subst}
 use Rattle.std.specs.List.{flat_map}
-use Rattle.vlog_runs.specs.Places.{Name, Among}
+use Rattle.vlog_runs.specs.Places.{Among}
 use Rattle.vlog_runs.specs.Cycles.{IsInput, IsRegister}
 use Rattle.elaborate.specs.Parts.{input_name}
 use Rattle.elaborate.specs.Sources.{clocked_names, edge_names}

@@ -1,5 +1,4 @@
-use Rattle.std.proofs.Common.{◌≡◌, ◌&&◌, true, false, not, sym, ap, ◌∙◌}
-use Rattle.vlog_runs.specs.Contents.{is_among}
+use Rattle.std.proofs.Common.{true, false, sym, ◌∙◌}
 use Rattle.elab_flow.proofs.Marking.{cut}
 use Rattle.elab_step.proofs.Boards.{item_among}
 use Rattle.elaborate.proofs.Judging.{input_passed, input_found}

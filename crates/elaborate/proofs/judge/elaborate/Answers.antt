@@ -1,7 +1,3 @@
-use Rattle.std.proofs.Common.{◌≡◌}
-use Rattle.vlog_runs.specs.declared.flat.Flat.{Flat}
-use Rattle.vlog_runs.specs.Places.{Name}
-use Rattle.vlog_runs.specs.Cycles.{IsInput, IsRegister}
 use Rattle.elab_drive.proofs.Kinding.{none_is}
 use Rattle.elaborate.proofs.Judging.{faultless, fault_free}
 use Rattle.elaborate.proofs.judge.elaborate.Goals as goal
