@@ -1,9 +1,13 @@
 pub mod Flagging
-pub mod Judging
+pub mod Reading
+pub mod Telling
+pub mod Passing
+pub mod Loops
 pub mod Lists
 pub mod Making
 pub mod Ordering
 pub mod Placing
 pub mod Standing
 pub mod Tracks
+pub mod Judging
 pub mod Designing

@@ -97,6 +97,21 @@ cut_at vs i u l = let z : suc i ≡ i + 1 = omega arith in next vs i l ∙ ap (�
     next (v ∷ vs) zero l = refl
     next (v ∷ vs) (suc i) l = next vs i (omega arith)
 
+-- ---- inputs
+
+pub inputs_in : (f : Flat) (x : Name) → IsInput f x → Among (flat_map input_name f.ports) x
+inputs_in f x h =
+    let here : Among (input_name h.0) h.0.name = subst (λ (b : Bool). Among (if b then [] else h.0.name ∷ []) h.0.name) (sym h.2) (inl refl) in
+    subst (λ z. Among (flat_map input_name f.ports) z) h.3 (flat_among input_name f.ports h.0 h.0.name h.1 here)
+
+pub in_inputs : (f : Flat) (x : Name) → Among (flat_map input_name f.ports) x → IsInput f x
+in_inputs f x m =
+    let p = among_flat input_name f.ports x m in
+    ⊎_elim
+    (λ (e : p.0.output ≡ true). let n : Among [] x = subst (λ (b : Bool). Among (if b then [] else p.0.name ∷ []) x) e p.2 in absurd n)
+    (λ (e : p.0.output ≡ false). let n : Among (p.0.name ∷ []) x = subst (λ (b : Bool). Among (if b then [] else p.0.name ∷ []) x) e p.2 in (p.0, p.1, e, ⊎_elim (λ q. q) (λ u. absurd u) n))
+    (bool_cases p.0.output)
+
 module _ (f : Flat) (can : CanElaborate f) (g : List (List ℕ)) (long : length g ≡ length f.signals) (graph : IsGraph g) (depends : AreDependences f g) where
   abbrev gs : List Signal
   gs = f.signals
@@ -137,27 +152,14 @@ module _ (f : Flat) (can : CanElaborate f) (g : List (List ℕ)) (long : length 
 
   -- ---- nets, and the others
 
-  inputs_in : (x : Name) → IsInput f x → Among (flat_map input_name f.ports) x
-  inputs_in x h =
-      let here : Among (input_name h.0) h.0.name = subst (λ (b : Bool). Among (if b then [] else h.0.name ∷ []) h.0.name) (sym h.2) (inl refl) in
-      subst (λ z. Among (flat_map input_name f.ports) z) h.3 (flat_among input_name f.ports h.0 h.0.name h.1 here)
-
-  in_inputs : (x : Name) → Among (flat_map input_name f.ports) x → IsInput f x
-  in_inputs x m =
-      let p = among_flat input_name f.ports x m in
-      ⊎_elim
-      (λ (e : p.0.output ≡ true). let n : Among [] x = subst (λ (b : Bool). Among (if b then [] else p.0.name ∷ []) x) e p.2 in absurd n)
-      (λ (e : p.0.output ≡ false). let n : Among (p.0.name ∷ []) x = subst (λ (b : Bool). Among (if b then [] else p.0.name ∷ []) x) e p.2 in (p.0, p.1, e, ⊎_elim (λ q. q) (λ u. absurd u) n))
-      (bool_cases p.0.output)
-
   no_source : (x : Name) → is_among (source_names f) x ≡ false → (IsRegister f x ⊎ IsInput f x) → ⊥
   no_source x e h =
-      let m : Among (source_names f) x = ⊎_elim (λ r. append_left (clocked_names f) (flat_map input_name f.ports) x (register_clocked f can.plain x r)) (λ i. append_right (clocked_names f) (flat_map input_name f.ports) x (inputs_in x i)) h in
+      let m : Among (source_names f) x = ⊎_elim (λ r. append_left (clocked_names f) (flat_map input_name f.ports) x (register_clocked f can.plain x r)) (λ i. append_right (clocked_names f) (flat_map input_name f.ports) x (inputs_in f x i)) h in
       let t : true ≡ false = sym (of_among (source_names f) x m) ∙ e in cc
 
   is_source : (s : Signal) → Among gs s → is_among (source_names f) s.name ≡ true → IsRegister f s.name ⊎ IsInput f s.name
   is_source s m e =
-      ⊎_elim (λ n. inl (clocked_register f can.plain s m n)) (λ n. inr (in_inputs s.name n)) (among_append (clocked_names f) (flat_map input_name f.ports) s.name (among_of (source_names f) s.name e))
+      ⊎_elim (λ n. inl (clocked_register f can.plain s m n)) (λ n. inr (in_inputs f s.name n)) (among_append (clocked_names f) (flat_map input_name f.ports) s.name (among_of (source_names f) s.name e))
 
   signal_of : (i : ℕ) → i < length gs → (s : Signal) × Among gs s × (s.name ≡ name_of gs i)
   signal_of i l = let r = among_map (λ (s : Signal). s.name) gs (name_of gs i) (name_among gs i l) in (r.0, r.1, r.2)

@@ -94,6 +94,7 @@ pub fn design_by_graph(
     requires apart { (x : Name) → IsInput flat.now x → IsRegister flat.now x → ⊥ }
     ensures runs { IsFaultless flat.now → IfOk result (λ d. HasRunsOf flat.now d) }
     ensures header { IfOk result (λ d. HasHeader flat.now d) }
+    ensures acyclic { IfOk result (λ d. (x : Name) → Stands flat.now (f.Loop x) → ⊥) }
     ensures fault { IfErr result (λ e. (e ≡ f.Memory) ⊎ Stands flat.now e) }
 {
     match order(alloc, graph)? {

@@ -1,14 +1,15 @@
 // Modules without instances as designs.
 ghost use Rattle.std.specs.Prelude.{◌≡◌, ◌⊎◌, IfOk, IfErr, IfSome, IfNone};
 ghost use Rattle.vlog_runs.specs.Places.{Name};
+ghost use Rattle.vlog_runs.specs.Cycles.{IsInput, IsRegister};
 ghost use Rattle.word_design.specs.Designs.{HasRunsOf};
 ghost use Rattle.elab_faults.specs.declared.fault.ElabFault.TheVariants as f;
-ghost use Rattle.elab_faults.specs.Stands.{Stands};
-ghost use Rattle.elab_step.specs.Asked.{IsFaultless};
-ghost use Rattle.elaborate.specs.Asked.{IsElaborable, IsCleanButLoops};
+ghost use Rattle.elab_step.specs.Asked.{CanElaborate};
+ghost use Rattle.elaborate.specs.Asked.{AreNumbered, IsFaultOf, IsCleanButLoops, HasNoFault};
 ghost use Rattle.elaborate.specs.Parts.{HasHeader};
 
 use crate::graph::design_by_graph;
+use crate::inputs::assigned_input;
 use elab_drive::{driven_twice, undriven, wrongly_assigned};
 use elab_faults::ElabFault;
 use elab_flow::{dependences, latch_of, unlisted_in};
@@ -17,12 +18,18 @@ use vlog_runs::Flat;
 use word_design::Design;
 
 // A fault of a module other than a loop.
+#[tactic(auto, using(crate::proofs::Telling::can_drive, crate::proofs::Telling::can_tell, crate::proofs::Passing::can_pass))]
 fn fault_of(alloc: Global, flat: &Flat) -> Result<Option<ElabFault>, AllocError>
-    requires { IsElaborable flat.now }
-    ensures some { IfOk result (λ o. IfSome o (λ e. Stands flat.now e)) }
-    ensures none { IfOk result (λ o. IfNone o (IsCleanButLoops flat.now)) }
+    requires can { CanElaborate flat.now }
+    requires numbers { AreNumbered flat.now }
+    ensures some { IfOk result (λ o. IfSome o (λ e. IsFaultOf flat.now e)) }
+    ensures clean { IfOk result (λ o. IfNone o (IsCleanButLoops flat.now)) }
+    ensures apart { IfOk result (λ o. IfNone o ((x : Name) → IsInput flat.now x → IsRegister flat.now x → ⊥)) }
 {
     if let Some(name) = wrongly_assigned(alloc, flat)? {
+        return Ok(Some(ElabFault::Kind(name)));
+    }
+    if let Some(name) = assigned_input(alloc, flat)? {
         return Ok(Some(ElabFault::Kind(name)));
     }
     if let Some((name, bit)) = driven_twice(alloc, flat)? {
@@ -40,15 +47,17 @@ fn fault_of(alloc: Global, flat: &Flat) -> Result<Option<ElabFault>, AllocError>
     Ok(None)
 }
 
-/// The design of a module without instances. It is refused by a fault that stands, looked for in this order: wrong forms of assignment, bits with
-/// two drivers, bits without one, latches, lists of names that leave one out, and loops; and for want of memory. Where no fault of the module
-/// stands, the design has the module's cycles, and the same cycles follow (IEEE 1364-2005, sections 6.1 and 9.2).
+/// The design of a module without instances: it has the module's cycles, and the same cycles follow (IEEE 1364-2005, sections 6.1 and 9.2). It is
+/// refused where a fault of the module stands, and for want of memory. Faults are looked for in this order: wrong forms of assignment, inputs of
+/// the top that clocked blocks assign among them; bits with two drivers; bits without one; latches; lists of names that leave one out; and loops.
+#[tactic(auto, using(crate::proofs::Passing::can_pass))]
 pub fn elaborate(alloc: Global, flat: &Flat) -> Result<Design, ElabFault>
-    requires { IsElaborable flat.now }
-    ensures runs { IsFaultless flat.now → IfOk result (λ d. HasRunsOf flat.now d) }
+    requires can { CanElaborate flat.now }
+    requires numbers { AreNumbered flat.now }
+    ensures runs { IfOk result (λ d. HasRunsOf flat.now d) }
     ensures header { IfOk result (λ d. HasHeader flat.now d) }
-    ensures clean { IfOk result (λ d. IsCleanButLoops flat.now) }
-    ensures fault { IfErr result (λ e. (e ≡ f.Memory) ⊎ Stands flat.now e) }
+    ensures clean { IfOk result (λ d. HasNoFault flat.now) }
+    ensures fault { IfErr result (λ e. (e ≡ f.Memory) ⊎ IsFaultOf flat.now e) }
 {
     if let Some(fault) = fault_of(alloc, flat)? {
         return Err(fault);

@@ -11,6 +11,7 @@ use Rattle.elab_step.specs.Solving.{IsNetOrder}
 use Rattle.elaborate.specs.Ordering.{source_names, unflagged}
 use Rattle.elaborate.specs.Sources.{flags_among}
 use Rattle.elaborate.proofs.Ordering.{net_order, nets_within, loop_at}
+use Rattle.elaborate.proofs.Loops.{no_loop}
 use Rattle.elaborate.proofs.Placing.{placed_long}
 use Rattle.elaborate.proofs.graph.design_by_graph.Goals as goal
 
@@ -58,3 +59,12 @@ returns-in_ok-looped-in-Cycle-clause-fault c =
     let stands = (loop_at m r.can g long r.vertices r.depends c.in-Cycle.cycle.items c.index.result.now _ is c.index.ensures).1 in
     let e : c.in_ok-looped-in-Cycle.field-0 ≡ f.Loop (name_of m.signals c.index.result.now) = c.in_ok-looped-in-Cycle.ensures ∙ ap (λ gs. f.Loop (name_of gs c.index.result.now)) c.as_slice.ensures in
     inr (subst (Stands m) (sym e) stands)
+
+pub returns-in_ok-design-in-Order-clause-acyclic : goal.returns-in_ok-design-in-Order-clause-acyclic
+returns-in_ok-design-in-Order-clause-acyclic c x h =
+    let m = c.args.flat.now in
+    let g = graph_of c.args.graph.now in
+    let r = c.requires in
+    let long : length g ≡ length m.signals = placed_long c.args.graph.now ∙ r.size in
+    let is : IsOrder g c.in-Order.places.items = subst (IsSorted g) c.in-Order.is c.in_ok-places.ensures in
+    no_loop m r.can g long r.depends c.in-Order.places.items is x h.0 h.1
