@@ -30,7 +30,7 @@ use Rattle.elab_step.specs.Asked.{CanElaborate}
 use Rattle.elab_step.specs.Solving.{ArePlain, AreDistinct}
 use Rattle.elab_step.proofs.Solving.{bool_cases}
 use Rattle.elab_step.proofs.Fitting.{one_entry}
-use Rattle.elaborate.specs.Asked.{AreNumbered}
+use Rattle.flat_ready.specs.Handed.{AreNumbered}
 use Rattle.elaborate.specs.Sources.{signal_names}
 use Rattle.elaborate.proofs.Telling.{left_ready, each_placed, narrow_signals}
 

@@ -28,7 +28,7 @@ use Rattle.elab_drive.proofs.Naming.{actions_lefts}
 use Rattle.elab_block.specs.Ready.{IsPlaced, IsSingle, IsReadyLeft, AreReadyLefts, IsReadyStore, ArePlaced, IsReadyStmt, AreReadyStmts, AreReadyItems}
 use Rattle.elab_step.specs.Asked.{CanElaborate, at_rest}
 use Rattle.elab_step.proofs.Cycles.{plain_signal}
-use Rattle.elaborate.specs.Asked.{AreNumbered}
+use Rattle.flat_ready.specs.Handed.{AreNumbered}
 use Rattle.elaborate.proofs.Reading.{evaluable, reads_ready}
 
 -- ---- parts of left sides

@@ -1,16 +1,11 @@
 -- What is asked of a module without instances, and which faults it may be refused by.
-use Rattle.std.specs.Prelude.{◌≡◌, ◌≤◌, ◌+◌, ◌^◌, ◌⊎◌}
+use Rattle.std.specs.Prelude.{◌≡◌, ◌⊎◌}
 use Rattle.vlog_runs.specs.declared.flat.Flat.{Flat}
-use Rattle.vlog_runs.specs.declared.flat.Signal.{Signal}
-use Rattle.vlog_runs.specs.Places.{Name, Among}
+use Rattle.vlog_runs.specs.Places.{Name}
 use Rattle.vlog_runs.specs.Cycles.{IsInput, IsRegister}
 use Rattle.elab_faults.specs.declared.fault.ElabFault.{ElabFault}
 use Rattle.elab_faults.specs.declared.fault.ElabFault.TheVariants as f
 use Rattle.elab_faults.specs.Stands.{Stands}
-
--- the bits of each signal have numbers below 2 ^ 64
-abbrev pub AreNumbered : Flat → Type 0
-AreNumbered m = (g : Signal) → Among m.signals g → g.low + g.width ≤ 2 ^ 64
 
 -- an input of the top that a clocked block assigns has the wrong form of assignment for its declaration: an input is a net (IEEE 1364-2005,
 -- section 12.3.3). So it is also where each such assignment is out of range, and no bit has two drivers

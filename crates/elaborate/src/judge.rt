@@ -5,7 +5,8 @@ ghost use Rattle.vlog_runs.specs.Cycles.{IsInput, IsRegister};
 ghost use Rattle.word_design.specs.Designs.{HasRunsOf};
 ghost use Rattle.elab_faults.specs.declared.fault.ElabFault.TheVariants as f;
 ghost use Rattle.elab_step.specs.Asked.{CanElaborate};
-ghost use Rattle.elaborate.specs.Asked.{AreNumbered, IsFaultOf, IsCleanButLoops, HasNoFault};
+ghost use Rattle.flat_ready.specs.Handed.{AreNumbered};
+ghost use Rattle.elaborate.specs.Asked.{IsFaultOf, IsCleanButLoops, HasNoFault};
 ghost use Rattle.elaborate.specs.Parts.{HasHeader};
 
 use crate::graph::design_by_graph;
