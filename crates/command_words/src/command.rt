@@ -21,7 +21,11 @@ fn action_of(name: &[u8]) -> Option<Action>
     }
 }
 
-fn with_files(alloc: Global, action: Action, choices: &Chosen) -> Result<Option<Command>, AllocError>
+fn with_files(
+    alloc: Global,
+    action: Action,
+    choices: &Chosen,
+) -> Result<Option<Command>, AllocError>
     requires { AreBounded (choices_of choices.now) }
     ensures is { IfOk result (λ o. o ≡ with_files action (choices_of choices.now) choices.now.plain.items) }
     ensures bounded { IfOk result (λ o. IfSome o IsBounded) }

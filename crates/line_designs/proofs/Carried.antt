@@ -70,12 +70,14 @@ module _ {A B : Type 0} (d : Design A) (e : Design B) (to : A → B) (follows : 
       (rule, map to cs, there, record { segment = segment m set 1 cs h.segment; broken = ap (λ zs. holds m rule.formula (drop 1 zs)) (trace cs) ∙ h.broken })
   carried m set Reset (rs, cs, h) =
       (map to rs, map to cs, record { segment = reset_segment m set (window_of set 0) rs cs h.segment; broken = ap (λ zs. committed m set 0 zs) (trace cs) ∙ h.broken })
-  carried m set (Operation p) (cs, h) =
-      (map to cs, record {
-        segment = segment m set (window_of set p) cs h.segment;
-        assumes = ap (λ zs. assumed m set p zs) (trace cs) ∙ h.assumes;
-        broken = ap (λ zs. committed m set p zs) (trace cs) ∙ h.broken;
-      })
+  carried m set (Operation p) (cs, h) = (
+    map to cs,
+    record {
+      segment = segment m set (window_of set p) cs h.segment;
+      assumes = ap (λ zs. assumed m set p zs) (trace cs) ∙ h.assumes;
+      broken = ap (λ zs. committed m set p zs) (trace cs) ∙ h.broken;
+    },
+  )
   carried m set (End p) h = h
   carried m set (Split p) h = h
   carried m set (SameEnd p) h = h
@@ -94,7 +96,7 @@ to_design ms top f d k h c = (c.0, (h.cycle c.0).0 ((k.cycle c.0).1 c.1))
 pub lines_are_the_modules : LinesAreTheModules
 lines_are_the_modules ms top f d m set k h line = (
   carried (word_design d set) (design_from ms top set) (to_modules ms top f d k h)
-    (λ a b step. (k.follows a.0 b.0).0 ((h.follows a.0 b.0 ((h.cycle a.0).1 a.1) ((h.cycle b.0).1 b.1)).1 step)) (λ a. refl) (λ a. refl) m set line,
+      (λ a b step. (k.follows a.0 b.0).0 ((h.follows a.0 b.0 ((h.cycle a.0).1 a.1) ((h.cycle b.0).1 b.1)).1 step)) (λ a. refl) (λ a. refl) m set line,
   carried (design_from ms top set) (word_design d set) (to_design ms top f d k h)
-    (λ a b step. (h.follows a.0 b.0 ((k.cycle a.0).1 a.1) ((k.cycle b.0).1 b.1)).0 ((k.follows a.0 b.0).1 step)) (λ a. refl) (λ a. refl) m set line,
+      (λ a b step. (h.follows a.0 b.0 ((k.cycle a.0).1 a.1) ((k.cycle b.0).1 b.1)).0 ((k.follows a.0 b.0).1 step)) (λ a. refl) (λ a. refl) m set line,
 )

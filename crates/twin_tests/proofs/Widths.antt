@@ -57,18 +57,18 @@ one_width : (names : List Name) (x : List ℕ) (n m : ℕ) → AllPairs (λ x y.
 one_width names x n m distinct d p q =
     let same : (get_or names p.place d).name ≡ (get_or names q.place d).name = sym (p.name d) ∙ q.name d in
     elim (order p.place q.place) [
-      inl lt ↦ absurd (differ names p.place q.place d distinct lt q.below same)
-    | inr (inl e) ↦ p.width d ∙ ap (λ k. (get_or names k d).width) e ∙ sym (q.width d)
-    | inr (inr lt) ↦ absurd (differ names q.place p.place d distinct lt p.below (sym same))
+      | inl lt ↦ absurd (differ names p.place q.place d distinct lt q.below same)
+      | inr (inl e) ↦ p.width d ∙ ap (λ k. (get_or names k d).width) e ∙ sym (q.width d)
+      | inr (inr lt) ↦ absurd (differ names q.place p.place d distinct lt p.below (sym same))
     ]
 
 word_named : (names : List Name) (start nodes : List Node) (x : List ℕ) (n s i : ℕ) (t : ℤ) → start ≡ [] → AddsFrees (λ z. IsWindowWord names 0 z ⊎ IsWindowWord names 1 z) start nodes
     → IsAt nodes i (Free x n s t) → IsAtName names x n
 word_named names start nodes x n s i t empty frees at =
     elim (frees (Free x n s t) i refl at) [
-      inl old ↦ absurd (let none : length start ≡ 0 = ap length empty in omega (arith, old.0, none))
-    | inr (inl w) ↦ name_of_word names 0 w.0 x n s t w.1
-    | inr (inr w) ↦ name_of_word names 1 w.0 x n s t w.1
+      | inl old ↦ absurd (let none : length start ≡ 0 = ap length empty in omega (arith, old.0, none))
+      | inr (inl w) ↦ name_of_word names 0 w.0 x n s t w.1
+      | inr (inr w) ↦ name_of_word names 1 w.0 x n s t w.1
     ]
 
 some_name : (names : List Name) (i : ℕ) → i < length names → Name

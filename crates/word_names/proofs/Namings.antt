@@ -104,8 +104,8 @@ same_word y x w v s side c t is =
 not_word : (n : Node) (ns : List Node) (x : List ℕ) (v side : ℕ) (t : ℤ) → Lacks n (Free x v side t ∷ ns) → is_word n x side t ≡ false
 not_word (Free y w s c) ns x v side t lacks =
     elim (cases_Bool (is_word (Free y w s c) x side t)) [
-      inl is ↦ absurd (lacks v 0 (omega arith, sym (same_word y x w v s side c t is)))
-    | inr other ↦ other
+      | inl is ↦ absurd (lacks v 0 (omega arith, sym (same_word y x w v s side c t is)))
+      | inr other ↦ other
     ]
 not_word (Const w) ns x v side t lacks = refl
 not_word (Two op w a b) ns x v side t lacks = refl

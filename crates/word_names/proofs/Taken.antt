@@ -41,8 +41,8 @@ taken_free : (dag : List Node) (before is : List ℕ) (k : ℕ) (n : Node) → i
 taken_free dag before [] k n free at = absurd (omega (arith, at.0))
 taken_free dag before (i ∷ is) k n free at =
     elim (at_either (node_under (index_of before) dag i) (taken dag (before ++ i ∷ []) is) k n at) [
-      inl here ↦ under_free (index_of before) dag i k n free here
-    | inr there ↦ taken_free dag (before ++ i ∷ []) is there.0 n free there.1
+      | inl here ↦ under_free (index_of before) dag i k n free here
+      | inr there ↦ taken_free dag (before ++ i ∷ []) is there.0 n free there.1
     ]
 
 -- a free word of an obligation stands in its dag
