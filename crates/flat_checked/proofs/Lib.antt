@@ -1,0 +1,11 @@
+pub mod Contents
+pub mod Made
+pub mod Params
+pub mod Reading
+pub mod Shallow
+pub mod Standing
+pub mod Usable
+pub mod Following
+pub mod Inputs
+pub mod Sound
+pub mod Flattening
