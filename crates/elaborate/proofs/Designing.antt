@@ -1,7 +1,7 @@
 -- The parts that are made are a design with the nets solved.
 use Rattle.std.proofs.Common.{arith, ◌≡◌, ◌≢◌, ◌+◌, ℕ, ℤ, Bool, true, false, List, [], ◌∷◌, ◌++◌, map, Option, Some, refl, sym, ap, ◌∙◌, subst, ◌⊎◌, inl, inr, ⊎_elim}
 use Rattle.std.specs.Prelude.{if◌then◌else◌}
-use Rattle.std.specs.List.{AllPairs, flat_map}
+use Rattle.std.specs.List.{flat_map}
 use Rattle.vlog_tree.specs.declared.stmt.Stmt.{Stmt}
 use Rattle.vlog_runs.specs.declared.flat.Async.{Async}
 use Rattle.vlog_runs.specs.declared.flat.Flat.{Flat}
@@ -20,7 +20,7 @@ use Rattle.word_dag.specs.Nodes.{FitFrom}
 use Rattle.vlog_runs.specs.Blocks.{signal_at}
 use Rattle.word_design.specs.declared.design.Net.{Net}
 use Rattle.word_design.specs.declared.design.Register.{Register}
-use Rattle.word_design.specs.Designs.{Parts, IsDesign, sources, source, free, naming_of, IsNode}
+use Rattle.word_design.specs.Designs.{Parts, IsDesign, source, free, naming_of, IsNode}
 use Rattle.flat_scopes.specs.Finding.{place_in}
 use Rattle.elab_node.specs.declared.leaves.Leaf.{Leaf}
 use Rattle.elab_node.specs.Nodes.{number_at}
@@ -39,7 +39,7 @@ use Rattle.elab_block.specs.Standing.{AreShown}
 use Rattle.elab_step.proofs.Boards.{same_leaves}
 use Rattle.elab_step.proofs.Solutions.{AreFlags, begun_shown}
 use Rattle.elaborate.proofs.Lists.{pairs_differ, distinct_both}
-use Rattle.elaborate.proofs.Tracks.{Known, Row, net_part, register_part, signal_name, Track, Tracks, Rows, track_of, nets_names, register_name, registers_in, registers_distinct, place_row, FreeRow, free_row, solved_to, edge_of, tracks_of, AreRegisters, nets_flagged, registers_flagged}
+use Rattle.elaborate.proofs.Tracks.{Known, Row, net_part, register_part, signal_name, Track, Rows, track_of, nets_names, register_name, registers_distinct, place_row, free_row, solved_to, edge_of, tracks_of, AreRegisters, nets_flagged, registers_flagged}
 
 -- ---- what isn't solved stays
 

@@ -1,10 +1,9 @@
 -- An order of all signals after those that they depend on, without registers and inputs, is one of the nets.
-use Rattle.std.proofs.Common.{◌≡◌, ◌≢◌, ℕ, zero, suc, ◌+◌, ◌<◌, Bool, true, false, List, [], ◌∷◌, ◌++◌, map, length, drop, get_or, append_assoc, arith, refl, sym, ap, ◌∙◌, subst, ◌⊎◌, inl, inr, ⊎_elim}
+use Rattle.std.proofs.Common.{◌≡◌, ℕ, zero, suc, ◌+◌, ◌<◌, Bool, true, false, List, [], ◌∷◌, ◌++◌, length, drop, get_or, append_assoc, arith, refl, sym, ap, ◌∙◌, subst, ◌⊎◌, inl, inr, ⊎_elim}
 use Rattle.std.specs.Prelude.{if◌then◌else◌}
 use Rattle.std.specs.List.{flat_map}
 use Rattle.vlog_runs.specs.declared.flat.Flat.{Flat}
 use Rattle.vlog_runs.specs.declared.flat.Signal.{Signal}
-use Rattle.vlog_runs.specs.declared.flat.TopPort.{TopPort}
 use Rattle.vlog_runs.specs.Places.{Name, Among}
 use Rattle.vlog_runs.specs.Contents.{is_among}
 use Rattle.vlog_runs.specs.Cycles.{IsRegister, IsInput}
@@ -16,7 +15,7 @@ use Rattle.elab_flow.specs.Edges.{AreDependences}
 use Rattle.elab_flow.specs.Shows.{IsAt}
 use Rattle.elab_step.specs.Asked.{CanElaborate}
 use Rattle.elab_step.specs.Boards.{name_of, names_of}
-use Rattle.elab_step.specs.Solving.{AreDistinct, IsNet, IsNetOrder, IsOrder as Ordered}
+use Rattle.elab_step.specs.Solving.{AreDistinct, IsNetOrder, IsOrder as Ordered}
 use Rattle.elab_step.proofs.Solving.{bool_cases}
 use Rattle.elaborate.specs.Parts.{input_name}
 use Rattle.elaborate.specs.Sources.{signal_names, clocked_names, flags_among}

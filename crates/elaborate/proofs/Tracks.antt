@@ -1,5 +1,5 @@
 -- Each signal with its flags and its leaves: as it is begun, as it is solved, and after the edge.
-use Rattle.std.proofs.Common.{◌≡◌, ℕ, zero, suc, ◌+◌, ◌<◌, Bool, true, false, List, [], ◌∷◌, ◌++◌, map, length, drop, Option, Some, None, arith, refl, sym, ap, ◌∙◌, subst, ◌⊎◌, inl, inr, ⊎_elim}
+use Rattle.std.proofs.Common.{◌≡◌, ℕ, suc, ◌+◌, Bool, true, false, List, [], ◌∷◌, ◌++◌, map, Some, arith, refl, sym, ap, ◌∙◌, subst, ◌⊎◌, inl, inr, ⊎_elim}
 use Rattle.std.specs.Prelude.{if◌then◌else◌}
 use Rattle.std.specs.List.{flat_map}
 use Rattle.std.specs.Str.{bytes_eq}
@@ -23,11 +23,10 @@ use Rattle.elab_step.specs.Solving.{clocked, processes, after_edge, solved, AreD
 use Rattle.elab_step.specs.Boards.{AreBegun, IsBegun, IsFreeOf, unset}
 use Rattle.elab_step.proofs.Solving.{bool_cases}
 use Rattle.elab_step.proofs.Solutions.{AreFlags}
-use Rattle.elaborate.specs.Parts.{zip3, own_net, net_of, register_of, first_net, net_at}
+use Rattle.elaborate.specs.Parts.{zip3, own_net, net_of, register_of, net_at}
 use Rattle.elaborate.specs.Sources.{clocked_names, edge_names, flags_among}
 use Rattle.elab_drive.proofs.Naming.{among_of, of_among}
 use Rattle.flat_laws.proofs.Lists.{among_flat, flat_among}
-use Rattle.vlog_runs.specs.declared.flat.Always.{Always}
 use Rattle.vlog_runs.specs.Blocks.{lefts, left_names}
 use Rattle.elab_step.specs.Solving.{ArePlain}
 use Rattle.elab_step.proofs.Cycles.{own_holder, holds_itself}

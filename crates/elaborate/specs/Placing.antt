@@ -1,11 +1,10 @@
 -- For each signal the places of the statements that assign it, statement after statement.
-use Rattle.std.specs.Prelude.{ℕ, zero, suc, Bool, false, List, [], ◌∷◌, ◌++◌, map, length, Option, Some, None, replicate, nat_eq, if◌then◌else◌}
-use Rattle.std.specs.List.{flat_map}
+use Rattle.std.specs.Prelude.{ℕ, zero, suc, Bool, false, List, [], ◌∷◌, ◌++◌, length, Option, Some, None, replicate, nat_eq, if◌then◌else◌}
 use Rattle.vlog_tree.specs.declared.item.Assign.{Assign}
 use Rattle.vlog_runs.specs.declared.flat.Always.{Always}
 use Rattle.vlog_runs.specs.declared.flat.Flat.{Flat}
 use Rattle.vlog_runs.specs.Places.{Name}
-use Rattle.vlog_runs.specs.Blocks.{lefts, left_names}
+use Rattle.vlog_runs.specs.Blocks.{left_names}
 use Rattle.flat_scopes.specs.Finding.{place_in}
 use Rattle.elab_drive.specs.declared.names.Form.TheVariants as m
 use Rattle.elab_drive.specs.Names.{chosen_names}

@@ -1,7 +1,6 @@
-use Rattle.std.proofs.Common.{◌≡◌, ◌<◌, ℕ, List, length, arith, inr, refl, sym, ap, ◌∙◌, subst}
+use Rattle.std.proofs.Common.{◌≡◌, ◌<◌, ℕ, List, length, inr, sym, ap, ◌∙◌, subst}
 use Rattle.vlog_runs.specs.declared.flat.Signal.{Signal}
 use Rattle.vlog_runs.specs.Places.{Among}
-use Rattle.elab_faults.specs.declared.fault.ElabFault.{ElabFault}
 use Rattle.elab_faults.specs.declared.fault.ElabFault.TheVariants as f
 use Rattle.elab_faults.specs.Drivers.{DependsOn}
 use Rattle.elab_faults.specs.Stands.{Stands}

@@ -1,4 +1,4 @@
-use Rattle.std.proofs.Common.{◌≡◌, ◌++◌, ◌<◌, ◌∷◌, [], true, length, get_or, arith, ap, ◌∙◌}
+use Rattle.std.proofs.Common.{◌++◌, ◌<◌, ◌∷◌, [], true, length, get_or, arith, ap, ◌∙◌}
 use Rattle.std.specs.Prelude.{if◌then◌else◌}
 use Rattle.std.proofs.lemmas.List.{get_or_default}
 use Rattle.elaborate.proofs.Ordering.{contains_at, cut_at, unflagged_next}

@@ -1,4 +1,4 @@
-use Rattle.std.proofs.Common.{true, false, sym, ◌∙◌}
+use Rattle.std.proofs.Common.{sym, ◌∙◌}
 use Rattle.elab_flow.proofs.Marking.{cut}
 use Rattle.elab_step.proofs.Boards.{item_among}
 use Rattle.elaborate.proofs.Judging.{input_passed, input_found}

@@ -1,4 +1,4 @@
-use Rattle.std.proofs.Common.{◌≡◌, ◌<◌, ◌≤◌, ℕ, [], map, length, refl, ap, ◌∙◌, arith}
+use Rattle.std.proofs.Common.{◌<◌, ◌≤◌, ℕ, [], map, length, refl, ap, ◌∙◌, arith}
 use Rattle.word_design.specs.declared.design.Net.{Net}
 use Rattle.elab_drive.proofs.Growing.{ended}
 use Rattle.elaborate.specs.Parts.{zip3, net_of}

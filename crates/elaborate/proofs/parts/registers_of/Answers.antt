@@ -1,4 +1,4 @@
-use Rattle.std.proofs.Common.{◌≡◌, ◌<◌, ◌≤◌, [], length, refl, arith}
+use Rattle.std.proofs.Common.{◌<◌, ◌≤◌, [], length, refl, arith}
 use Rattle.std.specs.List.{flat_map}
 use Rattle.elab_drive.proofs.Growing.{ended}
 use Rattle.elaborate.specs.Parts.{zip3, register_of}
