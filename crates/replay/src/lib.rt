@@ -4,6 +4,10 @@
 mod printing;
 mod put;
 mod shown;
+mod twin;
+mod values;
+mod window;
 
 pub use printing::print_trace;
 pub use shown::{Shown, Start, Trace};
+pub use twin::twin_trace;
