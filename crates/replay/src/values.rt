@@ -26,11 +26,7 @@ pub struct Values<'a> {
 }
 
 // Puts in a word that isn't there yet.
-fn add<'a>(
-    words: &mut HashMap<Word<'a>, u64>,
-    word: Word<'a>,
-    value: u64,
-) -> Result<(), AllocError>
+fn add<'a>(words: &mut HashMap<Word<'a>, u64>, word: Word<'a>, value: u64) -> Result<(), AllocError>
     ensures { OnOk result ((q : FreeWord) (rest : ℕ) → unwrap_or (get same_word words.new q) rest ≡ unwrap_or (get same_word words.old q) (if same_word word.entry q then value else rest)) }
 {
     if !words.contains_key(&word) {
@@ -66,7 +62,10 @@ fn add_node<'a, 'b>(
 {
     match node {
         Node::Free {
-            name, side, cycle, ..
+            name,
+            side,
+            cycle,
+            ..
         } => {
             let word = Word {
                 name: name.bytes(),

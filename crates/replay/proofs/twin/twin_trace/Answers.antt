@@ -20,6 +20,6 @@ pub unreachable-requires : goal.unreachable-requires
 unreachable-requires c =
     let at = refuted_at c.args.sound.now c.args.line c.args.ob.now.nodes c.args.ob.now.root c.args.values.now c.set.ensures.sound c.requires.of_line c.requires.speaks c.requires.words c.requires.root in
     let same : c.property_of.result.now ≡ property_at c.args.sound.now (property_of c.args.line) =
-        c.property_of.ensures ∙ (ap (property_at c.set.result.now) c.position_of.ensures ∙ ap (λ (s : Set). property_at s (property_of c.args.line)) c.set.ensures.value) in
+    c.property_of.ensures ∙ (ap (property_at c.set.result.now) c.position_of.ensures ∙ ap (λ (s : Set). property_at s (property_of c.args.line)) c.set.ensures.value) in
     let late : at.n < c.loop-n.n = omega (arith, ap (λ (p : Property). p.length.high) same, at.most, c.loop-n-test.false) in
     c.loop-n.invariant at.n at.least late at.violating
