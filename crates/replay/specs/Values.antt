@@ -1,5 +1,5 @@
 -- Values of free words, found by name, side and cycle.
-use Rattle.std.specs.Prelude.{◌≡◌, ℕ, Bool, ◌&&◌, nat_eq, unwrap_or}
+use Rattle.std.specs.Prelude.{◌≡◌, Bool, ◌&&◌, nat_eq, unwrap_or}
 use Rattle.std.specs.HashMap.{get}
 use Rattle.std.specs.Ordering.{int_eq}
 use Rattle.std.specs.Str.{bytes_eq}
