@@ -6,7 +6,7 @@ use Rattle.vlog_runs.specs.Scopes.{Scope}
 use Rattle.flat_faults.specs.declared.fault.FlatFault.{FlatFault}
 use Rattle.flat_faults.specs.Stands.{BreaksConstant, BreaksWidth, StandsAt}
 use Rattle.flat_instances.specs.Naming.{prefix_name}
-use Rattle.flat_names.specs.Rows.{StandsAlone, IsOfNames}
+use Rattle.flat_names.specs.Rows.{IsOfNames}
 
 -- no fault of names or ports stands at a scope
 abbrev pub HasFitNames : List Module → Scope → Type 0
@@ -23,7 +23,3 @@ pub record IsChecked (ms : List Module) (top : Name) (s : Scope) : Type 0 where
 
 abbrev pub AreChecked : List Module → Name → List Scope → Type 0
 AreChecked ms top ss = (s : Scope) → Among ss s → IsChecked ms top s
-
--- a fault stands at one of these scopes, whatever the modules
-abbrev pub StandsAtOne : List Scope → FlatFault → Type 0
-StandsAtOne ss fault = (s : Scope) × Among ss s × StandsAlone s fault
