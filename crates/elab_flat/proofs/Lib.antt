@@ -1,3 +1,6 @@
 pub mod Lefts
 pub mod Making
-pub mod Declaring
+pub mod Linking
+pub mod Ports
+pub mod Standing
+pub mod Whole

@@ -1,2 +1,3 @@
 pub mod Scoped
-pub mod Undeclared
+pub mod Standing
+pub mod Joined

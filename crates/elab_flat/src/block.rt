@@ -1,10 +1,11 @@
 // The `always` blocks of instances (IEEE 1364-2005, section 9.9).
 
-ghost use Rattle.std.specs.Prelude.{◌≡◌, ◌++◌, OnOk};
+ghost use Rattle.std.specs.Prelude.{◌≡◌, ◌++◌, IfOk, OnOk, map};
+ghost use Rattle.std.specs.List.{flat_map};
 ghost use Rattle.flat_laws.specs.Flattened.{flat_blocks};
-ghost use Rattle.elab_flat.specs.Scoped.{scope_meant};
+ghost use Rattle.flat_instances.specs.Unfolding.{scope_meant};
 
-use crate::scope::Scope;
+use flat_instances::Scope;
 use flat_move::moved_block;
 use flat_scopes::blocks_in;
 use sqlite_items::Items;
@@ -12,11 +13,7 @@ use std::alloc::{AllocError, Global};
 use vlog_runs::Always;
 
 /// Adds the blocks of a scope, in the order of its module's text. Refused only for want of memory.
-pub fn add_blocks(
-    all: &mut Items<Always>,
-    alloc: Global,
-    scope: &Scope<'_>,
-) -> Result<(), AllocError>
+fn add_blocks(all: &mut Items<Always>, alloc: Global, scope: &Scope<'_>) -> Result<(), AllocError>
     ensures { OnOk result (all.new ≡ all.old ++ flat_blocks (scope_meant scope.now)) }
 {
     let prefix = scope.prefix.bytes();
@@ -26,4 +23,15 @@ pub fn add_blocks(
         all.push(block)?;
     }
     Ok(())
+}
+
+/// The blocks of scopes, one scope's after another's. Refused only for want of memory.
+pub fn blocks_of(alloc: Global, scopes: &[Scope<'_>]) -> Result<Items<Always>, AllocError>
+    ensures { IfOk result (λ all. all ≡ flat_map flat_blocks (map scope_meant scopes.now)) }
+{
+    let mut all = Items::new(alloc);
+    for scope in scopes {
+        add_blocks(&mut all, alloc, scope)?;
+    }
+    Ok(all)
 }

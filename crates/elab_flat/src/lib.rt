@@ -1,13 +1,14 @@
-//! What an instance gives to a module without instances: its signals, its continuous assignments and blocks, and the connections of its instances.
+//! The module without instances that a list of modules is from its top.
 #![tactic(auto)]
 
 mod block;
+mod check;
+mod hierarchy;
 mod left;
 mod link;
+mod module;
+mod port;
 mod scope;
 mod signal;
 
-pub use block::add_blocks;
-pub use link::{add_connections, add_own};
-pub use scope::Scope;
-pub use signal::{SignalFault, add_signals};
+pub use hierarchy::flatten;

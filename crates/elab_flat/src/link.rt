@@ -1,22 +1,27 @@
 // Continuous assignments and connections of ports (IEEE 1364-2005, sections 6.1 and 12.3).
 
-ghost use Rattle.std.specs.Prelude.{◌≡◌, ◌++◌, List, Some, IfOk, OnOk, map};
+ghost use Rattle.std.specs.Prelude.{◌≡◌, ◌++◌, List, Some, IfOk, OnOk, map, length};
+ghost use Rattle.std.specs.List.{flat_map};
 ghost use Rattle.std.specs.Option.{option_to_list};
+ghost use Rattle.vlog_tree.specs.declared.module.Module.{Module as Design};
 ghost use Rattle.vlog_runs.specs.declared.flat.Signal.{Signal};
 ghost use Rattle.vlog_runs.specs.Contents.{assigns_in};
 ghost use Rattle.vlog_tree.specs.declared.expr.Expr.TheVariants as e;
 ghost use Rattle.vlog_runs.specs.Places.{read};
-ghost use Rattle.vlog_runs.specs.Scopes.{own_link, port_link, port_links, connections, place_of, decl_at};
+ghost use Rattle.vlog_runs.specs.Scopes.{own_link, port_link, port_links, connections, inner_links, place_of, decl_at, child};
 ghost use Rattle.flat_laws.specs.Moved.{moved, moved_left};
-ghost use Rattle.flat_laws.specs.Flattened.{moved_link};
+ghost use Rattle.flat_laws.specs.Flattened.{moved_link, flat_assigns};
 ghost use Rattle.flat_scopes.specs.Borrowed.{target_meant, assigned_meant, given_meant, decl_meant, inner_meant};
-ghost use Rattle.elab_flat.specs.Scoped.{scope_meant, placed};
+ghost use Rattle.flat_instances.specs.Unfolding.{scope_meant};
+ghost use Rattle.flat_checked.specs.Following.{AreFollowed};
+ghost use Rattle.elab_flat.specs.Scoped.{placed};
 
 use crate::left::left_of;
-use crate::scope::Scope;
+use crate::scope::mover;
+use flat_instances::Scope;
 use flat_move::Mover;
 use flat_scopes::{
-    Assigned, Decl, Given, Inner, Signals, Target, assigns_in, given_to, port_names,
+    Assigned, Decl, Given, Inner, Signals, Target, assigns_in, given_to, instances_in, port_names,
 };
 use outside::Text;
 use sqlite_items::Items;
@@ -79,10 +84,10 @@ fn port_assign(
 }
 
 /// Adds the continuous assignments of a scope.
-pub fn add_own(all: &mut Items<Assign>, alloc: Global, scope: &Scope<'_>) -> Result<(), AllocError>
+fn add_own(all: &mut Items<Assign>, alloc: Global, scope: &Scope<'_>) -> Result<(), AllocError>
     ensures { OnOk result (all.new ≡ all.old ++ map moved_link (map (own_link (place_of (scope_meant scope.now))) (assigns_in scope.now.text.now))) }
 {
-    let mover = scope.mover(alloc);
+    let mover = mover(alloc, scope);
     let assigns = assigns_in(alloc, scope.text)?;
     for assigned in &assigns {
         all.push(own_assign(&mover, assigned)?)?;
@@ -109,7 +114,7 @@ fn add_port(
 }
 
 /// Adds the connections of an instance in a scope.
-pub fn add_connections(
+fn add_connections(
     all: &mut Items<Assign>,
     alloc: Global,
     outer: &Scope<'_>,
@@ -118,8 +123,8 @@ pub fn add_connections(
 ) -> Result<(), AllocError>
     ensures { OnOk result (all.new ≡ all.old ++ map moved_link (connections (place_of (scope_meant outer.now)) (inner_meant instance.now) (Some (scope_meant inner.now)))) }
 {
-    let outer_mover = outer.mover(alloc);
-    let inner_mover = inner.mover(alloc);
+    let outer_mover = mover(alloc, outer);
+    let inner_mover = mover(alloc, inner);
     let signals = Signals::of(alloc, inner.text)?;
     let ports = port_names(alloc, inner.text)?;
     let given = given_to(alloc, &ports, instance.args)?;
@@ -127,4 +132,43 @@ pub fn add_connections(
         add_port(all, &outer_mover, &inner_mover, gift, &signals)?;
     }
     Ok(())
+}
+
+/// Adds the connections of the instances of a scope, each with its scope.
+fn add_inners(
+    all: &mut Items<Assign>,
+    alloc: Global,
+    outer: &Scope<'_>,
+    instances: &[Inner<'_>],
+    inners: &[Scope<'_>],
+) -> Result<(), AllocError>
+    requires { length inners.now ≡ length instances.now }
+    ensures { OnOk result ((ms : List Design) →
+        map Some (map scope_meant inners.now) ≡ map (child ms (scope_meant outer.now)) (map inner_meant instances.now) →
+        all.new ≡ all.old ++ map moved_link (flat_map (inner_links ms (scope_meant outer.now)) (map inner_meant instances.now))) }
+{
+    let mut at = 0;
+    for instance in instances {
+        add_connections(all, alloc, outer, instance, &inners[at])?;
+        at += 1;
+    }
+    Ok(())
+}
+
+/// The continuous assignments of scopes and the connections of their instances, one scope's after another's. The scopes of the instances stand behind
+/// the first scope in this order too. Refused only for want of memory.
+pub fn assigns_of(alloc: Global, scopes: &[Scope<'_>]) -> Result<Items<Assign>, AllocError>
+    requires { (ms : List Design) × AreFollowed ms (map scope_meant scopes.now) }
+    ensures { IfOk result (λ all. (ms : List Design) → AreFollowed ms (map scope_meant scopes.now) → all ≡ flat_map (flat_assigns ms) (map scope_meant scopes.now)) }
+{
+    let mut all = Items::new(alloc);
+    let mut next = 1;
+    for scope in scopes {
+        let instances = instances_in(alloc, scope.text)?;
+        let past = next + instances.len();
+        add_own(&mut all, alloc, scope)?;
+        add_inners(&mut all, alloc, scope, &instances, &scopes[next..past])?;
+        next = past;
+    }
+    Ok(all)
 }

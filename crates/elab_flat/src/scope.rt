@@ -1,32 +1,33 @@
-// Instances, the top among them.
+// The text of an instance on its way into the module without instances.
 
-ghost use Rattle.std.specs.Prelude.{◌≡◌};
+ghost use Rattle.std.specs.Prelude.{◌≡◌, IfOk};
+ghost use Rattle.flat_instances.specs.Naming.{prefix_name};
 
+use flat_instances::Scope;
 use flat_move::Mover;
 use outside::Text;
-use std::alloc::Global;
-use vlog_tree::{Module, Valuation};
+use std::alloc::{AllocError, Global};
 
-/// An instance of a module, or the top.
-#[derive(Drop)]
-pub struct Scope<'a> {
-    /// What stands in front of its names: the names of the instances on its path, each with a dot behind it.
-    pub prefix: Text,
-    pub text: &'a Module,
-    /// What its parameters stand for.
-    pub params: Valuation,
+/// What moves the text of a scope.
+pub fn mover<'a>(alloc: Global, scope: &'a Scope<'_>) -> Mover<'a>
+    ensures prefix { result.prefix.now ≡ scope.now.prefix }
+    ensures params { result.params.now ≡ scope.now.params }
+{
+    Mover {
+        alloc,
+        prefix: scope.prefix.bytes(),
+        params: &scope.params,
+    }
 }
 
-impl Scope<'_> {
-    /// What moves its text into the module without instances.
-    pub fn mover(&self, alloc: Global) -> Mover<'_>
-        ensures prefix { result.prefix.now ≡ self.now.prefix }
-        ensures params { result.params.now ≡ self.now.params }
-    {
-        Mover {
-            alloc,
-            prefix: self.prefix.bytes(),
-            params: &self.params,
-        }
+/// The name of a scope by what stands in front of its names: the top's name at the top.
+pub fn scope_name(alloc: Global, top: &[u8], prefix: &[u8]) -> Result<Text, AllocError>
+    ensures { IfOk result (λ text. text ≡ prefix_name top.now prefix.now) }
+{
+    let length = prefix.len();
+    if length == 0 {
+        Text::copy(alloc, top)
+    } else {
+        Text::copy(alloc, &prefix[..length - 1])
     }
 }

@@ -15,13 +15,13 @@ use Rattle.flat_faults.specs.Constants.{at_rest}
 use Rattle.flat_scopes.specs.Finding.{decl_name}
 use Rattle.elab_faults.specs.Drivers.{parts_of}
 use Rattle.elab_drive.proofs.Naming.{parts_names}
-use Rattle.flat_bounds.specs.declared.breach.Breach.{Breach}
-use Rattle.flat_bounds.specs.declared.breach.Breach.TheVariants as b
+use Rattle.flat_bounds.specs.declared.violation.Violation.{Violation}
+use Rattle.flat_bounds.specs.declared.violation.Violation.TheVariants as b
 use Rattle.flat_bounds.specs.declared.side.Side.TheVariants as d
 use Rattle.flat_bounds.specs.Lefts.{HasSize, IsMissized}
 use Rattle.flat_bounds.specs.Outputs.{expr_parts, AreOf}
-use Rattle.flat_bounds.specs.Stores.{AllSoundNumbers, SomeBreaksNumbers, NamesSignals, IsSoundLeft, BreaksLeft}
-use Rattle.flat_bounds.proofs.Stores.{good_numbers, good_size, breaks_numbers, breaks_size}
+use Rattle.flat_bounds.specs.Stores.{PartsHaveLegalNumbers, SomeBreaksNumbers, NamesSignals, IsSoundLeft, BreaksLeft}
+use Rattle.flat_bounds.proofs.Stores.{legal_numbers, legal_size, breaks_numbers, breaks_size}
 
 pub signals : (v : List Entry) (ds : List Decl) (x : Name) → is_some (signal_at (map (signal_of v) ds) x) ≡ is_among (map decl_name ds) x
 signals v [] x = refl
@@ -35,16 +35,16 @@ module _ (s : Scope) (a : Expr) (v : List Entry) (rest : v ≡ at_rest (place_of
   left = left_of a
 
   abbrev numbers : Type 0
-  numbers = AllSoundNumbers d.Equation (is_parameter p) (at_rest p) (parts_of left)
+  numbers = PartsHaveLegalNumbers d.Continuous (is_parameter p) (at_rest p) (parts_of left)
 
   module _ (qs : List Lval) (is : qs ≡ expr_parts a) where
-    pub output_numbers : AllSoundNumbers d.Equation (is_parameter p) v qs → numbers
-    output_numbers h = subst (λ zs. AllSoundNumbers d.Equation (is_parameter p) (at_rest p) zs) is (subst (λ u. AllSoundNumbers d.Equation (is_parameter p) u qs) rest h)
+    pub output_numbers : PartsHaveLegalNumbers d.Continuous (is_parameter p) v qs → numbers
+    output_numbers h = subst (λ zs. PartsHaveLegalNumbers d.Continuous (is_parameter p) (at_rest p) zs) is (subst (λ u. PartsHaveLegalNumbers d.Continuous (is_parameter p) u qs) rest h)
 
-    pub output_breaks : (w : Breach) → SomeBreaksNumbers d.Equation (is_parameter p) v qs w → BreaksLeft d.Equation p left w
+    pub output_breaks : (w : Violation) → SomeBreaksNumbers d.Continuous (is_parameter p) v qs w → BreaksLeft d.Continuous p left w
     output_breaks w h =
-        breaks_numbers d.Equation p left w
-        (subst (λ zs. SomeBreaksNumbers d.Equation (is_parameter p) (at_rest p) zs w) is (subst (λ u. SomeBreaksNumbers d.Equation (is_parameter p) u qs w) rest h))
+        breaks_numbers d.Continuous p left w
+        (subst (λ zs. SomeBreaksNumbers d.Continuous (is_parameter p) (at_rest p) zs w) is (subst (λ u. SomeBreaksNumbers d.Continuous (is_parameter p) u qs w) rest h))
 
     names_to : NamesSignals p left → AreOf ns qs
     names_to names q k x g =
@@ -57,17 +57,17 @@ module _ (s : Scope) (a : Expr) (v : List Entry) (rest : v ≡ at_rest (place_of
         signals s.params (signals_in s.module') x ∙ (ap (λ z. is_among z x) (sym named) ∙ all r.0 (subst (λ zs. Among zs r.0) (sym is) r.1) x r.2)
 
     -- not all parts are signals
-    pub unnamed : numbers → (AreOf ns qs → ⊥) → IsSoundLeft d.Equation p left
-    unnamed h none = record { good = good_numbers d.Equation p left h; size = λ names. absurd (none (names_to names)) }
+    pub unnamed : numbers → (AreOf ns qs → ⊥) → IsSoundLeft d.Continuous p left
+    unnamed h none = record { good = legal_numbers d.Continuous p left h; size = λ names. absurd (none (names_to names)) }
 
-    pub sized : numbers → (n : ℕ) → HasSize v qs n → IsSoundLeft d.Equation p left
+    pub sized : numbers → (n : ℕ) → HasSize v qs n → IsSoundLeft d.Continuous p left
     sized h n size = record {
-      good = good_numbers d.Equation p left h;
-      size = λ names. good_size d.Equation p left n (subst (λ zs. HasSize (at_rest p) zs n) is (subst (λ u. HasSize u qs n) rest size));
+      good = legal_numbers d.Continuous p left h;
+      size = λ names. legal_size d.Continuous p left n (subst (λ zs. HasSize (at_rest p) zs n) is (subst (λ u. HasSize u qs n) rest size));
     }
 
-    pub missized : NamesSignals p left → numbers → IsMissized v qs → BreaksLeft d.Equation p left b.Length
-    missized names h miss = inr (names, breaks_size d.Equation p left h (subst (λ zs. IsMissized (at_rest p) zs) is (subst (λ u. IsMissized u qs) rest miss)))
+    pub missized : NamesSignals p left → numbers → IsMissized v qs → BreaksLeft d.Continuous p left b.Length
+    missized names h miss = inr (names, breaks_size d.Continuous p left h (subst (λ zs. IsMissized (at_rest p) zs) is (subst (λ u. IsMissized u qs) rest miss)))
 
     pub named_parts : AreOf ns qs → NamesSignals p left
     named_parts all = names_from all

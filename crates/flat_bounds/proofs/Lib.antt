@@ -12,3 +12,6 @@ pub mod Ends
 pub mod Ranges
 pub mod Zeros
 pub mod Standing
+pub mod Inners
+pub mod Connections
+pub mod Unfolded

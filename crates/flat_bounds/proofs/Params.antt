@@ -102,7 +102,7 @@ module _ (s : Scope) (has : HasSoundParams s) (k : ℕ) (p : Param) (at : IsPara
 
 -- ---- overrides
 
-child_params : (s : Scope) (i : Inner) (o : Option Module) (t : Scope) → scope_in s i o ≡ Some t → t.params ≡ params_of t.module' (overriding t.module' i.overrides) s.params
+pub child_params : (s : Scope) (i : Inner) (o : Option Module) (t : Scope) → scope_in s i o ≡ Some t → t.params ≡ params_of t.module' (overriding t.module' i.overrides) s.params
 child_params s i None t e = cc
 child_params s i (Some m) t e =
     let same : inside s i m ≡ t = cc in

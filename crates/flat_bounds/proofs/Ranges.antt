@@ -1,5 +1,5 @@
 -- Declarations that declare something break no rule, and the others do.
-use Rattle.std.proofs.Common.{◌≡◌, ℕ, ◌<◌, List, [], ◌∷◌, ◌++◌, Option, Some, None, inl, inr, ⊎_elim, refl, sym, subst, arith}
+use Rattle.std.proofs.Common.{◌≡◌, ℕ, ◌<◌, List, [], ◌∷◌, ◌++◌, Option, Some, None, inl, inr, ⊎_elim, refl, sym, ap, subst, ◌∙◌, arith}
 use Rattle.std.specs.Prelude.{ℤ, pos, ◌≤ℤ◌, ◌+ℤ◌}
 use Rattle.std.proofs.lemmas.Int.{ints}
 use Rattle.std.proofs.lemmas.Bool.{cases_Bool}
@@ -25,9 +25,9 @@ use Rattle.flat_params.specs.declared.unfit.Unfit.TheVariants as u
 use Rattle.flat_params.specs.Constants.{is_known, IsBadRange, low_of}
 use Rattle.flat_params.specs.Signals.{IsDeclared, HasWords, IsBadWords, IsBadSignal}
 use Rattle.flat_params.specs.Values.{HasBits}
-use Rattle.flat_bounds.specs.declared.breach.Breach.{Breach}
-use Rattle.flat_bounds.specs.declared.breach.Breach.TheVariants as b
-use Rattle.flat_bounds.specs.Ranges.{range_breach, words_breach, signal_breach, BreaksDecl, AreDeclared, fault_of, StandsAlone}
+use Rattle.flat_bounds.specs.declared.violation.Violation.{Violation}
+use Rattle.flat_bounds.specs.declared.violation.Violation.TheVariants as b
+use Rattle.flat_bounds.specs.Ranges.{range_violation, words_violation, signal_violation, BreaksDecl, AreDeclared, fault_of, StandsAlone}
 use Rattle.flat_bounds.specs.Taken.{Fails}
 use Rattle.flat_bounds.proofs.Params.{bits_bound, bits_sized, words_bound, words_sized}
 
@@ -45,7 +45,7 @@ module _ (v : List Entry) (d : Decl) where
     wide : BreaksRange (is_known v) v x → Fails (BreaksDecl v d) b.Length
     wide h = inl (in_range (BreaksRange (is_known v) v) d.shape.range x e h)
 
-    bad_range : (cause : BadRange) → IsBadRange v x cause → Fails (BreaksDecl v d) (range_breach cause)
+    bad_range : (cause : BadRange) → IsBadRange v x cause → Fails (BreaksDecl v d) (range_violation cause)
     bad_range (r.High u.Name) h = unbound (inl (alone v x.high, inl refl, inl h))
     bad_range (r.High u.Divisor) h = unbound (inl (alone v x.high, inl refl, inr h))
     bad_range (r.High u.Length) h = wide (inl (alone v x.high, inl refl, h))
@@ -62,7 +62,7 @@ module _ (v : List Entry) (d : Decl) where
     long : BreaksWords (is_known v) v x → Fails (BreaksDecl v d) b.Length
     long h = inr (in_range (BreaksWords (is_known v) v) d.words x e h)
 
-    bad_words : (cause : BadWords) → IsBadWords v x cause → Fails (BreaksDecl v d) (words_breach cause)
+    bad_words : (cause : BadWords) → IsBadWords v x cause → Fails (BreaksDecl v d) (words_violation cause)
     bad_words (w.First u.Name) h = uncounted (inl (alone v x.high, inl refl, inl h))
     bad_words (w.First u.Divisor) h = uncounted (inl (alone v x.high, inl refl, inr h))
     bad_words (w.First u.Length) h = long (inl (alone v x.high, inl refl, h))
@@ -72,19 +72,19 @@ module _ (v : List Entry) (d : Decl) where
     bad_words w.Order h = uncounted (inr ((h.0.high.formed, h.0.low.formed), h.1))
     bad_words w.Many h = long (inr ((h.0.high.formed, h.0.low.formed), h.1.0, many (low_of v x) h.1.1))
 
-  pub bad_signal : (cause : BadSignal) → IsBadSignal v d cause → Fails (BreaksDecl v d) (signal_breach cause)
+  pub bad_signal : (cause : BadSignal) → IsBadSignal v d cause → Fails (BreaksDecl v d) (signal_violation cause)
   bad_signal (g.Bits cause) h = bad_range h.0 h.1 cause h.2
   bad_signal (g.Words cause) h = bad_words h.0 h.1 cause h.2
   bad_signal g.Memory h = tt
 
-  pub decl_keeps : IsDeclared v d → (w : Breach) → BreaksDecl v d w → ⊥
+  pub decl_keeps : IsDeclared v d → (w : Violation) → BreaksDecl v d w → ⊥
   decl_keeps is b.Constant (inl h) = bits_bound v d.shape.range is.bits.0 is.bits.1 h
   decl_keeps is b.Constant (inr h) = words_bound v d.words is.words.0 is.words.1 h
   decl_keeps is b.Length (inl h) = bits_sized v d.shape.range is.bits.0 is.bits.1 h
   decl_keeps is b.Length (inr h) = words_sized v d.words is.words.0 is.words.1 h
   decl_keeps is b.Memory h = h
 
-  pub only_memory : IsDeclared v d → (w : Breach) → Fails (BreaksDecl v d) w → w ≡ b.Memory
+  pub only_memory : IsDeclared v d → (w : Violation) → Fails (BreaksDecl v d) w → w ≡ b.Memory
   only_memory is b.Constant h = absurd (decl_keeps is b.Constant h)
   only_memory is b.Length h = absurd (decl_keeps is b.Length h)
   only_memory is b.Memory h = refl
@@ -101,6 +101,7 @@ module _ (v : List Entry) (d : Decl) where
 pub record SaysAs (m : Module) (d : Decl) : Type 0 where
   pub from : Decl
   pub among : Among (decls_in m) from
+  pub name : from.name ≡ d.name
   pub shape : from.shape ≡ d.shape
   pub words : from.words ≡ d.words
 
@@ -112,6 +113,7 @@ once_as m all done (e ∷ ds) sub d a = elim (cases_Bool (is_among done e.name))
       (λ s. subst (SaysAs m) s (record {
         from = e;
         among = sub e (inl refl);
+        name = refl;
         shape = refl;
         words = refl;
       })) (λ h. once_as m all (e.name ∷ done) ds (λ z h. sub z (inr h)) d h) (rw n at a)
@@ -127,7 +129,19 @@ signal_declared s all d a =
     }
 
 -- what the code answers
-pub decl_stands : (s : Scope) (d : Decl) → Among (decls_in s.module') d → (w : Breach) (n : Name) → n ≡ s.prefix ++ d.name → Fails (BreaksDecl s.params d) w → Refuses (StandsAlone s) (fault_of n w)
+pub decl_stands : (s : Scope) (d : Decl) → Among (decls_in s.module') d → (w : Violation) (n : Name) → n ≡ s.prefix ++ d.name → Fails (BreaksDecl s.params d) w → Refuses (StandsAlone s) (fault_of n w)
 decl_stands s d a b.Constant n is h = λ ms path. inl (d, a, is, h)
 decl_stands s d a b.Length n is h = λ ms path. inl (d, a, is, h)
 decl_stands s d a b.Memory n is h = tt
+
+pub signal_stands : (s : Scope) (d : Decl) → Among (signals_in s.module') d → (w : Violation) (n : Name) → n ≡ s.prefix ++ d.name → Fails (BreaksDecl s.params d) w → Refuses (StandsAlone s) (fault_of n w)
+signal_stands s d a w n is h =
+    let as' = once_as s.module' (decls_in s.module') [] (decls_in s.module') (λ z h. h) d a in
+    decl_stands s as'.from as'.among w n (is ∙ ap (λ x. s.prefix ++ x) (sym as'.name)) (moved as' w h)
+  where
+    moved : (as' : SaysAs s.module' d) (w : Violation) → Fails (BreaksDecl s.params d) w → Fails (BreaksDecl s.params as'.from) w
+    moved as' b.Constant (inl h) = inl (subst (λ (z : Shape). InRange (BreaksBounds IsOrdered (is_known s.params) s.params) z.range) (sym as'.shape) h)
+    moved as' b.Constant (inr h) = inr (subst (InRange (BreaksBounds IsFromZero (is_known s.params) s.params)) (sym as'.words) h)
+    moved as' b.Length (inl h) = inl (subst (λ (z : Shape). InRange (BreaksRange (is_known s.params) s.params) z.range) (sym as'.shape) h)
+    moved as' b.Length (inr h) = inr (subst (InRange (BreaksWords (is_known s.params) s.params)) (sym as'.words) h)
+    moved as' b.Memory h = tt

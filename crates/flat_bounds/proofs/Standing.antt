@@ -24,8 +24,8 @@ use Rattle.flat_faults.specs.Stands.{full, assigns_taken, block_taken, port_take
 use Rattle.elab_faults.specs.Drivers.{parts_of}
 use Rattle.elab_drive.proofs.Reading.{concat_parts}
 use Rattle.flat_instances.specs.Unfolding.{HasSoundInners}
-use Rattle.flat_bounds.specs.declared.breach.Breach.{Breach}
-use Rattle.flat_bounds.specs.declared.breach.Breach.TheVariants as b
+use Rattle.flat_bounds.specs.declared.violation.Violation.{Violation}
+use Rattle.flat_bounds.specs.declared.violation.Violation.TheVariants as b
 use Rattle.flat_bounds.specs.Ranges.{AreDeclared, fault_of}
 use Rattle.flat_bounds.specs.Scopes.{HasSoundParams}
 use Rattle.flat_bounds.specs.Stores.{NamesSignals}
@@ -111,21 +111,21 @@ module _ (ms : List Module) (s : Scope) (known : (path n : Name) → StandsAt ms
     | inr n ↦ absurd (known [] (full s x) (inl (inr (inl (x, append_left (assigned_in m) (waited_in m) x k, n, refl)))))
   ]
 
-  abbrev equation_names : List Name
-  equation_names = flat_map (λ (a : Assign). left_names a.left) (assigns_in m)
+  abbrev assign_names : List Name
+  assign_names = flat_map (λ (a : Assign). left_names a.left) (assigns_in m)
 
   abbrev body_names : List Name
   body_names = flat_map (λ (k : Block). flat_map left_names (lefts k.body)) (blocks_in m)
 
-  pub equation_signals : (a : Assign) → Among (assigns_in m) a → NamesSignals p a.left
-  equation_signals a k x h = assigned_signal x (append_left equation_names body_names x (flat_among (λ (z : Assign). left_names z.left) (assigns_in m) a x k h))
+  pub assign_signals : (a : Assign) → Among (assigns_in m) a → NamesSignals p a.left
+  assign_signals a k x h = assigned_signal x (append_left assign_names body_names x (flat_among (λ (z : Assign). left_names z.left) (assigns_in m) a x k h))
 
   pub body_signals : (k : Block) → Among (blocks_in m) k → BodyUsesSignals p k.body
   body_signals k a (Tests c) i = tt
   body_signals k a (Compares c) i = tt
   body_signals k a (Stores c) i = λ x h.
       let left = subst (λ zs. Among zs c.left) (sym (lefts_are k.body)) (map_among (λ (z : Assign). z.left) (stores_in k.body) c (in_stores p k.body (Stores c) c i (inl refl))) in
-      assigned_signal x (append_right equation_names body_names x
+      assigned_signal x (append_right assign_names body_names x
       (flat_among (λ (z : Block). flat_map left_names (lefts z.body)) (blocks_in m) k x a (flat_among left_names (lefts k.body) c.left x left h)))
 
   -- the parts of all expressions
@@ -150,9 +150,9 @@ module _ (ms : List Module) (s : Scope) (known : (path n : Name) → StandsAt ms
   of_inner : (i : Inner) → Among (instances_in m) i → (c : Expr) → Among (inner_exprs i) c → AreAllDeclared p c
   of_inner i a c h = text_declared c (append_right (ds ++ es ++ bs) is c (flat_among inner_exprs (instances_in m) i c a h))
 
-  equation_taken : (a : Assign) → Among (assigns_in m) a → (t : Taken) → Among (assigned_to p a ∷ map (alone (at_rest p)) (numbers_in a.left)) t → AreAllDeclared p t.value
-  equation_taken a k t (inl e) = subst (λ (z : Taken). AreAllDeclared p z.value) e (of_assign a k a.right (append_right (numbers_in a.left) (a.right ∷ []) a.right (inl refl)))
-  equation_taken a k t (inr h) =
+  assign_taken : (a : Assign) → Among (assigns_in m) a → (t : Taken) → Among (assigned_to p a ∷ map (alone (at_rest p)) (numbers_in a.left)) t → AreAllDeclared p t.value
+  assign_taken a k t (inl e) = subst (λ (z : Taken). AreAllDeclared p z.value) e (of_assign a k a.right (append_right (numbers_in a.left) (a.right ∷ []) a.right (inl refl)))
+  assign_taken a k t (inr h) =
       let r = among_map (alone (at_rest p)) (numbers_in a.left) t h in
       subst (λ (z : Taken). AreAllDeclared p z.value) r.2 (of_assign a k r.0 (append_left (numbers_in a.left) (a.right ∷ []) r.0 r.1))
 
@@ -180,18 +180,18 @@ module _ (ms : List Module) (s : Scope) (known : (path n : Name) → StandsAt ms
         (append_left (alones ++ tests) rights t.value (append_right alones tests t.value (flat_among compared_exprs (compared_in k.body) r.0 t.value r.1 (in_compared (at_rest p) r.0 t r.2)))))
         (among_append (map (assigned_to p) (stores_in k.body) ++ map (alone (at_rest p)) alones) (flat_map (compared (at_rest p)) (compared_in k.body)) t h)
 
-  gift_taken : (i : Inner) → Among (instances_in m) i → (a : Expr) → Among (args_in i.args) a → (yes : Bool) (n : ℕ) (t : Taken) →
+  connection_taken : (i : Inner) → Among (instances_in m) i → (a : Expr) → Among (args_in i.args) a → (yes : Bool) (n : ℕ) (t : Taken) →
       Among (if yes then stored (at_rest p) n a ∷ [] else map (alone (at_rest p)) (numbers_in (left_of a))) t → AreAllDeclared p t.value
-  gift_taken i k a h true n t (inl e) = subst (λ (z : Taken). AreAllDeclared p z.value) e (of_inner i k a (append_right (args_in i.overrides) (args_in i.args) a h))
-  gift_taken i k a h true n t (inr j) = absurd j
-  gift_taken i k a h false n t j = λ x z.
+  connection_taken i k a h true n t (inl e) = subst (λ (z : Taken). AreAllDeclared p z.value) e (of_inner i k a (append_right (args_in i.overrides) (args_in i.args) a h))
+  connection_taken i k a h true n t (inr j) = absurd j
+  connection_taken i k a h false n t j = λ x z.
       let r = among_map (alone (at_rest p)) (numbers_in (left_of a)) t j in
       let there = subst (λ (y : Taken). Among (names_in y.value) x) (sym r.2) z in
       of_inner i k a (append_right (args_in i.overrides) (args_in i.args) a h) x (numbers_names a r.0 x r.1 there)
 
   port_declared : (i : Inner) → Among (instances_in m) i → (t : Scope) (d : Given) → Among (args_in i.args) d.value → (o : Option Decl) (x : Taken) → Among (port_taken s t d o) x → AreAllDeclared p x.value
   port_declared i k t d h None x j = absurd j
-  port_declared i k t d h (Some port) x j = gift_taken i k d.value h port.input (signal_of t.params port).width x j
+  port_declared i k t d h (Some port) x j = connection_taken i k d.value h port.input (signal_of t.params port).width x j
 
   inner_declared : (i : Inner) → Among (instances_in m) i → (o : Option Scope) (x : Taken) → Among (inner_taken s i o) x → AreAllDeclared p x.value
   inner_declared i k None x j = absurd j
@@ -207,13 +207,13 @@ module _ (ms : List Module) (s : Scope) (known : (path n : Name) → StandsAt ms
 
   taken_declared : (t : Taken) → Among (all_taken ms s) t → AreAllDeclared p t.value
   taken_declared t k = ⊎_elim
-      (λ h. ⊎_elim (λ i. let r = among_flat (λ (a : Assign). assigned_to p a ∷ map (alone (at_rest p)) (numbers_in a.left)) (assigns_in m) t i in equation_taken r.0 r.1 t r.2)
+      (λ h. ⊎_elim (λ i. let r = among_flat (λ (a : Assign). assigned_to p a ∷ map (alone (at_rest p)) (numbers_in a.left)) (assigns_in m) t i in assign_taken r.0 r.1 t r.2)
       (λ i. let r = among_flat (block_taken s) (blocks_in m) t i in body_taken r.0 r.1 t r.2) (among_append (assigns_taken s) bodies t h))
       (λ h. let r = among_flat (λ (i : Inner). inner_taken s i (child ms s i)) (instances_in m) t h in inner_declared r.0 r.1 (child ms s r.0) t r.2)
       (among_append (assigns_taken s ++ bodies) inners t k)
 
   -- what breaks a rule is a fault
-  pub text_stands : (path : Name) (w : Breach) → BreaksText ms s w → StandsAt ms path s (fault_of path w)
+  pub text_stands : (path : Name) (w : Violation) → BreaksText ms s w → StandsAt ms path s (fault_of path w)
   text_stands path b.Constant (inl h) = inr (inr (inr (inl (h.0, h.1, h.2, refl))))
   text_stands path b.Constant (inr h) = inr (inr (inr (inr (h.0, h.1, refl))))
   text_stands path b.Length (inl h) = inr (inr (inr (inl (h.0, h.1, taken_declared h.0 h.1, h.2, refl))))

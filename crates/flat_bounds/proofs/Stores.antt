@@ -17,13 +17,13 @@ use Rattle.flat_laws.proofs.Lists.{among_append, append_left, append_right, amon
 use Rattle.flat_faults.specs.Constants.{at_rest, alone, stored, assigned_to, HasConstantNumbers, AllHaveConstantNumbers, HasConstantSpans, AllHaveConstantSpans, AreSpansDefined, AllSpansDefined, IsBoundDefined, IsLeftFormed}
 use Rattle.flat_faults.specs.Texts.{numbers_in, row_numbers_in}
 use Rattle.elab_faults.specs.Drivers.{parts_of, row_parts_of}
-use Rattle.flat_bounds.specs.declared.breach.Breach.{Breach}
-use Rattle.flat_bounds.specs.declared.breach.Breach.TheVariants as b
+use Rattle.flat_bounds.specs.declared.violation.Violation.{Violation}
+use Rattle.flat_bounds.specs.declared.violation.Violation.TheVariants as b
 use Rattle.flat_bounds.specs.declared.side.Side.{Side}
 use Rattle.flat_bounds.specs.declared.side.Side.TheVariants as d
 use Rattle.flat_bounds.specs.Taken.{IsSound, AllSound, Breaks, SomeBreaks}
-use Rattle.flat_bounds.specs.Lefts.{HasFineNumbers, IsConstantAs, BreaksNumbers, HasSize, IsMissized}
-use Rattle.flat_bounds.specs.Stores.{AllSoundNumbers, SomeBreaksNumbers, AreSoundParts, BreaksParts, IsSoundTo, BreaksTo, HasGoodNumbers, HasGoodSize, NamesSignals, IsSoundLeft, BreaksSize, BreaksLeft, IsSoundStore, BreaksStore}
+use Rattle.flat_bounds.specs.Lefts.{HasDefinedNumbers, IsConstantAs, BreaksNumbers, HasSize, IsMissized}
+use Rattle.flat_bounds.specs.Stores.{PartsHaveLegalNumbers, SomeBreaksNumbers, AreSoundParts, BreaksParts, IsSoundTo, BreaksTo, HasLegalNumbers, HasLegalSize, NamesSignals, IsSoundLeft, BreaksSize, BreaksLeft, IsSoundStore, BreaksStore}
 use Rattle.flat_bounds.proofs.Lefts.{each_numbers, all_numbers, each_spans, all_spans, each_formed, all_formed, total_is}
 
 -- the numbers of a left side are those of its parts
@@ -57,7 +57,7 @@ mutual
       ⊎_elim (λ i. append_left (numbers_in x) (row_numbers_in rest) a (numbers_parts x q a i h)) (λ i. append_right (numbers_in x) (row_numbers_in rest) a (row_numbers rest q a i h)) (among_append (parts_of x) (row_parts_of rest) q k)
 
 -- numbers that keep the rules are well formed
-pub fine : (test : Name → Bool) (v : List Entry) (q : Lval) → AllSound test v (map (alone v) (numbers_in q)) → HasFineNumbers v q
+pub fine : (test : Name → Bool) (v : List Entry) (q : Lval) → AllSound test v (map (alone v) (numbers_in q)) → HasDefinedNumbers v q
 fine test v q all a k = let s = all (alone v a) (map_among (alone v) (numbers_in q) a k) in (s.formed, s.defined)
 
 module _ (v : List Entry) where
@@ -67,7 +67,7 @@ module _ (v : List Entry) where
   spans_defined w.Down a c f g = λ _. g
 
   mutual
-    fine_defined : (left : Lval) → HasFineNumbers v left → AreSpansDefined v left
+    fine_defined : (left : Lval) → HasDefinedNumbers v left → AreSpansDefined v left
     fine_defined (l.Name x) h = tt
     fine_defined (l.Select x i) h = tt
     fine_defined (l.Part x span i j) h = spans_defined span i j (h i (inl refl)).1 (h j (inr (inl refl))).1
@@ -94,16 +94,16 @@ module _ (test : Name → Bool) where
     row_spans (more_of-Lval x rest) h = (numbers_spans x h.0, row_spans rest h.1)
 
   pub spans_of : (side : Side) (left : Lval) → IsConstantAs side test left → HasConstantSpans test left
-  spans_of d.Equation left h = numbers_spans left h
-  spans_of d.Block left h = h
+  spans_of d.Continuous left h = numbers_spans left h
+  spans_of d.Procedural left h = h
 
   all_constant : (side : Side) (left : Lval) → ((q : Lval) → Among (parts_of left) q → IsConstantAs side test q) → IsConstantAs side test left
-  all_constant d.Equation left h = all_numbers test left h
-  all_constant d.Block left h = all_spans test left h
+  all_constant d.Continuous left h = all_numbers test left h
+  all_constant d.Procedural left h = all_spans test left h
 
   each_constant : (side : Side) (left : Lval) → IsConstantAs side test left → (q : Lval) → Among (parts_of left) q → IsConstantAs side test q
-  each_constant d.Equation left h = each_numbers test left h
-  each_constant d.Block left h = each_spans test left h
+  each_constant d.Continuous left h = each_numbers test left h
+  each_constant d.Procedural left h = each_spans test left h
 
 module _ (side : Side) (p : Place) (left : Lval) where
   abbrev v : List Entry
@@ -115,8 +115,8 @@ module _ (side : Side) (p : Place) (left : Lval) where
   abbrev qs : List Lval
   qs = parts_of left
 
-  pub good_numbers : AllSoundNumbers side test v qs → HasGoodNumbers side p left
-  good_numbers all = record {
+  pub legal_numbers : PartsHaveLegalNumbers side test v qs → HasLegalNumbers side p left
+  legal_numbers all = record {
     numbers = λ t k.
         let r = among_map (alone v) (numbers_in left) t k in
         let q = among_flat numbers_in qs r.0 (parts_numbers left r.0 r.1) in
@@ -124,41 +124,41 @@ module _ (side : Side) (p : Place) (left : Lval) where
     constant = all_constant test side left (λ q a. (all q a).constant);
   }
 
-  pub good_size : (n : ℕ) → HasSize v qs n → HasGoodSize p left
-  good_size n h = record {
+  pub legal_size : (n : ℕ) → HasSize v qs n → HasLegalSize p left
+  legal_size n h = record {
     formed = all_formed v left h.formed;
     length = subst IsLength (h.size ∙ sym (total_is p left)) h.length;
   }
 
   -- a number of a part is one of the left side
-  some_up : (q : Lval) (w : Breach) → Among qs q → SomeBreaks test v (map (alone v) (numbers_in q)) w → SomeBreaks test v (map (alone v) (numbers_in left)) w
+  some_up : (q : Lval) (w : Violation) → Among qs q → SomeBreaks test v (map (alone v) (numbers_in q)) w → SomeBreaks test v (map (alone v) (numbers_in left)) w
   some_up q w a h =
       let r = among_map (alone v) (numbers_in q) h.0 h.1 in
       (h.0, subst (Among (map (alone v) (numbers_in left))) r.2 (map_among (alone v) (numbers_in left) r.0 (numbers_parts left q r.0 a r.1)), h.2)
 
-  pub breaks_numbers : (w : Breach) → SomeBreaksNumbers side test v qs w → BreaksLeft side p left w
+  pub breaks_numbers : (w : Violation) → SomeBreaksNumbers side test v qs w → BreaksLeft side p left w
   breaks_numbers b.Constant (q, a, inl h) = inl (some_up q b.Constant a h)
   breaks_numbers b.Constant (q, a, inr n) = inr (λ h. n (each_constant test side left h q a))
   breaks_numbers b.Length (q, a, h) = inl (some_up q b.Length a h)
   breaks_numbers b.Memory (q, a, h) = h
 
-  pub breaks_size : AllSoundNumbers side test v qs → IsMissized v qs → BreaksSize p left
+  pub breaks_size : PartsHaveLegalNumbers side test v qs → IsMissized v qs → BreaksSize p left
   breaks_size all h =
-      let good = good_numbers all in
+      let good = legal_numbers all in
       (spans_of test side left good.constant, fine_defined v left (fine test v left good.numbers), sizes h)
     where
       sizes : IsMissized v qs → (IsLeftFormed v left → ⊥) ⊎ (IsLength (total (pieces p (λ x. 0) left)) → ⊥)
       sizes (inl k) = inl (λ g. k.2 (each_formed v left g k.0 k.1))
       sizes (inr n) = inr (λ g. n (subst IsLength (total_is p left) g))
 
-  pub breaks_left : NamesSignals p left → (w : Breach) → BreaksParts side test v qs w → BreaksLeft side p left w
+  pub breaks_left : NamesSignals p left → (w : Violation) → BreaksParts side test v qs w → BreaksLeft side p left w
   breaks_left names b.Constant h = breaks_numbers b.Constant h
   breaks_left names b.Length (inl h) = breaks_numbers b.Length h
   breaks_left names b.Length (inr h) = inr (names, breaks_size h.0 h.1)
   breaks_left names b.Memory h = h
 
   pub sound_left : (n : ℕ) → AreSoundParts side test v qs n → IsSoundLeft side p left
-  sound_left n h = record { good = good_numbers h.numbers; size = λ names. good_size n h.size }
+  sound_left n h = record { good = legal_numbers h.numbers; size = λ names. legal_size n h.size }
 
   stored_is : (n : ℕ) (a : Expr) → HasSize v qs n → stored v n a ≡ assigned_to p (record { left = left; right = a })
   stored_is n a h = ap (λ k. stored v k a) (h.size ∙ sym (total_is p left))
@@ -166,12 +166,12 @@ module _ (side : Side) (p : Place) (left : Lval) where
   pub sound_store : (a : Expr) → IsSoundTo side test v qs a → IsSoundStore side p (record { left = left; right = a })
   sound_store a h = record { left = sound_left h.0 h.1; right = subst (IsSound test v) (stored_is h.0 a h.1.size) h.2 }
 
-  pub breaks_store : (a : Expr) → NamesSignals p left → (w : Breach) → BreaksTo side test v qs a w → BreaksStore side p (record { left = left; right = a }) w
+  pub breaks_store : (a : Expr) → NamesSignals p left → (w : Violation) → BreaksTo side test v qs a w → BreaksStore side p (record { left = left; right = a }) w
   breaks_store a names w (inl h) = inl (breaks_left names w h)
   breaks_store a names w (inr h) = inr (subst (λ t. Breaks test v t w) (stored_is h.0 a h.1.size) h.2)
 
 -- a number that breaks a rule, in its part
-pub of_some : (side : Side) (test : Name → Bool) (v : List Entry) (q : Lval) (w : Breach) → SomeBreaks test v (map (alone v) (numbers_in q)) w → BreaksNumbers side test v q w
+pub of_some : (side : Side) (test : Name → Bool) (v : List Entry) (q : Lval) (w : Violation) → SomeBreaks test v (map (alone v) (numbers_in q)) w → BreaksNumbers side test v q w
 of_some side test v q b.Constant h = inl h
 of_some side test v q b.Length h = h
 of_some side test v q b.Memory h = h.2
@@ -182,6 +182,6 @@ module _ (side : Side) (p : Place) (a : Assign) (qs : List Lval) (v : List Entry
   store_sound h =
       sound_store side p a.left a.right (subst (λ zs. IsSoundTo side (is_parameter p) (at_rest p) zs a.right) parts (subst (λ u. IsSoundTo side (is_parameter p) u qs a.right) rest h))
 
-  pub store_breaks : NamesSignals p a.left → (w : Breach) → BreaksTo side (is_parameter p) v qs a.right w → BreaksStore side p a w
+  pub store_breaks : NamesSignals p a.left → (w : Violation) → BreaksTo side (is_parameter p) v qs a.right w → BreaksStore side p a w
   store_breaks names w h =
       breaks_store side p a.left a.right names w (subst (λ zs. BreaksTo side (is_parameter p) (at_rest p) zs a.right w) parts (subst (λ u. BreaksTo side (is_parameter p) u qs a.right w) rest h))

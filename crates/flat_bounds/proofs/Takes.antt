@@ -11,8 +11,8 @@ use Rattle.vlog_tree.specs.Valuation.{named}
 use Rattle.vlog_tree.specs.Value.{operand_of, own_defined, width_of, sign_of, IsFormed, AllFormed, IsPart}
 use Rattle.vlog_runs.specs.Places.{Name}
 use Rattle.flat_faults.specs.Constants.{Taken, stored, IsBoundDefined, BoundsDefined, AllBoundsDefined}
-use Rattle.flat_bounds.specs.declared.breach.Breach.{Breach}
-use Rattle.flat_bounds.specs.declared.breach.Breach.TheVariants as b
+use Rattle.flat_bounds.specs.declared.violation.Violation.{Violation}
+use Rattle.flat_bounds.specs.declared.violation.Violation.TheVariants as b
 use Rattle.flat_bounds.specs.Taken.{IsSound, AllSound, Breaks, SomeBreaks, Fails, taken_at}
 
 and_true : (a b : Bool) → IsTrue (a && b) → IsTrue a × IsTrue b
@@ -46,25 +46,25 @@ module _ (v : List Entry) where
     row_bounds (more_of-Expr a rest) h = (formed_bounds a h.0, row_bounds rest h.1)
 
 -- no rule is broken
-pub keeps : (test : Name → Bool) (v : List Entry) (t : Taken) → IsSound test v t → (w : Breach) → Breaks test v t w → ⊥
+pub keeps : (test : Name → Bool) (v : List Entry) (t : Taken) → IsSound test v t → (w : Violation) → Breaks test v t w → ⊥
 keeps test v t s b.Constant (inl h) = h s.parts
 keeps test v t s b.Constant (inr h) = h.1 (formed_bounds v t.value s.formed, λ _. s.defined)
 keeps test v t s b.Length h = h.2 s.formed
 keeps test v t s b.Memory h = h
 
-pub all_keep : (test : Name → Bool) (v : List Entry) (ts : List Taken) → AllSound test v ts → (w : Breach) → SomeBreaks test v ts w → ⊥
+pub all_keep : (test : Name → Bool) (v : List Entry) (ts : List Taken) → AllSound test v ts → (w : Violation) → SomeBreaks test v ts w → ⊥
 all_keep test v ts all w h = keeps test v h.0 (all h.0 h.1) w h.2
 
 pub stored_is : (v : List Entry) (a : Expr) (least n m : ℕ) (s : Bool) → n ≡ width_of v a → s ≡ sign_of v a → m ≡ max n least → taken_at a m s ≡ stored v least a
 stored_is v a least n m s e f g = λ i. record { value = a; width = (g ∙ ap (λ k. max k least) e) i; signed = f i }
 
 -- a refusal that isn't want of memory, and what follows from one
-pub fails : (P : Breach → Type 0) (w : Breach) → P w → Fails P w
+pub fails : (P : Violation → Type 0) (w : Violation) → P w → Fails P w
 fails P b.Constant h = h
 fails P b.Length h = h
 fails P b.Memory h = tt
 
-pub fails_map : (P Q : Breach → Type 0) → ((w : Breach) → P w → Q w) → (w : Breach) → Fails P w → Fails Q w
+pub fails_map : (P Q : Violation → Type 0) → ((w : Violation) → P w → Q w) → (w : Violation) → Fails P w → Fails Q w
 fails_map P Q g b.Constant h = g b.Constant h
 fails_map P Q g b.Length h = g b.Length h
 fails_map P Q g b.Memory h = tt

@@ -1,4 +1,4 @@
--- Whole texts by their equations, blocks and connections.
+-- Whole texts by their continuous assignments, blocks and connections.
 use Rattle.std.proofs.Common.{◌≡◌, ℕ, Bool, true, false, List, [], ◌∷◌, ◌++◌, map, Option, Some, None, ◌⊎◌, inl, inr, ⊎_elim, refl, sym, subst, if◌then◌else◌}
 use Rattle.std.specs.List.{flat_map}
 use Rattle.vlog_tree.specs.declared.expr.Expr.{Expr}
@@ -15,19 +15,19 @@ use Rattle.flat_laws.proofs.Lists.{among_append, append_left, append_right, amon
 use Rattle.flat_faults.specs.Constants.{Taken, at_rest, alone, stored, assigned_to, compared}
 use Rattle.flat_faults.specs.Texts.{Compared, numbers_in, alone_in, compared_in, stores_in}
 use Rattle.flat_faults.specs.Stands.{assigns_taken, block_taken, port_taken, port_left, inner_taken, inner_lefts, all_taken, fixed_lefts, block_lefts}
-use Rattle.flat_bounds.specs.declared.breach.Breach.{Breach}
-use Rattle.flat_bounds.specs.declared.breach.Breach.TheVariants as b
+use Rattle.flat_bounds.specs.declared.violation.Violation.{Violation}
+use Rattle.flat_bounds.specs.declared.violation.Violation.TheVariants as b
 use Rattle.flat_bounds.specs.declared.side.Side.TheVariants as d
 use Rattle.flat_bounds.specs.Taken.{IsSound, AllSound, SomeBreaks}
 use Rattle.flat_bounds.specs.Stores.{NamesSignals, BreaksSize, IsSoundLeft, BreaksLeft, IsSoundStore, BreaksStore}
 use Rattle.flat_bounds.specs.Usages.{Usage, Tests, Compares, Stores, usages, alones_of, compares_of, stores_of, IsSoundUsage, BreaksUsage, IsSoundBody, BreaksBody}
-use Rattle.flat_bounds.specs.Texts.{IsSoundGiven, BreaksGiven, IsSoundGift, BreaksGift, AreSoundGifts, SomeGiftBreaks, IsSoundText, BreaksText}
+use Rattle.flat_bounds.specs.Texts.{IsSoundGiven, BreaksGiven, IsSoundConnection, BreaksConnection, AreSoundConnections, SomeConnectionBreaks, IsSoundText, BreaksText}
 use Rattle.flat_bounds.proofs.Takes.{all_keep}
 use Rattle.flat_bounds.proofs.Usages.{alone_are, compared_are, stores_are, lefts_are}
 
--- an equation's expressions in their places
-abbrev equation_taken : Place → Assign → List Taken
-equation_taken p a = assigned_to p a ∷ map (alone (at_rest p)) (numbers_in a.left)
+-- a continuous assignment's expressions in their places
+abbrev assign_taken : Place → Assign → List Taken
+assign_taken p a = assigned_to p a ∷ map (alone (at_rest p)) (numbers_in a.left)
 
 module _ (p : Place) where
   abbrev v : List Entry
@@ -38,10 +38,10 @@ module _ (p : Place) where
 
   -- ---- usages of statements
 
-  stored_usage : (u : Usage) (a : Assign) → Among (stores_of u) a → IsSoundUsage p u → IsSoundStore d.Block p a
+  stored_usage : (u : Usage) (a : Assign) → Among (stores_of u) a → IsSoundUsage p u → IsSoundStore d.Procedural p a
   stored_usage (Tests c) a k h = absurd k
   stored_usage (Compares c) a k h = absurd k
-  stored_usage (Stores c) a (inl e) h = subst (IsSoundStore d.Block p) e h
+  stored_usage (Stores c) a (inl e) h = subst (IsSoundStore d.Procedural p) e h
   stored_usage (Stores c) a (inr k) h = absurd k
 
   alone_usage : (u : Usage) (a : Expr) → Among (alones_of u) a → IsSoundUsage p u → IsSound test v (alone v a)
@@ -63,7 +63,7 @@ module _ (p : Place) where
     abbrev us : List Usage
     us = usages t
 
-    store_sound : IsSoundBody p t → (a : Assign) → Among (stores_in t) a → IsSoundStore d.Block p a
+    store_sound : IsSoundBody p t → (a : Assign) → Among (stores_in t) a → IsSoundStore d.Procedural p a
     store_sound h a k = let r = among_flat stores_of us a (subst (λ zs. Among zs a) (stores_are t) k) in stored_usage r.0 a r.2 (h r.0 r.1)
 
     pub body_sound : IsSoundBody p t → AllSound test v (body_taken t)
@@ -79,10 +79,10 @@ module _ (p : Place) where
         compared_usage q.0 r.0 q.2 (h q.0 q.1) x r.2)
         (among_append (map (assigned_to p) (stores_in t) ++ map (alone v) (alone_in t)) (flat_map (compared v) (compared_in t)) x k)
 
-    pub body_left : IsSoundBody p t → (left : Lval) → Among (lefts t) left → IsSoundLeft d.Block p left
+    pub body_left : IsSoundBody p t → (left : Lval) → Among (lefts t) left → IsSoundLeft d.Procedural p left
     body_left h left k =
         let r = among_map (λ (a : Assign). a.left) (stores_in t) left (subst (λ zs. Among zs left) (lefts_are t) k) in
-        subst (IsSoundLeft d.Block p) r.2 (store_sound h r.0 r.1).left
+        subst (IsSoundLeft d.Procedural p) r.2 (store_sound h r.0 r.1).left
 
     -- what is used is in the body
     pub in_stores : (u : Usage) (a : Assign) → Among us u → Among (stores_of u) a → Among (stores_in t) a
@@ -105,7 +105,7 @@ module _ (p : Place) where
         (flat_among (compared v) (compared_in t) c x (subst (λ zs. Among zs c) (sym (compared_are t)) (flat_among compares_of us u c k g)) i)
 
     -- a usage that breaks a rule: an expression of the body, or a left side
-    pub usage_breaks : (u : Usage) → Among us u → (w : Breach) → BreaksUsage p u w → SomeBreaks test v (body_taken t) w ⊎ ((left : Lval) × Among (lefts t) left × BreaksLeft d.Block p left w)
+    pub usage_breaks : (u : Usage) → Among us u → (w : Violation) → BreaksUsage p u w → SomeBreaks test v (body_taken t) w ⊎ ((left : Lval) × Among (lefts t) left × BreaksLeft d.Procedural p left w)
     usage_breaks (Tests a) k w h = inl (alone v a, in_alone (Tests a) a k (inl refl), h)
     usage_breaks (Compares c) k w h = inl (h.0, in_compared (Compares c) c h.0 k (inl refl) h.1, h.2)
     usage_breaks (Stores a) k w (inl h) =
@@ -133,13 +133,13 @@ module _ (p : Place) where
   given_sound a true n h x (inr k) = absurd k
   given_sound a false n h x k = h.good.numbers x k
 
-  given_left : (a : Expr) (yes : Bool) (n : ℕ) → IsSoundGiven p a (if yes then Some n else None) → (left : Lval) → Among (if yes then [] else left_of a ∷ []) left → IsSoundLeft d.Equation p left
+  given_left : (a : Expr) (yes : Bool) (n : ℕ) → IsSoundGiven p a (if yes then Some n else None) → (left : Lval) → Among (if yes then [] else left_of a ∷ []) left → IsSoundLeft d.Continuous p left
   given_left a true n h left k = absurd k
-  given_left a false n h left (inl e) = subst (IsSoundLeft d.Equation p) e h
+  given_left a false n h left (inl e) = subst (IsSoundLeft d.Continuous p) e h
   given_left a false n h left (inr k) = absurd k
 
-  given_breaks : (a : Expr) (yes : Bool) (n : ℕ) (w : Breach) → BreaksGiven p a (if yes then Some n else None) w →
-      SomeBreaks test v (if yes then stored v n a ∷ [] else map (alone v) (numbers_in (left_of a))) w ⊎ ((left : Lval) × Among (if yes then [] else left_of a ∷ []) left × BreaksLeft d.Equation p left w)
+  given_breaks : (a : Expr) (yes : Bool) (n : ℕ) (w : Violation) → BreaksGiven p a (if yes then Some n else None) w →
+      SomeBreaks test v (if yes then stored v n a ∷ [] else map (alone v) (numbers_in (left_of a))) w ⊎ ((left : Lval) × Among (if yes then [] else left_of a ∷ []) left × BreaksLeft d.Continuous p left w)
   given_breaks a true n w h = inl (stored v n a, inl refl, h)
   given_breaks a false n w h = inr (left_of a, inl refl, h)
 
@@ -153,21 +153,21 @@ module _ (s : Scope) (t : Scope) (g : Given) where
   abbrev p : Place
   p = place_of s
 
-  gift_sound : (o : Option Decl) → IsSoundGift p t g o → AllSound (is_parameter p) (at_rest p) (port_taken s t g o)
-  gift_sound None h x k = absurd k
-  gift_sound (Some port) h x k = given_sound p g.value port.input (signal_of t.params port).width h x k
+  connection_sound : (o : Option Decl) → IsSoundConnection p t g o → AllSound (is_parameter p) (at_rest p) (port_taken s t g o)
+  connection_sound None h x k = absurd k
+  connection_sound (Some port) h x k = given_sound p g.value port.input (signal_of t.params port).width h x k
 
-  gift_left : (o : Option Decl) → IsSoundGift p t g o → (left : Lval) → Among (port_left g o) left → IsSoundLeft d.Equation p left
-  gift_left None h left k = absurd k
-  gift_left (Some port) h left k = given_left p g.value port.input (signal_of t.params port).width h left k
+  connection_left : (o : Option Decl) → IsSoundConnection p t g o → (left : Lval) → Among (port_left g o) left → IsSoundLeft d.Continuous p left
+  connection_left None h left k = absurd k
+  connection_left (Some port) h left k = given_left p g.value port.input (signal_of t.params port).width h left k
 
-  gift_breaks : (o : Option Decl) (w : Breach) → BreaksGift p t g o w → SomeBreaks (is_parameter p) (at_rest p) (port_taken s t g o) w ⊎ ((left : Lval) × Among (port_left g o) left × BreaksLeft d.Equation p left w)
-  gift_breaks None w h = absurd h
-  gift_breaks (Some port) w h = given_breaks p g.value port.input (signal_of t.params port).width w h
+  connection_breaks : (o : Option Decl) (w : Violation) → BreaksConnection p t g o w → SomeBreaks (is_parameter p) (at_rest p) (port_taken s t g o) w ⊎ ((left : Lval) × Among (port_left g o) left × BreaksLeft d.Continuous p left w)
+  connection_breaks None w h = absurd h
+  connection_breaks (Some port) w h = given_breaks p g.value port.input (signal_of t.params port).width w h
 
-  gift_numbers : (o : Option Decl) (left : Lval) → Among (port_left g o) left → (x : Taken) → Among (map (alone (at_rest p)) (numbers_in left)) x → Among (port_taken s t g o) x
-  gift_numbers None left k x h = absurd k
-  gift_numbers (Some port) left k x h = given_numbers p g.value port.input (signal_of t.params port).width left k x h
+  connection_numbers : (o : Option Decl) (left : Lval) → Among (port_left g o) left → (x : Taken) → Among (map (alone (at_rest p)) (numbers_in left)) x → Among (port_taken s t g o) x
+  connection_numbers None left k x h = absurd k
+  connection_numbers (Some port) left k x h = given_numbers p g.value port.input (signal_of t.params port).width left k x h
 
 -- ---- whole texts
 
@@ -181,8 +181,8 @@ module _ (ms : List Module) (s : Scope) where
   abbrev is_param : Name → Bool
   is_param = is_parameter q
 
-  abbrev equations : List Taken
-  equations = assigns_taken s
+  abbrev assigns : List Taken
+  assigns = assigns_taken s
 
   abbrev bodies : List Taken
   bodies = flat_map (block_taken s) (blocks_in s.module')
@@ -190,46 +190,46 @@ module _ (ms : List Module) (s : Scope) where
   abbrev inners : List Taken
   inners = flat_map (λ i. inner_taken s i (child ms s i)) (instances_in s.module')
 
-  of_equation : (x : Taken) → Among equations x → Among (all_taken ms s) x
-  of_equation x k = append_left (equations ++ bodies) inners x (append_left equations bodies x k)
+  of_assign : (x : Taken) → Among assigns x → Among (all_taken ms s) x
+  of_assign x k = append_left (assigns ++ bodies) inners x (append_left assigns bodies x k)
 
   of_body : (x : Taken) → Among bodies x → Among (all_taken ms s) x
-  of_body x k = append_left (equations ++ bodies) inners x (append_right equations bodies x k)
+  of_body x k = append_left (assigns ++ bodies) inners x (append_right assigns bodies x k)
 
   of_inner : (x : Taken) → Among inners x → Among (all_taken ms s) x
-  of_inner x k = append_right (equations ++ bodies) inners x k
+  of_inner x k = append_right (assigns ++ bodies) inners x k
 
-  inner_sound : (i : Inner) (o : Option Scope) → ((t : Scope) → o ≡ Some t → AreSoundGifts q t i) → AllSound is_param rest (inner_taken s i o)
+  inner_sound : (i : Inner) (o : Option Scope) → ((t : Scope) → o ≡ Some t → AreSoundConnections q t i) → AllSound is_param rest (inner_taken s i o)
   inner_sound i None h x k = absurd k
   inner_sound i (Some t) h x k =
       let r = among_flat (λ (g : Given). port_taken s t g (decl_at (signals_in t.module') g.name)) (given_to (port_names t.module') i.args) x k in
-      gift_sound s t r.0 (decl_at (signals_in t.module') r.0.name) (h t refl r.0 r.1) x r.2
+      connection_sound s t r.0 (decl_at (signals_in t.module') r.0.name) (h t refl r.0 r.1) x r.2
 
-  inner_left : (i : Inner) (o : Option Scope) → ((t : Scope) → o ≡ Some t → AreSoundGifts q t i) → (left : Lval) → Among (inner_lefts i o) left → IsSoundLeft d.Equation q left
+  inner_left : (i : Inner) (o : Option Scope) → ((t : Scope) → o ≡ Some t → AreSoundConnections q t i) → (left : Lval) → Among (inner_lefts i o) left → IsSoundLeft d.Continuous q left
   inner_left i None h left k = absurd k
   inner_left i (Some t) h left k =
       let r = among_flat (λ (g : Given). port_left g (decl_at (signals_in t.module') g.name)) (given_to (port_names t.module') i.args) left k in
-      gift_left s t r.0 (decl_at (signals_in t.module') r.0.name) (h t refl r.0 r.1) left r.2
+      connection_left s t r.0 (decl_at (signals_in t.module') r.0.name) (h t refl r.0 r.1) left r.2
 
   module _ (sound : IsSoundText ms s) where
     taken_sound : AllSound is_param rest (all_taken ms s)
     taken_sound x k = ⊎_elim
-        (λ g. ⊎_elim (λ i. let r = among_flat (equation_taken q) (assigns_in s.module') x i in of_equation_sound r.0 r.1 r.2)
-        (λ i. let r = among_flat (block_taken s) (blocks_in s.module') x i in body_sound q r.0.body (sound.blocks r.0 r.1) x r.2) (among_append equations bodies x g))
+        (λ g. ⊎_elim (λ i. let r = among_flat (assign_taken q) (assigns_in s.module') x i in of_assign_sound r.0 r.1 r.2)
+        (λ i. let r = among_flat (block_taken s) (blocks_in s.module') x i in body_sound q r.0.body (sound.blocks r.0 r.1) x r.2) (among_append assigns bodies x g))
         (λ g. let r = among_flat (λ (i : Inner). inner_taken s i (child ms s i)) (instances_in s.module') x g in inner_sound r.0 (child ms s r.0) (λ t e. sound.inners r.0 r.1 t e) x r.2)
-        (among_append (equations ++ bodies) inners x k)
+        (among_append (assigns ++ bodies) inners x k)
       where
-        of_equation_sound : (a : Assign) → Among (assigns_in s.module') a → Among (equation_taken q a) x → IsSound is_param rest x
-        of_equation_sound a k (inl e) = subst (IsSound is_param rest) e (sound.equations a k).right
-        of_equation_sound a k (inr g) = (sound.equations a k).left.good.numbers x g
+        of_assign_sound : (a : Assign) → Among (assigns_in s.module') a → Among (assign_taken q a) x → IsSound is_param rest x
+        of_assign_sound a k (inl e) = subst (IsSound is_param rest) e (sound.assigns a k).right
+        of_assign_sound a k (inr g) = (sound.assigns a k).left.good.numbers x g
 
-    fixed_sound : (left : Lval) → Among (fixed_lefts ms s) left → IsSoundLeft d.Equation q left
+    fixed_sound : (left : Lval) → Among (fixed_lefts ms s) left → IsSoundLeft d.Continuous q left
     fixed_sound left k = ⊎_elim
-        (λ g. let r = among_map (λ (a : Assign). a.left) (assigns_in s.module') left g in subst (IsSoundLeft d.Equation q) r.2 (sound.equations r.0 r.1).left)
+        (λ g. let r = among_map (λ (a : Assign). a.left) (assigns_in s.module') left g in subst (IsSoundLeft d.Continuous q) r.2 (sound.assigns r.0 r.1).left)
         (λ g. let r = among_flat (λ (i : Inner). inner_lefts i (child ms s i)) (instances_in s.module') left g in inner_left r.0 (child ms s r.0) (λ t e. sound.inners r.0 r.1 t e) left r.2)
         (among_append (map (λ (a : Assign). a.left) (assigns_in s.module')) (flat_map (λ (i : Inner). inner_lefts i (child ms s i)) (instances_in s.module')) left k)
 
-    block_sound : (left : Lval) → Among (block_lefts s) left → IsSoundLeft d.Block q left
+    block_sound : (left : Lval) → Among (block_lefts s) left → IsSoundLeft d.Procedural q left
     block_sound left k = let r = among_flat (λ (b : Block). lefts b.body) (blocks_in s.module') left k in body_left q r.0.body (sound.blocks r.0 r.1) left r.2
 
     size_kept : (left : Lval) → Among (fixed_lefts ms s ++ block_lefts s) left → NamesSignals q left → BreaksSize q left → ⊥
@@ -238,7 +238,7 @@ module _ (ms : List Module) (s : Scope) where
         ⊎_elim (λ n. n size.formed) (λ n. n size.length) h.2
 
     -- a sound text breaks no rule
-    pub text_keeps : (w : Breach) → BreaksText ms s w → ⊥
+    pub text_keeps : (w : Violation) → BreaksText ms s w → ⊥
     text_keeps b.Constant (inl h) = all_keep is_param rest (all_taken ms s) taken_sound b.Constant h
     text_keeps b.Constant (inr (left, inl h)) = h.1 (fixed_sound left h.0).good.constant
     text_keeps b.Constant (inr (left, inr h)) = h.1 (block_sound left h.0).good.constant
@@ -248,34 +248,34 @@ module _ (ms : List Module) (s : Scope) where
 
   -- ---- what breaks a rule in a part breaks it in the text
 
-  some_on : (xs : List Taken) → ((x : Taken) → Among xs x → Among (all_taken ms s) x) → (w : Breach) → SomeBreaks is_param rest xs w → BreaksText ms s w
+  some_on : (xs : List Taken) → ((x : Taken) → Among xs x → Among (all_taken ms s) x) → (w : Violation) → SomeBreaks is_param rest xs w → BreaksText ms s w
   some_on xs up b.Constant h = inl (h.0, up h.0 h.1, h.2)
   some_on xs up b.Length h = inl (h.0, up h.0 h.1, h.2)
   some_on xs up b.Memory h = h.2
 
-  fixed_on : (left : Lval) → Among (fixed_lefts ms s) left → ((x : Taken) → Among (map (alone rest) (numbers_in left)) x → Among (all_taken ms s) x) → (w : Breach) → BreaksLeft d.Equation q left w → BreaksText ms s w
+  fixed_on : (left : Lval) → Among (fixed_lefts ms s) left → ((x : Taken) → Among (map (alone rest) (numbers_in left)) x → Among (all_taken ms s) x) → (w : Violation) → BreaksLeft d.Continuous q left w → BreaksText ms s w
   fixed_on left k up b.Constant (inl h) = some_on (map (alone rest) (numbers_in left)) up b.Constant h
   fixed_on left k up b.Constant (inr h) = inr (left, inl (k, h))
   fixed_on left k up b.Length (inl h) = some_on (map (alone rest) (numbers_in left)) up b.Length h
   fixed_on left k up b.Length (inr h) = inr (left, append_left (fixed_lefts ms s) (block_lefts s) left k, h.0, h.1)
   fixed_on left k up b.Memory h = h
 
-  block_on : (left : Lval) → Among (block_lefts s) left → ((x : Taken) → Among (map (alone rest) (numbers_in left)) x → Among (all_taken ms s) x) → (w : Breach) → BreaksLeft d.Block q left w → BreaksText ms s w
+  block_on : (left : Lval) → Among (block_lefts s) left → ((x : Taken) → Among (map (alone rest) (numbers_in left)) x → Among (all_taken ms s) x) → (w : Violation) → BreaksLeft d.Procedural q left w → BreaksText ms s w
   block_on left k up b.Constant (inl h) = some_on (map (alone rest) (numbers_in left)) up b.Constant h
   block_on left k up b.Constant (inr h) = inr (left, inr (k, h))
   block_on left k up b.Length (inl h) = some_on (map (alone rest) (numbers_in left)) up b.Length h
   block_on left k up b.Length (inr h) = inr (left, append_right (fixed_lefts ms s) (block_lefts s) left k, h.0, h.1)
   block_on left k up b.Memory h = h
 
-  pub equation_breaks : (a : Assign) → Among (assigns_in s.module') a → (w : Breach) → BreaksStore d.Equation q a w → BreaksText ms s w
-  equation_breaks a k w (inl h) =
+  pub assign_breaks : (a : Assign) → Among (assigns_in s.module') a → (w : Violation) → BreaksStore d.Continuous q a w → BreaksText ms s w
+  assign_breaks a k w (inl h) =
       fixed_on a.left
       (append_left (map (λ (z : Assign). z.left) (assigns_in s.module')) (flat_map (λ (i : Inner). inner_lefts i (child ms s i)) (instances_in s.module')) a.left (map_among (λ (z : Assign). z.left) (assigns_in s.module') a k))
-      (λ x g. of_equation x (flat_among (equation_taken q) (assigns_in s.module') a x k (inr g))) w h
-  equation_breaks a k w (inr h) =
-      some_on (equation_taken q a) (λ x g. of_equation x (flat_among (equation_taken q) (assigns_in s.module') a x k g)) w (assigned_to q a, inl refl, h)
+      (λ x g. of_assign x (flat_among (assign_taken q) (assigns_in s.module') a x k (inr g))) w h
+  assign_breaks a k w (inr h) =
+      some_on (assign_taken q a) (λ x g. of_assign x (flat_among (assign_taken q) (assigns_in s.module') a x k g)) w (assigned_to q a, inl refl, h)
 
-  pub body_breaks : (k : Block) → Among (blocks_in s.module') k → (w : Breach) → BreaksBody q k.body w → BreaksText ms s w
+  pub body_breaks : (k : Block) → Among (blocks_in s.module') k → (w : Violation) → BreaksBody q k.body w → BreaksText ms s w
   body_breaks k a w h = ⊎_elim
       (λ g. some_on (block_taken s k) (up k a) w g)
       (λ g. block_on g.0 (flat_among (λ (z : Block). lefts z.body) (blocks_in s.module') k g.0 a g.1) (λ x i. up k a x (left_numbers q k.body g.0 g.1 x i)) w g.2)
@@ -294,18 +294,18 @@ module _ (ms : List Module) (s : Scope) where
     abbrev lefts_of : Given → List Lval
     lefts_of g = port_left g (decl_at (signals_in t.module') g.name)
 
-    gift_taken : (g : Given) → Among given g → (x : Taken) → Among (taken_of g) x → Among (all_taken ms s) x
-    gift_taken g k x h =
+    connection_taken : (g : Given) → Among given g → (x : Taken) → Among (taken_of g) x → Among (all_taken ms s) x
+    connection_taken g k x h =
         of_inner x (flat_among (λ (z : Inner). inner_taken s z (child ms s z)) (instances_in s.module') i x among
         (subst (λ o. Among (inner_taken s i o) x) (sym is) (flat_among taken_of given g x k h)))
 
-    gift_fixed : (g : Given) → Among given g → (left : Lval) → Among (lefts_of g) left → Among (fixed_lefts ms s) left
-    gift_fixed g k left h =
+    connection_fixed : (g : Given) → Among given g → (left : Lval) → Among (lefts_of g) left → Among (fixed_lefts ms s) left
+    connection_fixed g k left h =
         append_right (map (λ (z : Assign). z.left) (assigns_in s.module')) (flat_map (λ (z : Inner). inner_lefts z (child ms s z)) (instances_in s.module')) left
         (flat_among (λ (z : Inner). inner_lefts z (child ms s z)) (instances_in s.module') i left among (subst (λ o. Among (inner_lefts i o) left) (sym is) (flat_among lefts_of given g left k h)))
 
-    pub inner_breaks : (w : Breach) → SomeGiftBreaks q t i w → BreaksText ms s w
+    pub inner_breaks : (w : Violation) → SomeConnectionBreaks q t i w → BreaksText ms s w
     inner_breaks w (g, k, h) = ⊎_elim
-        (λ z. some_on (taken_of g) (gift_taken g k) w z)
-        (λ z. fixed_on z.0 (gift_fixed g k z.0 z.1) (λ x j. gift_taken g k x (gift_numbers s t g (decl_at (signals_in t.module') g.name) z.0 z.1 x j)) w z.2)
-        (gift_breaks s t g (decl_at (signals_in t.module') g.name) w h)
+        (λ z. some_on (taken_of g) (connection_taken g k) w z)
+        (λ z. fixed_on z.0 (connection_fixed g k z.0 z.1) (λ x j. connection_taken g k x (connection_numbers s t g (decl_at (signals_in t.module') g.name) z.0 z.1 x j)) w z.2)
+        (connection_breaks s t g (decl_at (signals_in t.module') g.name) w h)

@@ -9,7 +9,7 @@ use Rattle.vlog_runs.specs.Blocks.{widest, all_signed}
 use Rattle.flat_laws.proofs.Lists.{among_map, map_among}
 use Rattle.flat_faults.specs.Constants.{compared}
 use Rattle.flat_faults.specs.Texts.{Compared}
-use Rattle.flat_bounds.specs.declared.breach.Breach.{Breach}
+use Rattle.flat_bounds.specs.declared.violation.Violation.{Violation}
 use Rattle.flat_bounds.specs.Cases.{HasCommonShape, expr_meant}
 use Rattle.flat_bounds.specs.Taken.{IsSound, AllSound, Breaks, SomeBreaks, taken_at}
 
@@ -26,7 +26,7 @@ module _ (test : Name → Bool) (v : List Entry) (c : Compared) (as' : List Expr
   pub all_sound : ((a : Expr) → Among as' a → IsSound test v (taken_at a n s)) → AllSound test v (compared v c)
   all_sound h = subst (AllSound test v) (sym compared_is) (λ t k. let r = among_map (λ a. taken_at a n s) as' t k in subst (IsSound test v) r.2 (h r.0 r.1))
 
-  pub some_breaks : (w : Breach) → ((a : Expr) × Among as' a × Breaks test v (taken_at a n s) w) → SomeBreaks test v (compared v c) w
+  pub some_breaks : (w : Violation) → ((a : Expr) × Among as' a × Breaks test v (taken_at a n s) w) → SomeBreaks test v (compared v c) w
   some_breaks w h = (taken_at h.0 n s, subst (λ ts. Among ts (taken_at h.0 n s)) (sym compared_is) (map_among (λ a. taken_at a n s) as' h.0 h.1), h.2)
 
 and_true : (b : Bool) → (b && true) ≡ b

@@ -13,7 +13,7 @@ pub record CanTake (test : Name → Bool) (v : List Entry) (a : Expr) (n : ℕ) 
   pub formed : IsFormed v a
   pub long : width_of v a ≤ n
 
--- so are some, of which the longest has so many bits, at most 64
+-- expressions are well formed, with their constant parts; the longest has so many bits, at most 64
 pub record HasCommonShape (test : Name → Bool) (v : List Entry) (as' : List Expr) (n : ℕ) (s : Bool) : Type 0 where
   pub ready : (a : Expr) → Among as' a → CanTake test v a n
   pub width : n ≡ widest v as'

@@ -9,15 +9,15 @@ use Rattle.vlog_tree.specs.Value.{IsFormed, operand_of, own_defined, own_integer
 use Rattle.vlog_runs.specs.Places.{Name, Among, read}
 use Rattle.flat_faults.specs.Constants.{alone, HasConstantNumbers, HasConstantSpans, IsLeftFormed}
 use Rattle.flat_faults.specs.Texts.{numbers_in}
-use Rattle.flat_bounds.specs.declared.breach.Breach.{Breach}
-use Rattle.flat_bounds.specs.declared.breach.Breach.TheVariants as b
+use Rattle.flat_bounds.specs.declared.violation.Violation.{Violation}
+use Rattle.flat_bounds.specs.declared.violation.Violation.TheVariants as b
 use Rattle.flat_bounds.specs.declared.side.Side.{Side}
 use Rattle.flat_bounds.specs.declared.side.Side.TheVariants as d
 use Rattle.flat_bounds.specs.Taken.{AllSound, SomeBreaks}
 
 -- the numbers of a part are well formed, and no divisor is 0 in them
-abbrev pub HasFineNumbers : List Entry → Lval → Type 0
-HasFineNumbers v q = (a : Expr) → Among (numbers_in q) a → IsFormed v a × IsTrue (own_defined (operand_of v a))
+abbrev pub HasDefinedNumbers : List Entry → Lval → Type 0
+HasDefinedNumbers v q = (a : Expr) → Among (numbers_in q) a → IsFormed v a × IsTrue (own_defined (operand_of v a))
 
 -- how many bits a part has: a name, a bit of a vector or a word of a memory, or a part-select
 abbrev pub part_count : List Entry → Lval → ℕ
@@ -30,18 +30,18 @@ abbrev pub bits_in : List Entry → List Lval → ℕ
 bits_in v [] = 0
 bits_in v (q ∷ qs) = part_count v q + bits_in v qs
 
--- the numbers of a left side are as constant as its place asks: all of an equation's, and in a block those that say a length
+-- the numbers of a left side are as constant as its place asks: all of a continuous assignment's, and in a block those that say a length
 abbrev pub IsConstantAs : Side → (Name → Bool) → Lval → Type 0
-IsConstantAs d.Equation test left = HasConstantNumbers test left
-IsConstantAs d.Block test left = HasConstantSpans test left
+IsConstantAs d.Continuous test left = HasConstantNumbers test left
+IsConstantAs d.Procedural test left = HasConstantSpans test left
 
 -- the numbers of a part keep the rules by themselves, and are as constant as they must be
-pub record HasSoundNumbers (side : Side) (test : Name → Bool) (v : List Entry) (q : Lval) : Type 0 where
+pub record PartHasLegalNumbers (side : Side) (test : Name → Bool) (v : List Entry) (q : Lval) : Type 0 where
   pub numbers : AllSound test v (map (alone v) (numbers_in q))
   pub constant : IsConstantAs side test q
 
--- or they don't
-abbrev pub BreaksNumbers : Side → (Name → Bool) → List Entry → Lval → Breach → Type 0
+-- a number of a part breaks a rule by itself, or isn't as constant as it must be
+abbrev pub BreaksNumbers : Side → (Name → Bool) → List Entry → Lval → Violation → Type 0
 BreaksNumbers side test v q b.Constant = SomeBreaks test v (map (alone v) (numbers_in q)) b.Constant ⊎ (IsConstantAs side test q → ⊥)
 BreaksNumbers side test v q b.Length = SomeBreaks test v (map (alone v) (numbers_in q)) b.Length
 BreaksNumbers side test v q b.Memory = ⊥
@@ -52,6 +52,6 @@ pub record HasSize (v : List Entry) (qs : List Lval) (n : ℕ) : Type 0 where
   pub size : n ≡ bits_in v qs
   pub length : IsLength n
 
--- or they haven't
+-- a part isn't well formed, or the parts don't have from 1 to 64 bits together
 abbrev pub IsMissized : List Entry → List Lval → Type 0
 IsMissized v qs = ((q : Lval) × Among qs q × (IsLeftFormed v q → ⊥)) ⊎ (IsLength (bits_in v qs) → ⊥)

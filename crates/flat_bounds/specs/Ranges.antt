@@ -20,34 +20,34 @@ use Rattle.flat_params.specs.declared.unfit.Unfit.TheVariants as u
 use Rattle.flat_params.specs.Constants.{is_known}
 use Rattle.flat_params.specs.Signals.{IsDeclared}
 use Rattle.flat_instances.specs.Unfolding.{StandsIn}
-use Rattle.flat_bounds.specs.declared.breach.Breach.{Breach}
-use Rattle.flat_bounds.specs.declared.breach.Breach.TheVariants as b
+use Rattle.flat_bounds.specs.declared.violation.Violation.{Violation}
+use Rattle.flat_bounds.specs.declared.violation.Violation.TheVariants as b
 
 -- which rule a declaration breaks, by why it declares nothing
-abbrev pub unfit_breach : Unfit → Breach
-unfit_breach u.Name = b.Constant
-unfit_breach u.Length = b.Length
-unfit_breach u.Divisor = b.Constant
+abbrev pub unfit_violation : Unfit → Violation
+unfit_violation u.Name = b.Constant
+unfit_violation u.Length = b.Length
+unfit_violation u.Divisor = b.Constant
 
-abbrev pub range_breach : BadRange → Breach
-range_breach (r.High cause) = unfit_breach cause
-range_breach (r.Low cause) = unfit_breach cause
-range_breach r.Order = b.Constant
-range_breach r.Long = b.Length
+abbrev pub range_violation : BadRange → Violation
+range_violation (r.High cause) = unfit_violation cause
+range_violation (r.Low cause) = unfit_violation cause
+range_violation r.Order = b.Constant
+range_violation r.Long = b.Length
 
-abbrev pub words_breach : BadWords → Breach
-words_breach (w.First cause) = unfit_breach cause
-words_breach (w.Last cause) = unfit_breach cause
-words_breach w.Order = b.Constant
-words_breach w.Many = b.Length
+abbrev pub words_violation : BadWords → Violation
+words_violation (w.First cause) = unfit_violation cause
+words_violation (w.Last cause) = unfit_violation cause
+words_violation w.Order = b.Constant
+words_violation w.Many = b.Length
 
-abbrev pub signal_breach : BadSignal → Breach
-signal_breach (g.Bits cause) = range_breach cause
-signal_breach (g.Words cause) = words_breach cause
-signal_breach g.Memory = b.Memory
+abbrev pub signal_violation : BadSignal → Violation
+signal_violation (g.Bits cause) = range_violation cause
+signal_violation (g.Words cause) = words_violation cause
+signal_violation g.Memory = b.Memory
 
 -- a declaration's ranges break a rule
-abbrev pub BreaksDecl : List Entry → Decl → Breach → Type 0
+abbrev pub BreaksDecl : List Entry → Decl → Violation → Type 0
 BreaksDecl v d b.Constant = InRange (BreaksBounds IsOrdered (is_known v) v) d.shape.range ⊎ InRange (BreaksBounds IsFromZero (is_known v) v) d.words
 BreaksDecl v d b.Length = InRange (BreaksRange (is_known v) v) d.shape.range ⊎ InRange (BreaksWords (is_known v) v) d.words
 BreaksDecl v d b.Memory = ⊥
@@ -57,7 +57,7 @@ abbrev pub AreDeclared : Scope → Type 0
 AreDeclared s = (d : Decl) → Among (decls_in s.module') d → IsDeclared s.params d
 
 -- the fault of what breaks a rule
-abbrev pub fault_of : Name → Breach → FlatFault
+abbrev pub fault_of : Name → Violation → FlatFault
 fault_of n b.Constant = f.Constant n
 fault_of n b.Length = f.Width n
 fault_of n b.Memory = f.Memory

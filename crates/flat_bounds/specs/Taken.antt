@@ -6,8 +6,8 @@ use Rattle.vlog_tree.specs.Valuation.{IsLength}
 use Rattle.vlog_tree.specs.Value.{IsFormed, IsDefined, width_of, sign_of, HasConstantParts}
 use Rattle.vlog_runs.specs.Places.{Name, Among}
 use Rattle.flat_faults.specs.Constants.{Taken, BreaksConstants, BreaksLengths}
-use Rattle.flat_bounds.specs.declared.breach.Breach.{Breach}
-use Rattle.flat_bounds.specs.declared.breach.Breach.TheVariants as b
+use Rattle.flat_bounds.specs.declared.violation.Violation.{Violation}
+use Rattle.flat_bounds.specs.declared.violation.Violation.TheVariants as b
 
 -- each of some expressions has its constant parts
 abbrev pub EachHasConstantParts : (Name → Bool) → List Expr → Type 0
@@ -23,13 +23,13 @@ pub record IsSound (test : Name → Bool) (v : List Entry) (t : Taken) : Type 0 
 abbrev pub AllSound : (Name → Bool) → List Entry → List Taken → Type 0
 AllSound test v ts = (t : Taken) → Among ts t → IsSound test v t
 
--- or it breaks one
-abbrev pub Breaks : (Name → Bool) → List Entry → Taken → Breach → Type 0
+-- an expression breaks a rule in its place
+abbrev pub Breaks : (Name → Bool) → List Entry → Taken → Violation → Type 0
 Breaks test v t b.Constant = BreaksConstants test v t
 Breaks test v t b.Length = BreaksLengths test v t
 Breaks test v t b.Memory = ⊥
 
-abbrev pub SomeBreaks : (Name → Bool) → List Entry → List Taken → Breach → Type 0
+abbrev pub SomeBreaks : (Name → Bool) → List Entry → List Taken → Violation → Type 0
 SomeBreaks test v ts w = (t : Taken) × Among ts t × Breaks test v t w
 
 -- an expression that is well formed, with its constant parts, and has this length, from 1 to 64, and this sign
@@ -44,8 +44,8 @@ pub record HasSoundShape (test : Name → Bool) (v : List Entry) (a : Expr) (n :
 abbrev pub taken_at : Expr → ℕ → Bool → Taken
 taken_at a n s = record { value = a; width = n; signed = s }
 
--- a refusal has a breach that is there, want of memory apart
-abbrev pub Fails : (Breach → Type 0) → Breach → Type 0
-Fails IsBreach b.Memory = Unit {0}
-Fails IsBreach b.Constant = IsBreach b.Constant
-Fails IsBreach b.Length = IsBreach b.Length
+-- a refusal has a violation that is there, want of memory apart
+abbrev pub Fails : (Violation → Type 0) → Violation → Type 0
+Fails IsViolation b.Memory = Unit {0}
+Fails IsViolation b.Constant = IsViolation b.Constant
+Fails IsViolation b.Length = IsViolation b.Length

@@ -4,15 +4,18 @@ use Rattle.vlog_tree.specs.declared.expr.Expr.{Expr}
 use Rattle.vlog_tree.specs.declared.item.Assign.{Assign}
 use Rattle.vlog_tree.specs.declared.module.Module.{Module}
 use Rattle.vlog_tree.specs.declared.stmt.Lval.{Lval}
-use Rattle.vlog_runs.specs.Places.{Among, Place}
+use Rattle.vlog_runs.specs.Places.{Name, Among, Place}
 use Rattle.vlog_runs.specs.Blocks.{is_parameter}
 use Rattle.vlog_runs.specs.Contents.{Decl, signals_in, port_names, assigns_in, Block, blocks_in, Inner, instances_in}
-use Rattle.vlog_runs.specs.Scopes.{Scope, place_of, Given, given_to, left_of, child, decl_at, signal_of}
+use Rattle.vlog_runs.specs.Scopes.{Scope, place_of, Given, given_to, left_of, child, decl_at, signal_of, instance_at}
 use Rattle.flat_faults.specs.Constants.{at_rest, stored, HasConstantNumbers, HasConstantSpans}
-use Rattle.flat_faults.specs.Stands.{all_taken, fixed_lefts, block_lefts}
-use Rattle.flat_bounds.specs.declared.breach.Breach.{Breach}
-use Rattle.flat_bounds.specs.declared.breach.Breach.TheVariants as b
+use Rattle.flat_faults.specs.declared.fault.FlatFault.{FlatFault}
+use Rattle.flat_faults.specs.Stands.{all_taken, fixed_lefts, block_lefts, StandsAt}
+use Rattle.flat_instances.specs.Unfolding.{StandsIn}
+use Rattle.flat_bounds.specs.declared.violation.Violation.{Violation}
+use Rattle.flat_bounds.specs.declared.violation.Violation.TheVariants as b
 use Rattle.flat_bounds.specs.declared.side.Side.TheVariants as d
+use Rattle.flat_bounds.specs.Ranges.{fault_of, StandsAlone}
 use Rattle.flat_bounds.specs.Taken.{IsSound, Breaks, SomeBreaks}
 use Rattle.flat_bounds.specs.Stores.{NamesSignals, BreaksSize, IsSoundLeft, BreaksLeft, IsSoundStore}
 use Rattle.flat_bounds.specs.Usages.{IsSoundBody}
@@ -25,37 +28,37 @@ taking t port = if port.input then Some (signal_of t.params port).width else Non
 
 abbrev pub IsSoundGiven : Place → Expr → Option ℕ → Type 0
 IsSoundGiven p a (Some n) = IsSound (is_parameter p) (at_rest p) (stored (at_rest p) n a)
-IsSoundGiven p a None = IsSoundLeft d.Equation p (left_of a)
+IsSoundGiven p a None = IsSoundLeft d.Continuous p (left_of a)
 
-abbrev pub BreaksGiven : Place → Expr → Option ℕ → Breach → Type 0
+abbrev pub BreaksGiven : Place → Expr → Option ℕ → Violation → Type 0
 BreaksGiven p a (Some n) w = Breaks (is_parameter p) (at_rest p) (stored (at_rest p) n a) w
-BreaksGiven p a None w = BreaksLeft d.Equation p (left_of a) w
+BreaksGiven p a None w = BreaksLeft d.Continuous p (left_of a) w
 
 -- what is connected to a port that is declared
-abbrev pub IsSoundGift : Place → Scope → Given → Option Decl → Type 0
-IsSoundGift p t g None = Unit {0}
-IsSoundGift p t g (Some port) = IsSoundGiven p g.value (taking t port)
+abbrev pub IsSoundConnection : Place → Scope → Given → Option Decl → Type 0
+IsSoundConnection p t g None = Unit {0}
+IsSoundConnection p t g (Some port) = IsSoundGiven p g.value (taking t port)
 
-abbrev pub BreaksGift : Place → Scope → Given → Option Decl → Breach → Type 0
-BreaksGift p t g None w = ⊥
-BreaksGift p t g (Some port) w = BreaksGiven p g.value (taking t port) w
+abbrev pub BreaksConnection : Place → Scope → Given → Option Decl → Violation → Type 0
+BreaksConnection p t g None w = ⊥
+BreaksConnection p t g (Some port) w = BreaksGiven p g.value (taking t port) w
 
-abbrev pub AreSoundGifts : Place → Scope → Inner → Type 0
-AreSoundGifts p t i = (g : Given) → Among (given_to (port_names t.module') i.args) g → IsSoundGift p t g (decl_at (signals_in t.module') g.name)
+abbrev pub AreSoundConnections : Place → Scope → Inner → Type 0
+AreSoundConnections p t i = (g : Given) → Among (given_to (port_names t.module') i.args) g → IsSoundConnection p t g (decl_at (signals_in t.module') g.name)
 
-abbrev pub SomeGiftBreaks : Place → Scope → Inner → Breach → Type 0
-SomeGiftBreaks p t i w = (g : Given) × Among (given_to (port_names t.module') i.args) g × BreaksGift p t g (decl_at (signals_in t.module') g.name) w
+abbrev pub SomeConnectionBreaks : Place → Scope → Inner → Violation → Type 0
+SomeConnectionBreaks p t i w = (g : Given) × Among (given_to (port_names t.module') i.args) g × BreaksConnection p t g (decl_at (signals_in t.module') g.name) w
 
 -- ---- whole texts
 
 -- the expressions and the left sides of a scope's text keep the rules
 pub record IsSoundText (ms : List Module) (s : Scope) : Type 0 where
-  pub equations : (a : Assign) → Among (assigns_in s.module') a → IsSoundStore d.Equation (place_of s) a
+  pub assigns : (a : Assign) → Among (assigns_in s.module') a → IsSoundStore d.Continuous (place_of s) a
   pub blocks : (k : Block) → Among (blocks_in s.module') k → IsSoundBody (place_of s) k.body
-  pub inners : (i : Inner) → Among (instances_in s.module') i → (t : Scope) → child ms s i ≡ Some t → AreSoundGifts (place_of s) t i
+  pub inners : (i : Inner) → Among (instances_in s.module') i → (t : Scope) → child ms s i ≡ Some t → AreSoundConnections (place_of s) t i
 
--- or one breaks a rule
-abbrev pub BreaksText : List Module → Scope → Breach → Type 0
+-- an expression or a left side of a scope's text breaks a rule
+abbrev pub BreaksText : List Module → Scope → Violation → Type 0
 BreaksText ms s b.Constant =
     SomeBreaks (is_parameter (place_of s)) (at_rest (place_of s)) (all_taken ms s) b.Constant
     ⊎ ((left : Lval)
@@ -64,3 +67,26 @@ BreaksText ms s b.Length =
     SomeBreaks (is_parameter (place_of s)) (at_rest (place_of s)) (all_taken ms s) b.Length
     ⊎ ((left : Lval) × Among (fixed_lefts ms s ++ block_lefts s) left × NamesSignals (place_of s) left × BreaksSize (place_of s) left)
 BreaksText ms s b.Memory = ⊥
+
+-- ---- faults of connections
+
+-- the fault of a rule that is broken in a scope of this name, or a fault of an instance's scope
+abbrev pub IsConnectionFault : Name → Scope → (Violation → Type 0) → FlatFault → Type 0
+IsConnectionFault path t IsViolation fault = ((w : Violation) × IsViolation w × (fault ≡ fault_of path w)) ⊎ StandsAlone t fault
+
+-- what is connected to the ports of an instance breaks a rule, or a range of a port does
+abbrev pub IsInnerFault : List Module → Name → Scope → Inner → FlatFault → Type 0
+IsInnerFault ms path s i fault = (t : Scope) × (child ms s i ≡ Some t) × IsConnectionFault path t (SomeConnectionBreaks (place_of s) t i) fault
+
+-- what is connected to the ports of some instance of a scope is at fault
+abbrev pub IsSomeInnerFault : List Module → Name → Scope → FlatFault → Type 0
+IsSomeInnerFault ms path s fault = (i : Inner) × Among (instances_in s.module') i × IsInnerFault ms path s i fault
+
+-- what is connected to an instance of a scope keeps the rules
+abbrev pub HasSoundConnections : List Module → Scope → Inner → Type 0
+HasSoundConnections ms s i = (t : Scope) → child ms s i ≡ Some t → AreSoundConnections (place_of s) t i
+
+-- a fault stands at a scope of this name, or at an instance in it that its name finds
+abbrev pub StandsAround : List Module → Name → Scope → FlatFault → Type 0
+StandsAround ms path s fault =
+    StandsAt ms path s fault ⊎ ((i : Inner) × (instance_at (instances_in s.module') i.name ≡ Some i) × (t : Scope) × (child ms s i ≡ Some t) × StandsIn ms t fault)

@@ -9,7 +9,7 @@ use Rattle.vlog_runs.specs.Places.{Place, Among}
 use Rattle.vlog_runs.specs.Blocks.{is_parameter, exprs_in}
 use Rattle.flat_faults.specs.Constants.{at_rest, alone, compared}
 use Rattle.flat_faults.specs.Texts.{Compared, numbers_in, all_labels_in}
-use Rattle.flat_bounds.specs.declared.breach.Breach.{Breach}
+use Rattle.flat_bounds.specs.declared.violation.Violation.{Violation}
 use Rattle.flat_bounds.specs.declared.side.Side.TheVariants as d
 use Rattle.flat_bounds.specs.Taken.{IsSound, AllSound, Breaks, SomeBreaks}
 use Rattle.flat_bounds.specs.Stores.{NamesSignals, IsSoundStore, BreaksStore}
@@ -60,16 +60,17 @@ stores_of (Tests a) = []
 stores_of (Compares c) = []
 stores_of (Stores a) = a ∷ []
 
--- they keep the rules, or break one
+-- a use of an expression keeps the rules
 abbrev pub IsSoundUsage : Place → Usage → Type 0
 IsSoundUsage p (Tests a) = IsSound (is_parameter p) (at_rest p) (alone (at_rest p) a)
 IsSoundUsage p (Compares c) = AllSound (is_parameter p) (at_rest p) (compared (at_rest p) c)
-IsSoundUsage p (Stores a) = IsSoundStore d.Block p a
+IsSoundUsage p (Stores a) = IsSoundStore d.Procedural p a
 
-abbrev pub BreaksUsage : Place → Usage → Breach → Type 0
+-- a use of an expression breaks a rule
+abbrev pub BreaksUsage : Place → Usage → Violation → Type 0
 BreaksUsage p (Tests a) w = Breaks (is_parameter p) (at_rest p) (alone (at_rest p) a) w
 BreaksUsage p (Compares c) w = SomeBreaks (is_parameter p) (at_rest p) (compared (at_rest p) c) w
-BreaksUsage p (Stores a) w = BreaksStore d.Block p a w
+BreaksUsage p (Stores a) w = BreaksStore d.Procedural p a w
 
 -- what is assigned are signals
 abbrev pub UsesSignals : Place → Usage → Type 0
@@ -85,5 +86,5 @@ BodyUsesSignals p t = (u : Usage) → Among (usages t) u → UsesSignals p u
 abbrev pub IsSoundBody : Place → Stmt → Type 0
 IsSoundBody p t = (u : Usage) → Among (usages t) u → IsSoundUsage p u
 
-abbrev pub BreaksBody : Place → Stmt → Breach → Type 0
+abbrev pub BreaksBody : Place → Stmt → Violation → Type 0
 BreaksBody p t w = (u : Usage) × Among (usages t) u × BreaksUsage p u w

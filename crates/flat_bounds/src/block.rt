@@ -11,12 +11,12 @@ ghost use Rattle.flat_bounds.specs.Taken.{Fails};
 ghost use Rattle.flat_bounds.specs.Usages.{Usage, usages, UsesSignals, IsSoundUsage, BreaksUsage, BodyUsesSignals, IsSoundBody, BreaksBody};
 ghost use Rattle.flat_bounds.specs.Sites.{site_meant};
 
-use crate::breach::Breach;
 use crate::cases::check_cases;
 use crate::side::Side;
 use crate::site::{Site, sites_of};
 use crate::store::check_store;
 use crate::taken::check_alone;
+use crate::violation::Violation;
 use elab_drive::parts_of;
 use flat_instances::Scope;
 use flat_scopes::{Block, blocks_in};
@@ -29,7 +29,7 @@ fn check_site(
     scope: &Scope<'_>,
     rest: &Valuation,
     site: Site<'_>,
-) -> Result<(), Breach>
+) -> Result<(), Violation>
     requires rest { rest.now ≡ at_rest (place_of (scope_meant scope.now)) }
     requires signals { UsesSignals (place_of (scope_meant scope.now)) (site_meant site) }
     ensures ok { OnOk result (IsSoundUsage (place_of (scope_meant scope.now)) (site_meant site.entry)) }
@@ -40,13 +40,18 @@ fn check_site(
         Site::Cases(subject, items) => check_cases(alloc, subject, items, &scope.params, rest),
         Site::Store(left, right) => {
             let parts = parts_of(alloc, left)?;
-            check_store(Side::Block, &parts, right, &scope.params, rest)
+            check_store(Side::Procedural, &parts, right, &scope.params, rest)
         }
     }
 }
 
 // A statement keeps the rules.
-fn check_body(alloc: Global, scope: &Scope<'_>, rest: &Valuation, body: &Stmt) -> Result<(), Breach>
+fn check_body(
+    alloc: Global,
+    scope: &Scope<'_>,
+    rest: &Valuation,
+    body: &Stmt,
+) -> Result<(), Violation>
     requires rest { rest.now ≡ at_rest (place_of (scope_meant scope.now)) }
     requires signals { BodyUsesSignals (place_of (scope_meant scope.now)) body.now }
     ensures ok { OnOk result (IsSoundBody (place_of (scope_meant scope.now)) body.now) }
@@ -56,7 +61,7 @@ fn check_body(alloc: Global, scope: &Scope<'_>, rest: &Valuation, body: &Stmt) -
     for site in &sites {
         match check_site(alloc, scope, rest, *site) {
             Ok(()) => {}
-            Err(breach) => return Err(breach),
+            Err(violation) => return Err(violation),
         }
     }
     Ok(())
@@ -67,7 +72,7 @@ fn check_each(
     scope: &Scope<'_>,
     rest: &Valuation,
     blocks: &[Block<'_>],
-) -> Result<(), Breach>
+) -> Result<(), Violation>
     requires rest { rest.now ≡ at_rest (place_of (scope_meant scope.now)) }
     requires signals { (k : Process) → Among (map block_meant blocks.now) k → BodyUsesSignals (place_of (scope_meant scope.now)) k.body }
     ensures ok { OnOk result ((k : Process) → Among (map block_meant blocks.now) k → IsSoundBody (place_of (scope_meant scope.now)) k.body) }
@@ -76,14 +81,14 @@ fn check_each(
     for block in blocks {
         match check_body(alloc, scope, rest, block.body) {
             Ok(()) => {}
-            Err(breach) => return Err(breach),
+            Err(violation) => return Err(violation),
         }
     }
     Ok(())
 }
 
 /// The blocks of a scope's text keep the rules.
-pub fn check_blocks(alloc: Global, scope: &Scope<'_>, rest: &Valuation) -> Result<(), Breach>
+pub fn check_blocks(alloc: Global, scope: &Scope<'_>, rest: &Valuation) -> Result<(), Violation>
     requires rest { rest.now ≡ at_rest (place_of (scope_meant scope.now)) }
     requires signals { (k : Process) → Among (blocks_in scope.now.text.now) k → BodyUsesSignals (place_of (scope_meant scope.now)) k.body }
     ensures ok { OnOk result ((k : Process) → Among (blocks_in scope.now.text.now) k → IsSoundBody (place_of (scope_meant scope.now)) k.body) }

@@ -13,8 +13,8 @@ ghost use Rattle.flat_bounds.specs.Usages.{item_labels};
 ghost use Rattle.flat_bounds.specs.Taken.{AllSound, IsSound, Breaks, SomeBreaks, Fails, taken_at};
 ghost use Rattle.flat_bounds.specs.Cases.{HasCommonShape, CanTake};
 
-use crate::breach::Breach;
 use crate::taken::{check_at, sound_shape};
+use crate::violation::Violation;
 use sqlite_items::Items;
 use std::alloc::{AllocError, Global};
 use vlog_tree::{CaseItem, Expr, Labels, Valuation};
@@ -61,7 +61,11 @@ fn exprs_of<'a>(
 }
 
 // The greatest length of some expressions, and whether all are signed.
-fn common_shape(exprs: &[&Expr], params: &Valuation, rest: &Valuation) -> Result<(u8, bool), Breach>
+fn common_shape(
+    exprs: &[&Expr],
+    params: &Valuation,
+    rest: &Valuation,
+) -> Result<(u8, bool), Violation>
     ensures ok { IfOk result (λ s. HasCommonShape (is_known params.now) rest.now (map expr_meant exprs.now) s.0 s.1) }
     ensures err { (n : ℕ) (s : Bool) → IfErr result (λ w. (a : Form) × Among (map expr_meant exprs.now) a × Breaks (is_known params.now) rest.now (taken_at a n s) w) }
 {
@@ -73,7 +77,7 @@ fn common_shape(exprs: &[&Expr], params: &Valuation, rest: &Valuation) -> Result
                 longest = width.max(longest);
                 all_signed = all_signed && signed;
             }
-            Err(breach) => return Err(breach),
+            Err(violation) => return Err(violation),
         }
     }
     Ok((longest, all_signed))
@@ -86,7 +90,7 @@ fn check_all_at(
     signed: bool,
     params: &Valuation,
     rest: &Valuation,
-) -> Result<(), Breach>
+) -> Result<(), Violation>
     requires ready { (a : Form) → Among (map expr_meant exprs.now) a → CanTake (is_known params.now) rest.now a length }
     requires most { length ≤ 64 }
     ensures ok { OnOk result ((a : Form) → Among (map expr_meant exprs.now) a → IsSound (is_known params.now) rest.now (taken_at a length signed)) }
@@ -95,7 +99,7 @@ fn check_all_at(
     for expr in exprs {
         match check_at(expr, length, signed, params, rest) {
             Ok(()) => {}
-            Err(breach) => return Err(breach),
+            Err(violation) => return Err(violation),
         }
     }
     Ok(())
@@ -108,13 +112,13 @@ pub fn check_cases(
     items: &[CaseItem],
     params: &Valuation,
     rest: &Valuation,
-) -> Result<(), Breach>
+) -> Result<(), Violation>
     ensures ok { OnOk result (AllSound (is_known params.now) rest.now (compared rest.now (record { value = subject.now; labels = flat_map item_labels items.now }))) }
     ensures err { IfErr result (Fails (SomeBreaks (is_known params.now) rest.now (compared rest.now (record { value = subject.now; labels = flat_map item_labels items.now })))) }
 {
     let exprs = exprs_of(alloc, subject, items)?;
     match common_shape(&exprs, params, rest) {
         Ok((width, signed)) => check_all_at(&exprs, width, signed, params, rest),
-        Err(breach) => Err(breach),
+        Err(violation) => Err(violation),
     }
 }

@@ -10,9 +10,9 @@ ghost use Rattle.flat_scopes.specs.Borrowed.{decl_meant};
 ghost use Rattle.flat_params.specs.Signals.{IsDeclared};
 ghost use Rattle.flat_instances.specs.Unfolding.{scope_meant};
 ghost use Rattle.flat_bounds.specs.Taken.{Fails};
-ghost use Rattle.flat_bounds.specs.Ranges.{unfit_breach, range_breach, words_breach, signal_breach, BreaksDecl, AreDeclared, fault_of, StandsAlone};
+ghost use Rattle.flat_bounds.specs.Ranges.{unfit_violation, range_violation, words_violation, signal_violation, BreaksDecl, AreDeclared, fault_of, StandsAlone};
 
-use crate::breach::Breach;
+use crate::violation::Violation;
 use flat_faults::FlatFault;
 use flat_instances::{Scope, full_name};
 use flat_params::{BadRange, BadSignal, BadWords, Unfit, signal_of};
@@ -22,68 +22,68 @@ use std::alloc::Global;
 use vlog_runs::Signal;
 use vlog_tree::Valuation;
 
-fn unfit_breach(cause: Unfit) -> Breach
-    ensures { result ≡ unfit_breach cause }
+fn unfit_violation(cause: Unfit) -> Violation
+    ensures { result ≡ unfit_violation cause }
 {
     match cause {
-        Unfit::Name => Breach::Constant,
-        Unfit::Length => Breach::Length,
-        Unfit::Divisor => Breach::Constant,
+        Unfit::Name => Violation::Constant,
+        Unfit::Length => Violation::Length,
+        Unfit::Divisor => Violation::Constant,
     }
 }
 
-fn range_breach(cause: BadRange) -> Breach
-    ensures { result ≡ range_breach cause }
+fn range_violation(cause: BadRange) -> Violation
+    ensures { result ≡ range_violation cause }
 {
     match cause {
-        BadRange::High(cause) => unfit_breach(cause),
-        BadRange::Low(cause) => unfit_breach(cause),
-        BadRange::Order => Breach::Constant,
-        BadRange::Long => Breach::Length,
+        BadRange::High(cause) => unfit_violation(cause),
+        BadRange::Low(cause) => unfit_violation(cause),
+        BadRange::Order => Violation::Constant,
+        BadRange::Long => Violation::Length,
     }
 }
 
-fn words_breach(cause: BadWords) -> Breach
-    ensures { result ≡ words_breach cause }
+fn words_violation(cause: BadWords) -> Violation
+    ensures { result ≡ words_violation cause }
 {
     match cause {
-        BadWords::First(cause) => unfit_breach(cause),
-        BadWords::Last(cause) => unfit_breach(cause),
-        BadWords::Order => Breach::Constant,
-        BadWords::Many => Breach::Length,
+        BadWords::First(cause) => unfit_violation(cause),
+        BadWords::Last(cause) => unfit_violation(cause),
+        BadWords::Order => Violation::Constant,
+        BadWords::Many => Violation::Length,
     }
 }
 
-fn signal_breach(cause: BadSignal) -> Breach
-    ensures { result ≡ signal_breach cause }
+fn signal_violation(cause: BadSignal) -> Violation
+    ensures { result ≡ signal_violation cause }
 {
     match cause {
-        BadSignal::Bits(cause) => range_breach(cause),
-        BadSignal::Words(cause) => words_breach(cause),
-        BadSignal::Memory => Breach::Memory,
+        BadSignal::Bits(cause) => range_violation(cause),
+        BadSignal::Words(cause) => words_violation(cause),
+        BadSignal::Memory => Violation::Memory,
     }
 }
 
 /// The fault of what breaks a rule, by its name.
-pub fn fault_of(name: Text, breach: Breach) -> FlatFault
-    ensures { result ≡ fault_of name breach }
+pub fn fault_of(name: Text, violation: Violation) -> FlatFault
+    ensures { result ≡ fault_of name violation }
 {
-    match breach {
-        Breach::Constant => FlatFault::Constant(name),
-        Breach::Length => FlatFault::Width(name),
-        Breach::Memory => FlatFault::Memory,
+    match violation {
+        Violation::Constant => FlatFault::Constant(name),
+        Violation::Length => FlatFault::Width(name),
+        Violation::Memory => FlatFault::Memory,
     }
 }
 
 /// What a declaration declares over parameters.
-pub fn declared(alloc: Global, decl: &Decl<'_>, params: &Valuation) -> Result<Signal, Breach>
+pub fn declared(alloc: Global, decl: &Decl<'_>, params: &Valuation) -> Result<Signal, Violation>
     ensures signal { IfOk result (λ g. g ≡ signal_of params.now (decl_meant decl.now)) }
     ensures declared { IfOk result (λ g. IsDeclared params.now (decl_meant decl.now)) }
     ensures err { IfErr result (Fails (BreaksDecl params.now (decl_meant decl.now))) }
 {
     match signal_of(alloc, decl, params) {
         Ok(signal) => Ok(signal),
-        Err(cause) => Err(signal_breach(cause)),
+        Err(cause) => Err(signal_violation(cause)),
     }
 }
 
@@ -95,9 +95,9 @@ fn check_each(alloc: Global, scope: &Scope<'_>, decls: &[Decl<'_>]) -> Result<()
     for decl in decls {
         match declared(alloc, decl, &scope.params) {
             Ok(_) => {}
-            Err(breach) => {
+            Err(violation) => {
                 let name = full_name(alloc, scope.prefix.bytes(), decl.name.bytes())?;
-                return Err(fault_of(name, breach));
+                return Err(fault_of(name, violation));
             }
         }
     }

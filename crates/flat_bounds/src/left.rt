@@ -9,29 +9,29 @@ ghost use Rattle.flat_faults.specs.Constants.{alone};
 ghost use Rattle.flat_faults.specs.Texts.{numbers_in};
 ghost use Rattle.elab_drive.specs.Parts.{part_meant};
 ghost use Rattle.flat_bounds.specs.Taken.{AllSound, SomeBreaks};
-ghost use Rattle.flat_bounds.specs.Lefts.{IsConstantAs, HasSoundNumbers, BreaksNumbers, HasFineNumbers, HasSize, IsMissized};
+ghost use Rattle.flat_bounds.specs.Lefts.{IsConstantAs, PartHasLegalNumbers, BreaksNumbers, HasDefinedNumbers, HasSize, IsMissized};
 
-use crate::breach::Breach;
 use crate::constant::{is_constant, is_part_constant};
 use crate::part::part_bits;
 use crate::side::Side;
 use crate::taken::check_alone;
+use crate::violation::Violation;
 use elab_drive::Part;
 use vlog_tree::{Expr, Valuation};
 
 // Two numbers keep the rules by themselves.
-fn check_two(a: &Expr, b: &Expr, params: &Valuation, rest: &Valuation) -> Result<(), Breach>
+fn check_two(a: &Expr, b: &Expr, params: &Valuation, rest: &Valuation) -> Result<(), Violation>
     ensures ok { OnOk result (AllSound (is_known params.now) rest.now (map (alone rest.now) (a.now ∷ b.now ∷ []))) }
     ensures err { IfErr result (SomeBreaks (is_known params.now) rest.now (map (alone rest.now) (a.now ∷ b.now ∷ []))) }
 {
     match check_alone(a, params, rest) {
         Ok(()) => check_alone(b, params, rest),
-        Err(breach) => Err(breach),
+        Err(violation) => Err(violation),
     }
 }
 
 // The numbers of a part keep the rules by themselves.
-fn check_each(part: Part<'_>, params: &Valuation, rest: &Valuation) -> Result<(), Breach>
+fn check_each(part: Part<'_>, params: &Valuation, rest: &Valuation) -> Result<(), Violation>
     ensures ok { OnOk result (AllSound (is_known params.now) rest.now (map (alone rest.now) (numbers_in (part_meant part.entry)))) }
     ensures err { IfErr result (SomeBreaks (is_known params.now) rest.now (map (alone rest.now) (numbers_in (part_meant part.entry)))) }
 {
@@ -47,12 +47,12 @@ fn is_constant_as(side: Side, part: Part<'_>, params: &Valuation) -> bool
     ensures { MatchBool result (IsConstantAs side (is_known params.now) (part_meant part.entry)) (IsConstantAs side (is_known params.now) (part_meant part.entry) → ⊥) }
 {
     match side {
-        Side::Equation => match part {
+        Side::Continuous => match part {
             Part::Whole(_) => true,
             Part::Bit(_, index) => is_constant(index, params),
             Part::Bits(_, _, a, b) => is_constant(a, params) && is_constant(b, params),
         },
-        Side::Block => match part {
+        Side::Procedural => match part {
             Part::Whole(_) => true,
             Part::Bit(_, _) => true,
             Part::Bits(_, span, a, b) => is_part_constant(span, a, b, params),
@@ -66,12 +66,12 @@ fn check_part(
     part: Part<'_>,
     params: &Valuation,
     rest: &Valuation,
-) -> Result<(), Breach>
-    ensures ok { OnOk result (HasSoundNumbers side (is_known params.now) rest.now (part_meant part.entry)) }
+) -> Result<(), Violation>
+    ensures ok { OnOk result (PartHasLegalNumbers side (is_known params.now) rest.now (part_meant part.entry)) }
     ensures err { IfErr result (BreaksNumbers side (is_known params.now) rest.now (part_meant part.entry)) }
 {
     if !is_constant_as(side, part, params) {
-        return Err(Breach::Constant);
+        return Err(Violation::Constant);
     }
     check_each(part, params, rest)
 }
@@ -82,14 +82,14 @@ pub fn check_numbers(
     parts: &[Part<'_>],
     params: &Valuation,
     rest: &Valuation,
-) -> Result<(), Breach>
-    ensures ok { OnOk result ((q : Left) → Among (map part_meant parts.now) q → HasSoundNumbers side (is_known params.now) rest.now q) }
+) -> Result<(), Violation>
+    ensures ok { OnOk result ((q : Left) → Among (map part_meant parts.now) q → PartHasLegalNumbers side (is_known params.now) rest.now q) }
     ensures err { IfErr result (λ w. (q : Left) × Among (map part_meant parts.now) q × BreaksNumbers side (is_known params.now) rest.now q w) }
 {
     for part in parts {
         match check_part(side, *part, params, rest) {
             Ok(()) => {}
-            Err(breach) => return Err(breach),
+            Err(violation) => return Err(violation),
         }
     }
     Ok(())
@@ -97,7 +97,7 @@ pub fn check_numbers(
 
 /// How many bits the parts of a left side have together, from 1 to 64; none where they haven't, or a part isn't well formed.
 pub fn total_bits(parts: &[Part<'_>], rest: &Valuation) -> Option<u8>
-    requires { (q : Left) → Among (map part_meant parts.now) q → HasFineNumbers rest.now q }
+    requires { (q : Left) → Among (map part_meant parts.now) q → HasDefinedNumbers rest.now q }
     ensures some { IfSome result (HasSize rest.now (map part_meant parts.now)) }
     ensures none { IfNone result (IsMissized rest.now (map part_meant parts.now)) }
 {

@@ -1,12 +1,13 @@
 //! Constants and lengths in the texts of instances: ranges of declarations, expressions in their places, and left sides.
 #![tactic(auto)]
 
+mod assignment;
 mod block;
-mod breach;
 mod cases;
+mod check;
 mod constant;
 mod declared;
-mod equation;
+mod inner;
 mod left;
 mod output;
 mod part;
@@ -15,9 +16,12 @@ mod side;
 mod site;
 mod store;
 mod taken;
+mod violation;
 
+pub use assignment::check_assignments;
 pub use block::check_blocks;
+pub use check::check_texts;
 pub use declared::check_ranges;
-pub use equation::check_equations;
+pub use inner::check_inners;
 pub use output::check_output;
 pub use resting::at_rest;

@@ -15,9 +15,9 @@ ghost use Rattle.flat_bounds.specs.Outputs.{expr_parts, AreOf, IsOf};
 ghost use Rattle.flat_bounds.specs.Taken.{Fails};
 ghost use Rattle.flat_bounds.specs.Stores.{IsSoundLeft, BreaksLeft};
 
-use crate::breach::Breach;
 use crate::left::{check_numbers, total_bits};
 use crate::side::Side;
+use crate::violation::Violation;
 use elab_drive::{Part, name_of};
 use flat_instances::Scope;
 use flat_scopes::Names;
@@ -102,22 +102,22 @@ pub fn check_output(
     rest: &Valuation,
     signals: &Names<'_>,
     value: &Expr,
-) -> Result<(), Breach>
+) -> Result<(), Violation>
     requires rest { rest.now ≡ at_rest (place_of (scope_meant scope.now)) }
     requires signals { signals.now ≡ map decl_name (signals_in scope.now.text.now) }
-    ensures ok { OnOk result (IsSoundLeft d.Equation (place_of (scope_meant scope.now)) (left_of value.now)) }
-    ensures err { IfErr result (Fails (BreaksLeft d.Equation (place_of (scope_meant scope.now)) (left_of value.now))) }
+    ensures ok { OnOk result (IsSoundLeft d.Continuous (place_of (scope_meant scope.now)) (left_of value.now)) }
+    ensures err { IfErr result (Fails (BreaksLeft d.Continuous (place_of (scope_meant scope.now)) (left_of value.now))) }
 {
     let parts = left_parts(alloc, value)?;
-    match check_numbers(Side::Equation, &parts, &scope.params, rest) {
+    match check_numbers(Side::Continuous, &parts, &scope.params, rest) {
         Ok(()) => {}
-        Err(breach) => return Err(breach),
+        Err(violation) => return Err(violation),
     }
     if !are_of(&parts, signals) {
         return Ok(());
     }
     match total_bits(&parts, rest) {
         Some(_) => Ok(()),
-        None => Err(Breach::Length),
+        None => Err(Violation::Length),
     }
 }

@@ -7,7 +7,7 @@ ghost use Rattle.vlog_runs.specs.Places.{read};
 ghost use Rattle.vlog_value.specs.Shapes.{FitsPart};
 ghost use Rattle.flat_faults.specs.Constants.{IsLeftFormed};
 ghost use Rattle.elab_drive.specs.Parts.{part_meant};
-ghost use Rattle.flat_bounds.specs.Lefts.{part_count, HasFineNumbers};
+ghost use Rattle.flat_bounds.specs.Lefts.{part_count, HasDefinedNumbers};
 
 use elab_drive::Part;
 use vlog_tree::{Constant, Expr, Span, Valuation};
@@ -116,7 +116,7 @@ fn depth_of(name: &[u8], rest: &Valuation) -> u8
 
 /// How many bits a part of a left side has; none where it isn't well formed.
 pub fn part_bits(part: Part<'_>, rest: &Valuation) -> Option<u8>
-    requires { HasFineNumbers rest.now (part_meant part) }
+    requires { HasDefinedNumbers rest.now (part_meant part) }
     ensures some { IfSome result (λ n. IsLeftFormed rest.now (part_meant part.entry) × (n ≡ part_count rest.now (part_meant part.entry)) × (n ≤ 64)) }
     ensures none { IfNone result (IsLeftFormed rest.now (part_meant part.entry) → ⊥) }
 {

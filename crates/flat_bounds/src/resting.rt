@@ -6,11 +6,11 @@ ghost use Rattle.vlog_runs.specs.Places.{words_from};
 ghost use Rattle.vlog_runs.specs.Scopes.{place_of};
 ghost use Rattle.flat_faults.specs.Constants.{at_rest};
 ghost use Rattle.flat_instances.specs.Unfolding.{scope_meant};
-ghost use Rattle.flat_bounds.specs.declared.breach.Breach.TheVariants.{Memory};
+ghost use Rattle.flat_bounds.specs.declared.violation.Violation.TheVariants.{Memory};
 ghost use Rattle.flat_bounds.specs.Ranges.{AreDeclared, resting, resting_word};
 
-use crate::breach::Breach;
 use crate::declared::declared;
+use crate::violation::Violation;
 use flat_instances::Scope;
 use flat_scopes::signals_in;
 use outside::Text;
@@ -85,7 +85,7 @@ fn copied(alloc: Global, params: &Valuation) -> Result<Valuation, AllocError>
 
 /// What the names of a scope stand for where its signals are 0: its parameters, its signals, and the words of its memories. Refused only for want of
 /// memory.
-pub fn at_rest(alloc: Global, scope: &Scope<'_>) -> Result<Valuation, Breach>
+pub fn at_rest(alloc: Global, scope: &Scope<'_>) -> Result<Valuation, Violation>
     requires { AreDeclared (scope_meant scope.now) }
     ensures ok { IfOk result (λ v. v ≡ at_rest (place_of (scope_meant scope.now))) }
     ensures err { IfErr result (λ w. w ≡ Memory) }
@@ -95,7 +95,7 @@ pub fn at_rest(alloc: Global, scope: &Scope<'_>) -> Result<Valuation, Breach>
     for decl in &signals {
         match declared(alloc, decl, &scope.params) {
             Ok(signal) => add_signal(&mut rest, alloc, &signal)?,
-            Err(breach) => return Err(breach),
+            Err(violation) => return Err(violation),
         }
     }
     Ok(rest)

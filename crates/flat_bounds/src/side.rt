@@ -4,7 +4,7 @@
 #[derive(Clone, Copy, PartialEq, Eq)]
 pub enum Side {
     /// In a continuous assignment, or in a connection to an output.
-    Equation,
+    Continuous,
     /// In a block.
-    Block,
+    Procedural,
 }

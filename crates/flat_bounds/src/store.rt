@@ -5,10 +5,10 @@ ghost use Rattle.flat_params.specs.Constants.{is_known};
 ghost use Rattle.elab_drive.specs.Parts.{part_meant};
 ghost use Rattle.flat_bounds.specs.Stores.{IsSoundTo, BreaksTo};
 
-use crate::breach::Breach;
 use crate::left::{check_numbers, total_bits};
 use crate::side::Side;
 use crate::taken::check_stored;
+use crate::violation::Violation;
 use elab_drive::Part;
 use vlog_tree::{Expr, Valuation};
 
@@ -19,16 +19,16 @@ pub fn check_store(
     right: &Expr,
     params: &Valuation,
     rest: &Valuation,
-) -> Result<(), Breach>
+) -> Result<(), Violation>
     ensures ok { OnOk result (IsSoundTo side (is_known params.now) rest.now (map part_meant parts.now) right.now) }
     ensures err { IfErr result (BreaksTo side (is_known params.now) rest.now (map part_meant parts.now) right.now) }
 {
     match check_numbers(side, parts, params, rest) {
         Ok(()) => {}
-        Err(breach) => return Err(breach),
+        Err(violation) => return Err(violation),
     }
     match total_bits(parts, rest) {
         Some(total) => check_stored(right, total, params, rest),
-        None => Err(Breach::Length),
+        None => Err(Violation::Length),
     }
 }

@@ -6,27 +6,31 @@ ghost use Rattle.flat_faults.specs.Constants.{alone, stored};
 ghost use Rattle.flat_params.specs.Constants.{is_known};
 ghost use Rattle.flat_bounds.specs.Taken.{IsSound, Breaks, HasSoundShape, taken_at};
 
-use crate::breach::Breach;
 use crate::constant::has_constant_parts;
+use crate::violation::Violation;
 use flat_params::bounds_defined;
 use vlog_tree::{Expr, Valuation};
 use vlog_value::{checked_value, shape_of};
 
 /// The length and the sign of an expression that keeps the rules, divisors of its value apart.
-pub fn sound_shape(expr: &Expr, params: &Valuation, rest: &Valuation) -> Result<(u8, bool), Breach>
+pub fn sound_shape(
+    expr: &Expr,
+    params: &Valuation,
+    rest: &Valuation,
+) -> Result<(u8, bool), Violation>
     ensures ok { IfOk result (λ s. HasSoundShape (is_known params.now) rest.now expr.now s.0 s.1) }
     ensures err { (n : ℕ) (s : Bool) → IfErr result (Breaks (is_known params.now) rest.now (taken_at expr.now n s)) }
 {
     if !has_constant_parts(expr, params) {
-        return Err(Breach::Constant);
+        return Err(Violation::Constant);
     }
     match shape_of(expr, rest) {
         Some(shape) => Ok(shape),
         None => {
             if bounds_defined(expr, rest) {
-                Err(Breach::Length)
+                Err(Violation::Length)
             } else {
-                Err(Breach::Constant)
+                Err(Violation::Constant)
             }
         }
     }
@@ -39,7 +43,7 @@ pub fn check_at(
     signed: bool,
     params: &Valuation,
     rest: &Valuation,
-) -> Result<(), Breach>
+) -> Result<(), Violation>
     requires parts { HasConstantParts (is_known params.now) expr.now }
     requires formed { IsFormed rest.now expr.now }
     requires long { width_of rest.now expr.now ≤ length }
@@ -50,7 +54,7 @@ pub fn check_at(
     let _params = params;
     match checked_value(expr, length, signed, rest) {
         Some(_) => Ok(()),
-        None => Err(Breach::Constant),
+        None => Err(Violation::Constant),
     }
 }
 
@@ -60,24 +64,24 @@ pub fn check_stored(
     least: u8,
     params: &Valuation,
     rest: &Valuation,
-) -> Result<(), Breach>
+) -> Result<(), Violation>
     requires { least ≤ 64 }
     ensures ok { OnOk result (IsSound (is_known params.now) rest.now (stored rest.now least expr.now)) }
     ensures err { IfErr result (Breaks (is_known params.now) rest.now (stored rest.now least expr.now)) }
 {
     match sound_shape(expr, params, rest) {
         Ok((width, signed)) => check_at(expr, width.max(least), signed, params, rest),
-        Err(breach) => Err(breach),
+        Err(violation) => Err(violation),
     }
 }
 
 /// An expression keeps the rules by itself.
-pub fn check_alone(expr: &Expr, params: &Valuation, rest: &Valuation) -> Result<(), Breach>
+pub fn check_alone(expr: &Expr, params: &Valuation, rest: &Valuation) -> Result<(), Violation>
     ensures ok { OnOk result (IsSound (is_known params.now) rest.now (alone rest.now expr.now)) }
     ensures err { IfErr result (Breaks (is_known params.now) rest.now (alone rest.now expr.now)) }
 {
     match sound_shape(expr, params, rest) {
         Ok((width, signed)) => check_at(expr, width, signed, params, rest),
-        Err(breach) => Err(breach),
+        Err(violation) => Err(violation),
     }
 }

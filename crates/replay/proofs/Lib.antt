@@ -1,3 +1,5 @@
 pub mod Putting
 pub mod Rowing
 pub mod Searching
+pub mod Cycling
+pub mod Showing

@@ -2,3 +2,4 @@ pub mod Puts
 pub mod Texts
 pub mod Values
 pub mod Windows
+pub mod Segments

@@ -1,5 +1,5 @@
 // The text of a counterexample.
-ghost use Rattle.std.specs.Prelude.{◌≡◌, ◌∷◌, ◌++◌, [], ◌+◌, ◌^◌, ◌<◌, List, ℕ, Option, codes, length, map, IfErr, OnOk};
+ghost use Rattle.std.specs.Prelude.{◌≡◌, ◌∷◌, ◌++◌, [], ◌+◌, ◌^◌, ◌<◌, List, ℕ, Option, codes, length, map, IfErr, IfOk, OnOk};
 ghost use Rattle.std.specs.Fmt.{decimal};
 ghost use Rattle.word_dag.specs.Text.{line, spaced};
 ghost use Rattle.replay.specs.Puts.{Put, Refused};
@@ -7,9 +7,9 @@ ghost use Rattle.replay.specs.Texts.{cycle_number, row_line, row_lines, start_li
 
 use crate::put::{put, put_number, put_value, put_word};
 use crate::shown::{Shown, Start, Trace};
-use outside::{OutFault, Sink, Text};
+use outside::{MemSink, OutFault, Sink, Text};
 use set_tree::Rows;
-use std::alloc::Global;
+use std::alloc::{AllocError, Global};
 
 // The number of a cycle.
 fn put_cycle<S: Sink>(alloc: Global, sink: &mut S, before: usize, i: usize) -> Result<(), OutFault>
@@ -254,4 +254,15 @@ pub fn print_trace<S: Sink>(
 {
     put_line(alloc, sink, line)?;
     put_shown(alloc, sink, shown)
+}
+
+/// The text of a counterexample, as `print_trace` puts it. Refused for want of memory alone.
+pub fn trace_text(alloc: Global, line: &[u8], shown: &Shown) -> Result<Text, AllocError>
+    ensures { IfOk result (λ text. text ≡ trace_text line.now shown.now) }
+{
+    let mut sink = MemSink::new(alloc, Vec::new(alloc));
+    match print_trace(alloc, line, shown, &mut sink) {
+        Ok(()) => Text::copy(alloc, sink.bytes()),
+        Err(_) => Err(AllocError),
+    }
 }

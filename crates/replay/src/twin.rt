@@ -43,7 +43,8 @@ fn position_of(line: Line) -> u32
     }
 }
 
-fn window_of(set: &Sound, at: u32) -> u8
+/// The window of a property.
+pub fn window_of(set: &Sound, at: u32) -> u8
     requires { IsPosition set.now at }
     ensures window { result ≡ window_of set.now at }
     ensures small { result ≤ 64 }
@@ -127,8 +128,8 @@ fn names_of(alloc: Global, names: &[Name]) -> Result<Rows<Text>, AllocError>
     Ok(texts)
 }
 
-// Rows under the declared names.
-fn trace_of(alloc: Global, set: &Set, rows: Rows<Rows<u64>>) -> Result<Trace, AllocError>
+/// Rows under the declared names.
+pub fn trace_of(alloc: Global, set: &Set, rows: Rows<Rows<u64>>) -> Result<Trace, AllocError>
     ensures names { IfOk result (λ trace. trace.names ≡ declared_names set.now) }
     ensures rows { IfOk result (λ trace. trace.rows ≡ rows) }
 {

@@ -20,8 +20,8 @@ fn side_of(role: Role, side: u8) -> u8
     }
 }
 
-// The low bits of a value.
-fn cut(value: u64, width: u8) -> u64
+/// The low bits of a value.
+pub fn cut(value: u64, width: u8) -> u64
     requires { IsLength width }
     ensures { result ≡ value % 2 ^ width }
 {

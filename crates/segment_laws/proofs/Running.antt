@@ -226,7 +226,8 @@ module _ (d : Parts) (h : IsDesign d) (set : Set) (fits : Fits d set) (k : ℕ) 
       past : nat_lt i k ≡ false
       past = grind arith
 
-  levels_of : (i : ℕ) (resets cycles : List (DesignCycle d)) → i + length resets ≡ k → All (λ c. (word_design d set).is_reset c ≡ true) resets → All (λ c. (word_design d set).is_reset c ≡ false) cycles → HasLevels i (resets ++ cycles)
+  -- reset is active in its cycles alone
+  pub levels_of : (i : ℕ) (resets cycles : List (DesignCycle d)) → i + length resets ≡ k → All (λ c. (word_design d set).is_reset c ≡ true) resets → All (λ c. (word_design d set).is_reset c ≡ false) cycles → HasLevels i (resets ++ cycles)
   levels_of i [] cycles count active inactive = levels_past i cycles (omega (arith, count)) inactive
   levels_of i (c ∷ resets) cycles count active inactive =
       (All-head (λ c. (word_design d set).is_reset c ≡ true) c resets active ∙ sym before, levels_of (suc i) resets cycles (omega (arith, count)) (All-tail (λ c. (word_design d set).is_reset c ≡ true) c resets active) inactive)

@@ -1,1 +1,1 @@
-pub mod Judged
+mod Answering

@@ -1,5 +1,1 @@
-pub mod Faults
-pub mod FilesSeen
-pub mod Report
 pub mod Run
-pub mod Words

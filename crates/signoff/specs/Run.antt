@@ -1,140 +1,152 @@
 -- What a run answers to the words and to what was read, and what goes out.
-use Rattle.std.specs.Prelude.{◌≡◌, ℕ, ◌⊎◌, ◌+◌, ◌<◌, ◌≤◌, false, List, [], ◌∷◌, ◌++◌, length, take, Option, Some, None, IfSome, IsSomeAnd, is_some, slice_get, codes, if◌then◌else◌}
+use Rattle.std.specs.Prelude.{◌≡◌, ◌≢◌, ℕ, suc, ◌⊎◌, ◌+◌, Bool, true, false, List, [], ◌∷◌, ◌++◌, length, take, Option, Some, None, IfSome, IsSomeAnd, codes, if◌then◌else◌}
+use Rattle.std.specs.Fmt.{decimal}
+use Rattle.std.specs.List.{list_any}
 use Rattle.std.specs.Io.KnownBytes.{Appends}
 use Rattle.outside.specs.Faults.{Rose}
-use Rattle.vlog_tree.specs.declared.module.Module.{Module}
-use Rattle.vlog_read.specs.Texts.{SpellsModules, RefusesText}
-use Rattle.set_tree.specs.declared.set.Set.{Set}
-use Rattle.set_read.specs.Read.{Spells, Refuses}
-use Rattle.plain_ops.specs.declared.report.Line.{Line}
-use Rattle.plain_ops.specs.Design.{Design, design_of}
-use Rattle.plain_ops.specs.Plain.{is_plain, is_plain_set, fits}
-use Rattle.plain_ops.specs.Report.{IsRight, IsTooWide}
-use Rattle.signoff.specs.Faults.{read_fault_text, set_fault_text}
-use Rattle.signoff.specs.Report.{all_proved, report_text}
-use Rattle.signoff.specs.Words.{Files}
-use Rattle.signoff.specs.declared.run.Answer.{Answer}
-use Rattle.signoff.specs.declared.run.Judged.{Judged}
-use Rattle.signoff.specs.declared.run.Judged.TheVariants as judged
-use Rattle.signoff.specs.declared.run.Read.{Read}
-use Rattle.signoff.specs.declared.run.Read.TheVariants.{NoModule, NoSet, Both}
+use Rattle.demo_gen.specs.Texts.{module_text, set_text}
+use Rattle.check_faults.specs.declared.fault.CheckFault.{CheckFault}
+use Rattle.check_faults.specs.declared.fault.CheckFault.TheVariants as f
+use Rattle.fault_texts.specs.Texts.{fault_line, status_of}
+use Rattle.replay.specs.declared.shown.Shown.{Shown}
+use Rattle.replay.specs.Texts.{trace_text}
+use Rattle.reports.specs.declared.book.Line.{Line}
+use Rattle.reports.specs.declared.book.Verdict.{Verdict}
+use Rattle.reports.specs.declared.book.Verdict.TheVariants as v
+use Rattle.reports.specs.declared.report.Report.{Report}
+use Rattle.reports.specs.declared.which.Which.{Which}
+use Rattle.reports.specs.declared.which.Which.TheVariants as w
+use Rattle.desk_core.specs.Checks.{IsReport, Refuses}
+use Rattle.reports.specs.Reports.{last_line}
+use Rattle.command_words.specs.declared.action.Asked.{Asked}
+use Rattle.command_words.specs.declared.action.Asked.TheVariants as a
+use Rattle.command_words.specs.declared.action.Command.{Command}
+use Rattle.command_words.specs.declared.action.Command.TheVariants as c
+use Rattle.command_words.specs.declared.action.Job.{Job}
+use Rattle.signoff.specs.declared.answer.Answer.{Answer}
+use Rattle.signoff.specs.declared.texts.Counts.{Counts}
+use Rattle.signoff.specs.declared.files.Read.{Read}
+use Rattle.signoff.specs.declared.files.Read.TheVariants.{NoModule, NoSet, Both}
 
--- the lines are those of the module and of the set, each with its right verdict; where all are proved every constrained run
--- from reset satisfies the set
-abbrev pub AreLines : Module → Set → List Line → Type 0
-AreLines «module» set lines = (design : Design) × (design_of «module» ≡ Some design) × IsRight design set lines
+-- ---- reports
 
--- the line of reset or of an operation has more than 16 free bits
-abbrev pub IsWide : Module → Set → Type 0
-IsWide «module» set = (design : Design) × (design_of «module» ≡ Some design) × IsTooWide design set
+abbrev pub is_proved : Verdict → Bool
+is_proved v.Proved = true
+is_proved v.Refuted = false
+is_proved v.Spent = false
 
--- the module isn't plain
-abbrev pub IsNotPlain : Module → Type 0
-IsNotPlain «module» = (design : Design) → design_of «module» ≡ Some design → is_plain design ≡ false
+abbrev pub is_refuted : Verdict → Bool
+is_refuted v.Proved = false
+is_refuted v.Refuted = true
+is_refuted v.Spent = false
 
--- the set doesn't fit the module
-abbrev pub DoesNotFit : Module → Set → Type 0
-DoesNotFit «module» set = (design : Design) → design_of «module» ≡ Some design → fits «module».name design set ≡ false
+abbrev pub is_spent : Verdict → Bool
+is_spent v.Proved = false
+is_spent v.Refuted = false
+is_spent v.Spent = true
 
--- what a module and a set come to
-abbrev pub DecidesOne : Module → Set → Judged → Type 0
-DecidesOne «module» set judged.NoPlainModule = IsNotPlain «module»
-DecidesOne «module» set judged.NoPlainSet = is_plain_set set ≡ false
-DecidesOne «module» set judged.NoFit = DoesNotFit «module» set
-DecidesOne «module» set judged.Wide = IsWide «module» set
-DecidesOne «module» set (judged.Lines lines) = AreLines «module» set lines
-DecidesOne «module» set judged.LongModule = ⊥
-DecidesOne «module» set (judged.Module fault) = ⊥
-DecidesOne «module» set judged.LongSet = ⊥
-DecidesOne «module» set (judged.Set fault) = ⊥
+-- 1 where a line is refuted, else 10 where one is spent, else 0
+abbrev pub status_from : List Verdict → ℕ
+status_from vs = if list_any is_refuted vs then 1 else if list_any is_spent vs then 10 else 0
 
--- the one module of a list
-pub record IsOnly (ms : List Module) («module» : Module) : Type 0 where
-  pub one : length ms ≡ 1
-  pub first : slice_get ms 0 ≡ Some «module»
+-- how many verdicts are such
+abbrev pub count_of : (Verdict → Bool) → List Verdict → ℕ
+count_of is [] = 0
+count_of is (v ∷ vs) = if is v then suc (count_of is vs) else count_of is vs
 
--- what modules and a set come to: only one module is plain
-abbrev pub Decides : List Module → Set → Judged → Type 0
-Decides ms set judged.NoPlainModule = («module» : Module) → IsOnly ms «module» → IsNotPlain «module»
-Decides ms set judged.NoPlainSet = is_plain_set set ≡ false
-Decides ms set judged.NoFit = («module» : Module) × IsOnly ms «module» × DoesNotFit «module» set
-Decides ms set judged.Wide = («module» : Module) × IsOnly ms «module» × IsWide «module» set
-Decides ms set (judged.Lines lines) = («module» : Module) × IsOnly ms «module» × AreLines «module» set lines
-Decides ms set judged.LongModule = ⊥
-Decides ms set (judged.Module fault) = ⊥
-Decides ms set judged.LongSet = ⊥
-Decides ms set (judged.Set fault) = ⊥
+-- a refuted line's counterexample stands for the report
+abbrev pub traced : Option Shown → List ℕ → List ℕ → List ℕ
+traced None name text = text
+traced (Some shown) name text = trace_text name shown
 
--- both texts are at most 1,048,576 bytes long, and spell these modules and this set
-pub record AreRead (m s : List ℕ) (ms : List Module) (set : Set) : Type 0 where
-  pub short_module : length m ≤ 1048576
-  pub short_set : length s ≤ 1048576
-  pub modules : SpellsModules m ms
-  pub set_spelt : Spells s set
+abbrev pub first_traced : List Line → List ℕ → List ℕ
+first_traced [] text = text
+first_traced (l ∷ lines) text = traced l.trace l.name text
 
--- what the modules and the set that two texts spell come to
-abbrev pub ReadAnd : List ℕ → List ℕ → Judged → Type 0
-ReadAnd m s j = (ms : List Module) × (set : Set) × AreRead m s ms set × Decides ms set j
+abbrev pub report_bytes : Asked → List Line → Report → List ℕ
+report_bytes a.Ops lines r = r.text
+report_bytes a.Check lines r = r.text
+report_bytes (a.Trace name) lines r = first_traced lines r.text
 
--- the module text spells modules
-abbrev pub IsModuleRead : List ℕ → Type 0
-IsModuleRead m = (length m ≤ 1048576) × (ms : List Module) × SpellsModules m ms
+-- a number and a word
+abbrev pub counted_word : ℕ → List ℕ → List ℕ
+counted_word n word = decimal n ++ word
 
--- what two texts come to: each refusal by its cause, the module's text first
-abbrev pub Judges : List ℕ → List ℕ → Judged → Type 0
-Judges m s judged.LongModule = 1048576 < length m
-Judges m s (judged.Module fault) = (length m ≤ 1048576) × RefusesText m fault
-Judges m s judged.LongSet = IsModuleRead m × (1048576 < length s)
-Judges m s (judged.Set fault) = IsModuleRead m × (length s ≤ 1048576) × Refuses s fault
-Judges m s judged.NoPlainModule = ReadAnd m s judged.NoPlainModule
-Judges m s judged.NoPlainSet = ReadAnd m s judged.NoPlainSet
-Judges m s judged.NoFit = ReadAnd m s judged.NoFit
-Judges m s judged.Wide = ReadAnd m s judged.Wide
-Judges m s (judged.Lines lines) = ReadAnd m s (judged.Lines lines)
+-- the summary of a generated check
+abbrev pub summary_line : ℕ → List Verdict → List ℕ
+summary_line n vs =
+    (((((codes "demo " ++ counted_word n (codes ": ")) ++ counted_word (length vs) (codes " lines, ")) ++ counted_word (count_of is_proved vs) (codes " proved, "))
+    ++ counted_word (count_of is_refuted vs) (codes " refuted, ")) ++ counted_word (count_of is_spent vs) (codes " spent\n"))
+
+abbrev pub summary : ℕ → Report → List ℕ
+summary n r = summary_line n r.verdicts.items ++ last_line w.All r.complete
+
+abbrev pub counted : List Verdict → Counts
+counted vs = record { proved = count_of is_proved vs; refuted = count_of is_refuted vs; spent = count_of is_spent vs }
+
+-- ---- answers
 
 abbrev pub refusal : ℕ → List ℕ → Answer
-refusal status line = record { status = status; bytes = line ++ 10 ∷ []; lines = None }
+refusal status line = record { status = status; bytes = line ++ 10 ∷ []; reports = false }
 
--- the report of lines
-abbrev pub report_answer : List Line → Answer
-report_answer lines = record { status = if all_proved lines then 0 else 1; bytes = report_text lines; lines = Some lines }
+abbrev pub reported : List Verdict → List ℕ → Answer
+reported vs bytes = record { status = status_from vs; bytes = bytes; reports = true }
 
-abbrev pub answer_of : Judged → Answer
-answer_of judged.LongModule = refusal 3 (codes "module: TooLong")
-answer_of (judged.Module fault) = refusal 3 (codes "module: " ++ read_fault_text fault)
-answer_of judged.LongSet = refusal 4 (codes "set: Limit long")
-answer_of (judged.Set fault) = refusal 4 (codes "set: " ++ set_fault_text fault)
-answer_of judged.NoPlainModule = refusal 3 (codes "module: Later")
-answer_of judged.NoPlainSet = refusal 4 (codes "set: Later")
-answer_of judged.NoFit = refusal 4 (codes "set: Later")
-answer_of judged.Wide = refusal 3 (codes "module: TooWide")
-answer_of (judged.Lines lines) = report_answer lines
+abbrev pub which_of : Asked → Which
+which_of a.Ops = w.Ops
+which_of a.Check = w.All
+which_of (a.Trace name) = w.One name
 
--- the answer to words that name these files, or to words that are no command
-abbrev pub Answers : Option Files → Read → Answer → Type 0
-Answers None read a = a ≡ refusal 2 (codes "usage")
-Answers (Some files) NoModule a = a ≡ refusal 6 (codes "read: " ++ files.module)
-Answers (Some files) NoSet a = a ≡ refusal 6 (codes "read: " ++ files.set)
-Answers (Some files) (Both m s) a = (j : Judged) × Judges m s j × (a ≡ answer_of j)
+-- a stage refuses the two texts
+abbrev pub RefusesTexts : List ℕ → List ℕ → Which → List Line → Answer → Type 0
+RefusesTexts m s which lines answer =
+    (fault : CheckFault) × Refuses m s which fault × (fault ≢ f.Memory) × (lines ≡ []) × (answer ≡ refusal (status_of fault) (fault_line fault))
+
+-- the answer has what is said of the report of the two texts, whose lines are those of the book
+abbrev pub ReportsTexts : List ℕ → List ℕ → Which → ℕ → (Report → List ℕ) → List Line → Answer → Type 0
+ReportsTexts m s which budget said lines answer = (r : Report) × IsReport m s which budget lines r × (answer ≡ reported r.verdicts.items (said r))
+
+abbrev pub AnswersTexts : List ℕ → List ℕ → Which → ℕ → (Report → List ℕ) → List Line → Answer → Type 0
+AnswersTexts m s which budget said lines answer = RefusesTexts m s which lines answer ⊎ ReportsTexts m s which budget said lines answer
+
+-- a refusal of what has this name, and no line in the book
+abbrev pub RefusesBy : ℕ → List ℕ → List Line → Answer → Type 0
+RefusesBy status line lines answer = (lines ≡ []) × (answer ≡ refusal status line)
+
+abbrev pub AnswersJob : Job → Read → List Line → Answer → Type 0
+AnswersJob j NoModule lines answer = RefusesBy 6 (codes "read: " ++ j.module) lines answer
+AnswersJob j NoSet lines answer = RefusesBy 6 (codes "read: " ++ j.set) lines answer
+AnswersJob j (Both m s) lines answer = AnswersTexts m s (which_of j.asked) j.budget (report_bytes j.asked lines) lines answer
+
+-- the answer to a command, or to words that are none, with the lines of the book
+abbrev pub Answers : Option Command → Read → List Line → Answer → Type 0
+Answers None read lines answer = RefusesBy 2 (codes "usage") lines answer
+Answers (Some (c.Texts job)) read lines answer = AnswersJob job read lines answer
+Answers (Some (c.Demo n)) read lines answer = AnswersTexts (module_text n) (set_text n) w.All 20000 (summary n) lines answer
+
+-- ---- files
 
 -- the first bytes of the file, where the shelf tells
 abbrev pub IsFile : Option (List ℕ → Option (List ℕ)) → List ℕ → List ℕ → Type 0
 IsFile shelf name text = IfSome shelf (λ files. IsSomeAnd (files name) (λ file. text ≡ take (1048576 + 1) file))
 
 -- what was read is what the shelf has; it failed only where its count rose, and the module is read first
-abbrev pub IsRead : Option (List ℕ → Option (List ℕ)) → ℕ → ℕ → Files → Read → Type 0
-IsRead shelf before now files NoModule = Rose before now
-IsRead shelf before now files NoSet = Rose before now
-IsRead shelf before now files (Both m s) = IsFile shelf files.module m × IsFile shelf files.set s
+abbrev pub IsRead : Option (List ℕ → Option (List ℕ)) → ℕ → ℕ → Job → Read → Type 0
+IsRead shelf before now j NoModule = Rose before now
+IsRead shelf before now j NoSet = Rose before now
+IsRead shelf before now j (Both m s) = IsFile shelf j.module m × IsFile shelf j.set s
 
--- what was read for a command; without one nothing is
-abbrev pub Reads : Option (List ℕ → Option (List ℕ)) → ℕ → ℕ → Option Files → Read → Type 0
+-- what was read for a command; without files nothing is
+abbrev pub Reads : Option (List ℕ → Option (List ℕ)) → ℕ → ℕ → Option Command → Read → Type 0
 Reads shelf before now None read = now ≡ before
-Reads shelf before now (Some files) read = IsRead shelf before now files read
+Reads shelf before now (Some (c.Texts job)) read = IsRead shelf before now job read
+Reads shelf before now (Some (c.Demo n)) read = now ≡ before
+
+-- ---- output
 
 -- the status where the sink refuses the bytes: a refusal keeps its own
 abbrev pub refused_status : Answer → ℕ
-refused_status a = if is_some a.lines then 7 else a.status
+refused_status answer = if answer.reports then 7 else answer.status
 
 -- a prefix of these bytes went out
 abbrev pub AppendsPrefix : Option (List ℕ) → Option (List ℕ) → List ℕ → Type 0
@@ -142,14 +154,6 @@ AppendsPrefix old new bytes = (n : ℕ) × Appends old new (take n bytes)
 
 -- the answer went out whole; or the sink failed, and a prefix went out; or memory ran out on the way
 abbrev pub Delivers : Answer → ℕ → ℕ → ℕ → Option (List ℕ) → Option (List ℕ) → Type 0
-Delivers a status before now old new = ((status ≡ a.status) × Appends old new a.bytes)
-    ⊎ (((status ≡ refused_status a) × Rose before now × AppendsPrefix old new a.bytes)
-    ⊎ ((status ≡ 70) × AppendsPrefix old new a.bytes))
-
--- the lines of a report; none for a refusal
-abbrev pub listed : Option (List Line) → List Line
-listed None = []
-listed (Some lines) = lines
-
-abbrev pub lines_of : Answer → List Line
-lines_of a = listed a.lines
+Delivers answer status before now old new = ((status ≡ answer.status) × Appends old new answer.bytes)
+    ⊎ (((status ≡ refused_status answer) × Rose before now × AppendsPrefix old new answer.bytes)
+    ⊎ ((status ≡ 70) × AppendsPrefix old new answer.bytes))

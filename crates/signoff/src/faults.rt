@@ -1,59 +1,164 @@
-// How the readers' refusals are written: the name of the fault, and then what it is about.
-ghost use Rattle.std.specs.Prelude.{◌≡◌, ◌++◌, codes, OnOk, IfOk};
-ghost use Rattle.std.specs.Fmt.{decimal};
-ghost use Rattle.signoff.specs.Faults.{read_fault_text, set_fault_text};
+// Each fault of modules, and modules beside them that have none.
+use crate::examples::{COUNTER, COUNTER_SET};
+use crate::rows::{plain, row, with};
+use std::test::Fail;
 
-use outside::Text;
-use set_read::SetFault;
-use std::alloc::{AllocError, Global};
-use vlog_lex::ReadFault;
+const REPORT: &[u8] = b"proved reset\nproved op step\nproved op hold\nsatisfied\n";
 
-/// The place of a byte behind a name.
-fn place(alloc: Global, name: &[u8], at: usize) -> Result<Text, AllocError>
-    ensures { IfOk result (λ text. text ≡ name.now ++ codes " at " ++ decimal at) }
-{
-    let mut text = name.to_vec(alloc)?;
-    text.extend_from_slice(b" at ")?;
-    text.extend_from_slice(at.to_string(alloc)?.as_bytes())?;
-    Ok(Text::new(text))
-}
-
-/// A word behind a name.
-fn word(alloc: Global, name: &[u8], word: &[u8]) -> Result<Text, AllocError>
-    ensures { IfOk result (λ text. text ≡ name.now ++ codes " " ++ word.now) }
-{
-    let mut text = name.to_vec(alloc)?;
-    text.push(b' ')?;
-    text.extend_from_slice(word)?;
-    Ok(Text::new(text))
-}
-
-/// A fault of the reader of modules.
-pub fn read_fault_text(alloc: Global, fault: ReadFault) -> Result<Text, AllocError>
-    ensures { IfOk result (λ text. text ≡ read_fault_text fault) }
-{
-    match fault {
-        ReadFault::Bytes(at) => place(alloc, b"Bytes", at),
-        ReadFault::Number(at) => place(alloc, b"Number", at),
-        ReadFault::Outside(at) => place(alloc, b"Outside", at),
-        ReadFault::Syntax(at) => place(alloc, b"Syntax", at),
-        ReadFault::Deep => Text::copy(alloc, b"Deep"),
-        ReadFault::Memory => Text::copy(alloc, b"Memory"),
+#[test]
+fn faults(rt: HostRuntime) -> Result<(), Fail> {
+    let rows: [(&'static [u8], &[u8]); 38] = [
+        (b"assign y = en; endmodule", b"module: Unknown y\n"),
+        (b"wire en; endmodule", b"module: Twice en\n"),
+        (b"wire [en:0] w; endmodule", b"module: Constant w\n"),
+        (b"wire [1:2] w; endmodule", b"module: Constant w\n"),
+        (b"wire [0:3] w; endmodule", b"module: Constant w\n"),
+        (
+            b"wire w; assign w = q / en; endmodule",
+            b"module: Constant counter\n",
+        ),
+        (
+            b"wire [1:0] w; assign w = q / 2'd2; endmodule",
+            b"module: Constant counter\n",
+        ),
+        (
+            b"wire [3:0] w; assign w[q] = en; endmodule",
+            b"module: Constant counter\n",
+        ),
+        (
+            b"wire w; assign w = q[2:1]; endmodule",
+            b"module: Width counter\n",
+        ),
+        (b"wire g; assign g = clk; endmodule", b"module: Clock clk\n"),
+        (
+            b"reg y; always @(posedge en) y <= rst; endmodule",
+            b"module: Clock en\n",
+        ),
+        (b"input z; endmodule", b"module: Port z\n"),
+        (b"nope u(en); endmodule", b"module: Unknown u\n"),
+        (
+            b"counter u(clk, rst, en, q); endmodule",
+            b"module: Recursion counter\n",
+        ),
+        (
+            b"sub u(en, rst); endmodule module sub(input a); endmodule",
+            b"module: Port u\n",
+        ),
+        (
+            b"sub u(.a(en), .a(rst)); endmodule module sub(input a); endmodule",
+            b"module: Port u.a\n",
+        ),
+        (
+            b"sub u(.b(en)); endmodule module sub(input a); endmodule",
+            b"module: Unknown u.b\n",
+        ),
+        (
+            b"sub u(.a(en), .y(en & rst)); endmodule module sub(input a, output y); assign y = a; endmodule",
+            b"module: Port u.y\n",
+        ),
+        (
+            b"sub #(.L(2)) u(.a(en)); endmodule module sub(input a); localparam L = 1; endmodule",
+            b"module: Unknown u.L\n",
+        ),
+        (
+            b"sub #(en) u(.a(q)); endmodule module sub #(parameter W = 4) (input [W-1:0] a); endmodule",
+            b"module: Constant u.W\n",
+        ),
+        (
+            b"sub #(70) u(.a(q)); endmodule module sub #(parameter W = 4) (input [W-1:0] a); endmodule",
+            b"module: Width u.a\n",
+        ),
+        (
+            b"sub #(.W(2), .W(3)) u(.a(q)); endmodule module sub #(parameter W = 4) (input [W-1:0] a); endmodule",
+            b"module: Twice u.W\n",
+        ),
+        (b"reg [1:0] m [0:3]; endmodule", b"module: Later m\n"),
+        (
+            b"wire w; assign w = en; assign w = rst; endmodule",
+            b"module: Drivers w 0\n",
+        ),
+        (
+            b"wire w; assign {w, w} = {en, rst}; endmodule",
+            b"module: Drivers w 0\n",
+        ),
+        (
+            b"reg y; always @(posedge clk) y <= en; always @(posedge clk) y <= rst; endmodule",
+            b"module: Drivers y 0\n",
+        ),
+        (
+            b"wire w, z; assign z = w; endmodule",
+            b"module: Undriven w 0\n",
+        ),
+        (
+            b"reg y; always @(en) y = en & rst; endmodule",
+            b"module: Sensitivity rst\n",
+        ),
+        (b"reg y; always @* y <= en; endmodule", b"module: Kind y\n"),
+        (
+            b"reg y; always @(posedge clk) y = en; endmodule",
+            b"module: Kind y\n",
+        ),
+        (b"wire w; always @* w = en; endmodule", b"module: Kind w\n"),
+        (b"reg y; assign y = en; endmodule", b"module: Kind y\n"),
+        (
+            b"reg y; always @* if (en) y = rst; endmodule",
+            b"module: Latch y\n",
+        ),
+        (
+            b"reg y; always @* casez (en) 1'b0: y = rst; 1'b1: y = en; endcase endmodule",
+            b"module: Latch y\n",
+        ),
+        (
+            b"reg y; always @* case (q) 2'd0, 2'd1: y = en; 2'd2: y = rst; endcase endmodule",
+            b"module: Latch y\n",
+        ),
+        (
+            b"reg [3:0] y; always @* y[q] = en; endmodule",
+            b"module: Latch y\n",
+        ),
+        (b"wire w; assign w = w; endmodule", b"module: Loop w\n"),
+        (
+            b"wire a; assign a = en ? a : rst; endmodule",
+            b"module: Loop a\n",
+        ),
+    ];
+    for (items, line) in rows {
+        let module = with(COUNTER, b"endmodule", items);
+        row(
+            &rt,
+            &["ops", "M", "S"],
+            module,
+            plain(COUNTER_SET),
+            (3, line),
+        )?;
     }
+    Ok(())
 }
 
-/// A fault of the reader of sets.
-pub fn set_fault_text(alloc: Global, fault: &SetFault) -> Result<Text, AllocError>
-    ensures { IfOk result (λ text. text ≡ set_fault_text fault.now) }
-{
-    match fault {
-        SetFault::Bytes(at) => place(alloc, b"Bytes", *at),
-        SetFault::Number(at) => place(alloc, b"Number", *at),
-        SetFault::Syntax(at) => place(alloc, b"Syntax", *at),
-        SetFault::Unknown(name) => word(alloc, b"Unknown", name.bytes()),
-        SetFault::Twice(name) => word(alloc, b"Twice", name.bytes()),
-        SetFault::Limit(quantity) => word(alloc, b"Limit", quantity.word()),
-        SetFault::Deep => Text::copy(alloc, b"Deep"),
-        SetFault::Memory => Text::copy(alloc, b"Memory"),
+#[test]
+fn faultless(rt: HostRuntime) -> Result<(), Fail> {
+    let rows: [&'static [u8]; 11] = [
+        b"reg y; always @* if (en) y = rst; else y = en; endmodule",
+        b"wire [1:0] w; assign w[0] = en; assign w[1] = rst; endmodule",
+        b"reg y; always @(en, rst) y = en & rst; endmodule",
+        b"reg y; always @* case (en) 1'b0: y = rst; 1'b1: y = en; endcase endmodule",
+        b"reg y; always @* case (q) 2'd0, 2'd1: y = en; default: y = rst; endcase endmodule",
+        b"reg [3:0] y; always @* begin y = 4'd0; y[q] = en; end endmodule",
+        b"wire [3:0] w; assign w = {q, q}; wire z; assign z = w[q]; endmodule",
+        b"wire w; assign w = q[3]; endmodule",
+        b"reg t; always @* begin t = en; t = t ^ rst; end endmodule",
+        b"wire w; sub u(.a(en), .y(w)); endmodule module sub(input a, output y); assign y = a; endmodule",
+        b"sub #(2) u(.a(q)); endmodule module sub #(parameter W = 4) (input [W-1:0] a); endmodule",
+    ];
+    for items in rows {
+        let module = with(COUNTER, b"endmodule", items);
+        row(
+            &rt,
+            &["ops", "M", "S"],
+            module,
+            plain(COUNTER_SET),
+            (0, REPORT),
+        )?;
     }
+    Ok(())
 }

@@ -1,38 +1,40 @@
 //! signoff: reads a Verilog module and a set of operation properties, decides the lines of their report, and prints it.
 #![tactic(auto)]
 
-mod book;
-mod faults;
-mod report;
-mod run;
+mod answer;
 #[cfg(test)]
-mod tests;
-mod words;
+mod examples;
+#[cfg(test)]
+mod faults;
+mod files;
+#[cfg(test)]
+mod rows;
+mod run;
+mod texts;
 
-use book::Book;
-use outside::{Console, FileShelf};
+use outside::{Console, FileShelf, QuietGate};
+use reports::Book;
 use run::signoff;
 use std::alloc::AllocError;
 use std::env;
 use std::process::ExitCode;
 
-fn main(rt: HostRuntime) -> ExitCode {
-    ExitCode::from(run_words(&rt))
-}
-
 /// Makes the real objects, and ends with the status of the top call.
-fn run_words(rt: &HostRuntime) -> u8 {
-    let words = words_of(rt).unwrap_or(Vec::new(rt.alloc()));
-    match objects(rt) {
+fn main(rt: HostRuntime) -> ExitCode {
+    let words = words_of(&rt).unwrap_or(Vec::new(rt.alloc()));
+    let status = match objects(&rt) {
         Ok((mut shelf, mut out)) => signoff(
+            &rt,
             rt.alloc(),
             &words,
             &mut shelf,
             &mut out,
+            &QuietGate,
             &mut Book::new(rt.alloc()),
         ),
         Err(AllocError) => 70,
-    }
+    };
+    ExitCode::from(status)
 }
 
 /// The words after the program's name. None: they aren't text, and count as wrong ones.

@@ -29,7 +29,7 @@ use Rattle.unroll.specs.Unrolled.{AreSegments, IsSourceWord}
 use Rattle.unroll.proofs.Sourcing.{frees_again}
 
 -- a place is that of the signal that is there
-place_is : (d : Parts) (x : Name) (place : ℕ) (o : Option Net) (n : Net) → net_at d.nets x.name ≡ o → o ≡ Some n → IsPlaceOf d x place → place ≡ n.node
+pub place_is : (d : Parts) (x : Name) (place : ℕ) (o : Option Net) (n : Net) → net_at d.nets x.name ≡ o → o ≡ Some n → IsPlaceOf d x place → place ≡ n.node
 place_is d x place o n is some at =
     let here : place_at (Some n) ≡ Some place = subst (λ (p : Option Net). place_at p ≡ Some place) (is ∙ some) at in
     cc
@@ -88,7 +88,7 @@ module _ (d : Parts) (h : IsDesign d) (props : Set) (fits : Fits d props) where
         })
 
 -- one row more
-rows_push : (d : Parts) (props : Set) (k : ℕ) (e : Naming) (i n : ℕ) → rows_from d props k e i (n + 1) ≡ rows_from d props k e i n ++ row_at d props k e (i + n) ∷ []
+pub rows_push : (d : Parts) (props : Set) (k : ℕ) (e : Naming) (i n : ℕ) → rows_from d props k e i (n + 1) ≡ rows_from d props k e i n ++ row_at d props k e (i + n) ∷ []
 rows_push d props k e i zero = let here : i + 0 ≡ i = omega arith in rw here refl
 rows_push d props k e i (suc n) =
     let next : i + suc n ≡ suc i + n = omega arith in

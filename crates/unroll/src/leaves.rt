@@ -28,8 +28,8 @@ pub struct Moment {
     pub resets: u8,
 }
 
-// The cycle's number.
-fn cycle_of(moment: Moment) -> i16
+/// The cycle's number: 0 is the first in which reset is inactive.
+pub fn cycle_of(moment: Moment) -> i16
     ensures { result ≡ cycle_number moment.resets moment.position }
 {
     i16::from(moment.position) - i16::from(moment.resets)
@@ -59,8 +59,8 @@ fn free_node(
     Ok(node)
 }
 
-// The level of the reset input.
-fn level(set: &Set, active: bool) -> u64
+/// The level of the reset input where reset is active, or where it isn't.
+pub fn level(set: &Set, active: bool) -> u64
     ensures { result ≡ level set.now active }
 {
     let high = if active { set.high } else { !set.high };

@@ -10,4 +10,7 @@ mod part;
 mod rows;
 mod segment;
 
+pub use leaves::{Moment, cycle_of, level};
+pub use lines::lines_of;
 pub use obs::design_obs;
+pub use segment::places_of;

@@ -15,5 +15,5 @@ pub use dag::Dag;
 pub use extraction::extract;
 pub use node::{Node, Op};
 pub use ob::{Named, Ob, copy_ob};
-pub use values::{Table, fits, operate, value_at};
+pub use values::{Table, fits, operate, value_at, value_of};
 pub use writing::text;

@@ -40,9 +40,9 @@ fn word_of(words: &[Word], number: u64) -> Word
     words[number as usize]
 }
 
-// The value of a node from those of the nodes before it; a free word has the given one.
+/// The value of a node from those of the nodes before it; a free word has the given one.
 #[tactic(auto, using(crate::proofs::Operands::operands))]
-fn value_of(node: &Node, given: u64, words: &[Word]) -> Word
+pub fn value_of(node: &Node, given: u64, words: &[Word]) -> Word
     requires node { FitsNode (widths_of words.now) node.now }
     requires given { FitsFree node.now given }
     ensures { result ≡ node_value given words.now node.now }

@@ -3,7 +3,7 @@ use Rattle.std.specs.List.{flat_map}
 use Rattle.vlog_runs.specs.Scopes.{connection, connections, place_of}
 use Rattle.flat_laws.specs.Flattened.{moved_link}
 use Rattle.flat_scopes.specs.Borrowed.{given_meant, inner_meant}
-use Rattle.elab_flat.specs.Scoped.{scope_meant}
+use Rattle.flat_instances.specs.Unfolding.{scope_meant}
 use Rattle.elab_flat.proofs.link.add_connections.Given as goal
 
 abbrev pub invariant-loop-gift : goal.invariant-loop-gift

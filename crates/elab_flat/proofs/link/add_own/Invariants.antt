@@ -3,7 +3,7 @@ use Rattle.vlog_runs.specs.Contents.{assigns_in}
 use Rattle.vlog_runs.specs.Scopes.{own_link, place_of}
 use Rattle.flat_laws.specs.Flattened.{moved_link}
 use Rattle.flat_scopes.specs.Borrowed.{assigned_meant}
-use Rattle.elab_flat.specs.Scoped.{scope_meant}
+use Rattle.flat_instances.specs.Unfolding.{scope_meant}
 use Rattle.elab_flat.proofs.link.add_own.Given as goal
 
 abbrev pub invariant-loop-assigned : goal.invariant-loop-assigned

@@ -5,7 +5,7 @@ use Rattle.vlog_runs.specs.Contents.{Block}
 use Rattle.vlog_runs.specs.Scopes.{place_of}
 use Rattle.flat_scopes.specs.Borrowed.{block_meant}
 use Rattle.flat_instances.specs.Unfolding.{scope_meant}
-use Rattle.flat_bounds.specs.declared.breach.Breach.{Breach}
+use Rattle.flat_bounds.specs.declared.violation.Violation.{Violation}
 use Rattle.flat_bounds.specs.Taken.{Fails}
 use Rattle.flat_bounds.specs.Usages.{BreaksBody}
 use Rattle.flat_bounds.proofs.block.check_blocks.Goals as goal
@@ -13,4 +13,4 @@ use Rattle.flat_bounds.proofs.block.check_blocks.Goals as goal
 pub returns-clause-err : goal.returns-clause-err
 returns-clause-err c =
     let p = place_of (scope_meant c.args.scope.now) in
-    subst (λ (xs : List Block). IfErr c.check_each.result (Fails (λ (w : Breach). (x : Block) × Among xs x × BreaksBody p x.body w))) (ap (map block_meant) c.deref.ensures.value ∙ c.in_ok-blocks.ensures) c.check_each.ensures.err
+    subst (λ (xs : List Block). IfErr c.check_each.result (Fails (λ (w : Violation). (x : Block) × Among xs x × BreaksBody p x.body w))) (ap (map block_meant) c.deref.ensures.value ∙ c.in_ok-blocks.ensures) c.check_each.ensures.err

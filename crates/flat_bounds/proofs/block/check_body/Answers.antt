@@ -17,4 +17,4 @@ returns-in-Err-clause-err c =
     let u = site_meant c.site-item.result in
     fails_map (BreaksUsage p u) (BreaksBody p c.args.body.now)
     (λ w h. (u, meant_at site_meant c.deref-site-items.result.now c.in_ok-sites.sites.items (usages c.args.body.now) c.loop-site.site-index c.site-item.result c.loop-site-test.true c.site-item.is c.deref-site-items.ensures.value c.in_ok-sites.ensures, h))
-    c.in-Err.breach c.in-Err.ensures.err
+    c.in-Err.violation c.in-Err.ensures.err

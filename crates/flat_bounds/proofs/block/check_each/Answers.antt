@@ -5,7 +5,7 @@ use Rattle.vlog_runs.specs.Scopes.{place_of}
 use Rattle.flat_scopes.specs.Borrowed.{block_meant}
 use Rattle.flat_instances.specs.Unfolding.{scope_meant}
 use Rattle.elab_drive.proofs.Naming.{meant_at}
-use Rattle.flat_bounds.specs.declared.breach.Breach.{Breach}
+use Rattle.flat_bounds.specs.declared.violation.Violation.{Violation}
 use Rattle.flat_bounds.specs.Usages.{BreaksBody}
 use Rattle.flat_bounds.proofs.Takes.{fails_map}
 use Rattle.flat_bounds.proofs.block.check_each.Goals as goal
@@ -18,5 +18,5 @@ pub returns-in-Err-clause-err : goal.returns-in-Err-clause-err
 returns-in-Err-clause-err c =
     let p = place_of (scope_meant c.args.scope.now) in
     let k = block_meant c.block-item.result in
-    fails_map (BreaksBody p k.body) (λ (w : Breach). (x : Block) × Among (map block_meant c.args.blocks.now) x × BreaksBody p x.body w)
-    (λ w h. (k, meant_at block_meant c.args.blocks.now c.args.blocks.now _ c.loop-block.block-index c.block-item.result c.loop-block-test.true c.block-item.is refl refl, h)) c.in-Err.breach c.in-Err.ensures.err
+    fails_map (BreaksBody p k.body) (λ (w : Violation). (x : Block) × Among (map block_meant c.args.blocks.now) x × BreaksBody p x.body w)
+    (λ w h. (k, meant_at block_meant c.args.blocks.now c.args.blocks.now _ c.loop-block.block-index c.block-item.result c.loop-block-test.true c.block-item.is refl refl, h)) c.in-Err.violation c.in-Err.ensures.err

@@ -44,8 +44,8 @@ returns-in_ok-parts-in-Store-clause-ok c =
     let a : Assign = record { left = c.in-Store.left.now; right = c.in-Store.right.now } in
     let qs = map part_meant c.deref.result.now in
     subst (λ (z : Site). OnOk r (IsSoundUsage p (site_meant z))) (sym c.in-Store.is)
-    (ok_then r (IsSoundTo d.Block test c.args.rest.now qs a.right) (IsSoundStore d.Block p a) c.check_store.ensures.ok
-    (store_sound d.Block p a qs c.args.rest.now (ap (map part_meant) c.deref.ensures.value ∙ c.in_ok-parts-in-Store.ensures) c.requires.rest))
+    (ok_then r (IsSoundTo d.Procedural test c.args.rest.now qs a.right) (IsSoundStore d.Procedural p a) c.check_store.ensures.ok
+    (store_sound d.Procedural p a qs c.args.rest.now (ap (map part_meant) c.deref.ensures.value ∙ c.in_ok-parts-in-Store.ensures) c.requires.rest))
 
 pub returns-in_ok-parts-in-Store-clause-err : goal.returns-in_ok-parts-in-Store-clause-err
 returns-in_ok-parts-in-Store-clause-err c =
@@ -56,6 +56,6 @@ returns-in_ok-parts-in-Store-clause-err c =
     let qs = map part_meant c.deref.result.now in
     let names = subst (λ (z : Site). UsesSignals p (site_meant z)) c.in-Store.is c.requires.signals in
     subst (λ (z : Site). IfErr r (Fails (BreaksUsage p (site_meant z)))) (sym c.in-Store.is)
-    (if_err r (BreaksTo d.Block test c.args.rest.now qs a.right) (Fails (BreaksStore d.Block p a))
-    (λ w h. fails (BreaksStore d.Block p a) w
-    (store_breaks d.Block p a qs c.args.rest.now (ap (map part_meant) c.deref.ensures.value ∙ c.in_ok-parts-in-Store.ensures) c.requires.rest names w h)) c.check_store.ensures.err)
+    (if_err r (BreaksTo d.Procedural test c.args.rest.now qs a.right) (Fails (BreaksStore d.Procedural p a))
+    (λ w h. fails (BreaksStore d.Procedural p a) w
+    (store_breaks d.Procedural p a qs c.args.rest.now (ap (map part_meant) c.deref.ensures.value ∙ c.in_ok-parts-in-Store.ensures) c.requires.rest names w h)) c.check_store.ensures.err)

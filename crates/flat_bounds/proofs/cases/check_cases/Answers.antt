@@ -9,7 +9,7 @@ use Rattle.flat_faults.specs.Texts.{Compared}
 use Rattle.elab_drive.proofs.Growing.{ok_then}
 use Rattle.flat_bounds.specs.Usages.{item_labels}
 use Rattle.flat_bounds.specs.Cases.{HasCommonShape, expr_meant}
-use Rattle.flat_bounds.specs.declared.breach.Breach.{Breach}
+use Rattle.flat_bounds.specs.declared.violation.Violation.{Violation}
 use Rattle.flat_bounds.specs.Taken.{IsSound, AllSound, Breaks, SomeBreaks, Fails, taken_at}
 use Rattle.flat_bounds.proofs.Takes.{if_err, fails}
 use Rattle.flat_bounds.proofs.Widest.{all_sound, some_breaks}
@@ -34,7 +34,7 @@ returns-in-Ok-clause-err c =
     let as' = map expr_meant c.deref-in-Ok.result.now in
     let is : as' ≡ k.value ∷ k.labels = ap (map expr_meant) c.deref-in-Ok.ensures.value ∙ c.in_ok-exprs.ensures in
     let shape = subst (λ xs. HasCommonShape test v (map expr_meant xs) c.in-Ok.width c.in-Ok.signed) (c.deref.ensures.value ∙ sym c.deref-in-Ok.ensures.value) c.in-Ok.ensures.ok in
-    if_err c.check_all_at.result (λ (w : Breach). (a : Expr) × Among as' a × Breaks test v (taken_at a c.in-Ok.width c.in-Ok.signed) w) (Fails (SomeBreaks test v (compared v k)))
+    if_err c.check_all_at.result (λ (w : Violation). (a : Expr) × Among as' a × Breaks test v (taken_at a c.in-Ok.width c.in-Ok.signed) w) (Fails (SomeBreaks test v (compared v k)))
     (λ w h. fails (SomeBreaks test v (compared v k)) w (some_breaks test v k as' is c.in-Ok.width c.in-Ok.signed shape.width shape.sign w h)) c.check_all_at.ensures.err
 
 pub returns-clause-err : goal.returns-clause-err
@@ -44,5 +44,5 @@ returns-clause-err c =
     let k : Compared = record { value = c.args.subject.now; labels = flat_map item_labels c.args.items.now } in
     let as' = map expr_meant c.deref.result.now in
     let is : as' ≡ k.value ∷ k.labels = ap (map expr_meant) c.deref.ensures.value ∙ c.in_ok-exprs.ensures in
-    fails (SomeBreaks test v (compared v k)) c.in-Err.breach
-    (some_breaks test v k as' is (widest v as') (all_signed v as') refl refl c.in-Err.breach (c.in-Err.ensures.err (widest v as') (all_signed v as')))
+    fails (SomeBreaks test v (compared v k)) c.in-Err.violation
+    (some_breaks test v k as' is (widest v as') (all_signed v as') refl refl c.in-Err.violation (c.in-Err.ensures.err (widest v as') (all_signed v as')))

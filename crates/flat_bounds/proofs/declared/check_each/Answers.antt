@@ -16,4 +16,4 @@ returns-in-Err-clause-err c =
     let is : c.in_ok-name-in-Err.name ≡ s.prefix ++ d.name =
     c.in_ok-name-in-Err.ensures ∙ (ap (λ (p : Name). p ++ c.bytes-in-Err.result.now) c.bytes.ensures ∙ ap (λ (x : Name). s.prefix ++ x) c.bytes-in-Err.ensures) in
     subst (Refuses (StandsAlone s)) (sym c.fault_of.ensures)
-    (decl_stands s d (meant_at decl_meant c.args.decls.now c.args.decls.now (decls_in s.module') c.loop-decl.decl-index c.decl-item.result c.loop-decl-test.true c.decl-item.is refl c.requires) c.in-Err.breach c.in_ok-name-in-Err.name is c.in-Err.ensures.err)
+    (decl_stands s d (meant_at decl_meant c.args.decls.now c.args.decls.now (decls_in s.module') c.loop-decl.decl-index c.decl-item.result c.loop-decl-test.true c.decl-item.is refl c.requires) c.in-Err.violation c.in_ok-name-in-Err.name is c.in-Err.ensures.err)

@@ -9,4 +9,4 @@ pub returns-in-Err-clause-err : goal.returns-in-Err-clause-err
 returns-in-Err-clause-err c =
     let v = c.args.params.now in
     let d = decl_meant c.args.decl.now in
-    subst (Fails (BreaksDecl v d)) (sym c.signal_breach.ensures) (bad_signal v d c.in-Err.cause c.in-Err.ensures.err)
+    subst (Fails (BreaksDecl v d)) (sym c.signal_violation.ensures) (bad_signal v d c.in-Err.cause c.in-Err.ensures.err)

@@ -17,8 +17,8 @@ pub returns-in-Err-clause-err : goal.returns-in-Err-clause-err
 returns-in-Err-clause-err c =
     let s = scope_meant c.args.scope.now in
     let a = c.args.value.now in
-    fails (BreaksLeft d.Equation (place_of s) (left_of a)) c.in-Err.breach
-    (output_breaks s a c.args.rest.now c.requires.rest c.args.signals.now c.requires.signals (map part_meant c.deref.result.now) (ap (map part_meant) c.deref.ensures.value ∙ c.in_ok-parts.ensures) c.in-Err.breach c.in-Err.ensures.err)
+    fails (BreaksLeft d.Continuous (place_of s) (left_of a)) c.in-Err.violation
+    (output_breaks s a c.args.rest.now c.requires.rest c.args.signals.now c.requires.signals (map part_meant c.deref.result.now) (ap (map part_meant) c.deref.ensures.value ∙ c.in_ok-parts.ensures) c.in-Err.violation c.in-Err.ensures.err)
 
 pub returns-then-not-are_of-clause-ok : goal.returns-then-not-are_of-clause-ok
 returns-then-not-are_of-clause-ok c =

@@ -12,4 +12,4 @@ returns-in-Err-clause-err c =
     only_memory s.params d
     (signal_declared s c.requires d
     (meant_at decl_meant c.deref-decl-items.result.now c.in_ok-signals.signals.items (signals_in s.module') c.loop-decl.decl-index c.decl-item.result c.loop-decl-test.true c.decl-item.is c.deref-decl-items.ensures.value c.in_ok-signals.ensures))
-    c.in-Err.breach c.in-Err.ensures.err
+    c.in-Err.violation c.in-Err.ensures.err

@@ -1,0 +1,5 @@
+pub mod Deciding
+pub mod Finding
+pub mod Promising
+pub mod Showing
+pub mod Telling

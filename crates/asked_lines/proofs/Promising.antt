@@ -1,0 +1,90 @@
+-- Decided lines speak of the modules whose runs the design has, and proved ones promise.
+use Rattle.std.proofs.Common.{◌≡◌, ℕ, Bool, true, false, List, [], ◌∷◌, refl, subst}
+use Rattle.std.specs.Prelude.{◌&&◌}
+use Rattle.std.specs.List.{All, AllZip}
+use Rattle.std.proofs.lemmas.List.Elements.{All-cons, All-nil}
+use Rattle.vlog_tree.specs.declared.module.Module.{Module}
+use Rattle.vlog_runs.specs.declared.flat.Flat.{Flat}
+use Rattle.flat_laws.specs.Flattened.{KeepsRuns}
+use Rattle.set_tree.specs.declared.line.Line.{Line}
+use Rattle.set_tree.specs.Formulas.{meaning_of}
+use Rattle.word_design.specs.Designs.{HasRunsOf}
+use Rattle.binding.specs.Binding.{Pair}
+use Rattle.line_designs.specs.Promises.{IsRefutable, SignsOff}
+use Rattle.line_designs.proofs.Carried.{lines_are_the_modules}
+use Rattle.line_designs.proofs.Promised.{design_lines_hold, reports_sign_off}
+use Rattle.reports.specs.declared.book.Line.{Line as Told}
+use Rattle.reports.specs.declared.book.Verdict.{Verdict}
+use Rattle.reports.specs.declared.book.Verdict.TheVariants as v
+use Rattle.reports.specs.declared.which.Which.TheVariants as w
+use Rattle.reports.specs.Lines.{all_proved, is_proved}
+use Rattle.line_obs.specs.Obligations.{IsBroken}
+use Rattle.asked_lines.specs.Decided.{IsDecidedOn, IsLineOf, Says}
+use Rattle.asked_lines.specs.Laws.{DecidedOfModules, ProvedLinesPromise}
+
+-- said of the design, it is said of the modules
+says_of : (P Q : Type 0) → (P → Q) → (Q → P) → (verdict : Verdict) → Says P verdict → Says Q verdict
+says_of P Q to from v.Proved h = λ q. h (from q)
+says_of P Q to from v.Refuted h = to h
+says_of P Q to from v.Spent h = tt
+
+one : (budget : ℕ) (ms : List Module) (f : Flat) (b : Pair) → KeepsRuns ms b.set.block f → HasRunsOf f b.design → (line : Line) (d : Told) → IsDecidedOn budget b line d → IsLineOf budget ms b line d
+one budget ms f b keeps runs line d h =
+    let same = lines_are_the_modules ms b.set.block f b.design (meaning_of b.set) b.set keeps runs line in
+    record {
+      name = h.name;
+      named = h.named;
+      of_line = h.of_line;
+      ob = h.ob;
+      shown = h.shown;
+      verdict = h.verdict;
+      traced = h.traced;
+      says = says_of (IsBroken b line) (IsRefutable ms b.set.block b.set line) same.0 same.1 d.verdict h.says;
+    }
+
+pub decided_of_modules : DecidedOfModules
+decided_of_modules budget ms f b keeps runs [] [] h = tt
+decided_of_modules budget ms f b keeps runs [] (d ∷ ds) h = h
+decided_of_modules budget ms f b keeps runs (x ∷ xs) [] h = h
+decided_of_modules budget ms f b keeps runs (x ∷ xs) (d ∷ ds) h = (one budget ms f b keeps runs x d h.0, decided_of_modules budget ms f b keeps runs xs ds h.1)
+
+both : (p q : Bool) → (p && q) ≡ true → (p ≡ true) × (q ≡ true)
+both true true is = (refl, refl)
+both true false is = (refl, is)
+both false q is = (is, cc)
+
+proved_says : (P : Type 0) (verdict : Verdict) → is_proved verdict ≡ true → Says P verdict → P → ⊥
+proved_says P v.Proved is h = h
+proved_says P v.Refuted is h = absurd (let no : false ≡ true = is in cc)
+proved_says P v.Spent is h = absurd (let no : false ≡ true = is in cc)
+
+none_refutable : (budget : ℕ) (ms : List Module) (b : Pair) (lines : List Line) (ds : List Told) → AllZip (IsLineOf budget ms b) lines ds → all_proved ds ≡ true
+    → All (λ line. ¬ IsRefutable ms b.set.block b.set line) lines
+none_refutable budget ms b [] [] h all = All-nil (λ line. ¬ IsRefutable ms b.set.block b.set line)
+none_refutable budget ms b [] (d ∷ ds) h all = absurd h
+none_refutable budget ms b (x ∷ xs) [] h all = absurd h
+none_refutable budget ms b (x ∷ xs) (d ∷ ds) h all =
+    let p = both (is_proved d.verdict) (all_proved ds) all in
+    All-cons (λ line. ¬ IsRefutable ms b.set.block b.set line) x xs (proved_says (IsRefutable ms b.set.block b.set x) d.verdict p.0 h.0.says) (none_refutable budget ms b xs ds h.1 p.1)
+
+no_lines : (A : Type 0) → false ≡ true → A
+no_lines A is = absurd (let no : false ≡ true = is in cc)
+
+pub proved_lines_promise : ProvedLinesPromise
+proved_lines_promise budget ms b sound w.Ops lines ds asked h = record {
+  satisfied = λ is all. design_lines_hold ms b.set.block b.set sound
+      (subst (λ (ls : List Line). All (λ line. ¬ IsRefutable ms b.set.block b.set line) ls) asked (none_refutable budget ms b lines ds h all));
+  signed_off = λ all. no_lines (SignsOff ms b.set.block b.set) all;
+}
+proved_lines_promise budget ms b sound w.All lines ds asked h = record {
+  satisfied = λ is all. (whole all).runs;
+  signed_off = λ all. whole all;
+}
+  where
+    whole : all_proved ds ≡ true → SignsOff ms b.set.block b.set
+    whole all = reports_sign_off ms b.set.block b.set sound
+        (subst (λ (ls : List Line). All (λ line. ¬ IsRefutable ms b.set.block b.set line) ls) asked (none_refutable budget ms b lines ds h all))
+proved_lines_promise budget ms b sound (w.One name) lines ds asked h = record {
+  satisfied = λ is all. absurd (let no : w.One name ≡ w.Ops = is in cc);
+  signed_off = λ all. no_lines (SignsOff ms b.set.block b.set) all;
+}

@@ -1,0 +1,63 @@
+-- The lines that are asked for, and how they were decided.
+use Rattle.std.specs.Prelude.{◌≡◌, ℕ, List, [], ◌∷◌}
+use Rattle.std.specs.List.{AllZip, Contains}
+use Rattle.vlog_tree.specs.declared.module.Module.{Module}
+use Rattle.set_tree.specs.declared.line.Line.{Line}
+use Rattle.set_tree.specs.declared.set.Set.{Set}
+use Rattle.set_tree.specs.Report.{design_lines}
+use Rattle.word_dag.specs.declared.ob.Named.{Named}
+use Rattle.line_designs.specs.Promises.{IsRefutable}
+use Rattle.line_laws.specs.Names.{line_name}
+use Rattle.binding.specs.Binding.{Pair}
+use Rattle.verdicts.specs.Shown.{IsShown}
+use Rattle.reports.specs.declared.book.Line.{Line as Told}
+use Rattle.reports.specs.declared.book.Verdict.{Verdict}
+use Rattle.reports.specs.declared.book.Verdict.TheVariants as v
+use Rattle.reports.specs.declared.which.Which.{Which}
+use Rattle.reports.specs.declared.which.Which.TheVariants as w
+use Rattle.reports.specs.Lines.{verdict_of}
+use Rattle.line_obs.specs.Obligations.{IsBroken, IsObOf, all_lines}
+use Rattle.asked_lines.specs.Traces.{IsTraceOf}
+
+-- the line of a name
+pub record IsLineNamed (set : Set) (name : List ℕ) (line : Line) : Type 0 where
+  pub among : Contains (all_lines set) line
+  pub named : line_name set line ≡ name
+
+-- the lines that are asked for
+abbrev pub AreAsked : Which → Set → List Line → Type 0
+AreAsked w.Ops set lines = lines ≡ design_lines set
+AreAsked w.All set lines = lines ≡ all_lines set
+AreAsked (w.One name) set lines = (line : Line) × IsLineNamed set name line × (lines ≡ line ∷ [])
+
+-- a proved line can't be violated, and a refuted one is
+abbrev pub Says : Type 0 → Verdict → Type 0
+Says P v.Proved = P → ⊥
+Says P v.Refuted = P
+Says P v.Spent = Unit {0}
+
+-- A line of a report as it was decided: its obligation is one of the line, what shows its verdict is within the budget, and the verdict is right of
+-- what it is to violate the line; where it is refuted it has a counterexample
+pub record IsDecidedBy (Violated : Line → Type 0) (budget : ℕ) (b : Pair) (line : Line) (d : Told) : Type 0 where
+  pub name : d.name ≡ line_name b.set line
+  pub named : Named
+  pub of_line : IsObOf b line named
+  pub ob : d.ob ≡ named.ob
+  pub shown : IsShown budget d.ob d.evidence
+  pub verdict : d.verdict ≡ verdict_of d.evidence
+  pub traced : IsTraceOf b line d.ob d.evidence d.trace
+  pub says : Says (Violated line) d.verdict
+
+-- right of the design
+abbrev pub IsDecidedOn : ℕ → Pair → Line → Told → Type 0
+IsDecidedOn budget b line d = IsDecidedBy (IsBroken b) budget b line d
+
+-- right of modules
+abbrev pub IsLineOf : ℕ → List Module → Pair → Line → Told → Type 0
+IsLineOf budget ms b line d = IsDecidedBy (IsRefutable ms b.set.block b.set) budget b line d
+
+-- the lines that are asked for, each decided on the design
+pub record AreDecided (budget : ℕ) (b : Pair) (which : Which) (ds : List Told) : Type 0 where
+  pub lines : List Line
+  pub asked : AreAsked which b.set lines
+  pub each : AllZip (IsDecidedOn budget b) lines ds

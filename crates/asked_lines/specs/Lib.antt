@@ -1,0 +1,4 @@
+pub mod Traces
+pub mod Decided
+pub mod Asked
+pub mod Laws

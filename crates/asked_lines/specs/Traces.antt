@@ -1,0 +1,45 @@
+-- What is shown of decided lines.
+use Rattle.std.specs.Prelude.{◌≡◌, Bool, true, false, Option, Some, None}
+use Rattle.set_tree.specs.declared.line.Line.{Line}
+use Rattle.set_tree.specs.declared.line.Line.TheVariants.{Base, Step, Reset, Operation, End, Split, SameEnd, Choose, Hand, Determine}
+use Rattle.set_tree.specs.Formulas.{meaning_of}
+use Rattle.word_dag.specs.Nodes.{Naming, Parts}
+use Rattle.word_names.specs.Names.{naming_from}
+use Rattle.binding.specs.Binding.{Pair}
+use Rattle.replay.specs.declared.shown.Shown.{Shown}
+use Rattle.replay.specs.Segments.{ShowsSegment}
+use Rattle.replay.specs.Windows.{ShowsWindows}
+use Rattle.verdicts.specs.declared.decide.Evidence.{Evidence}
+use Rattle.verdicts.specs.declared.decide.Evidence.TheVariants as e
+
+abbrev pub is_on_design : Line → Bool
+is_on_design (Base i) = true
+is_on_design (Step i) = true
+is_on_design Reset = true
+is_on_design (Operation p) = true
+is_on_design (End p) = false
+is_on_design (Split p) = false
+is_on_design (SameEnd p) = false
+is_on_design (Choose p q) = false
+is_on_design (Hand p q) = false
+is_on_design (Determine p) = false
+
+-- a segment that the values name, or windows, that violate the line
+abbrev pub ShowsLine : Pair → Line → Naming → Shown → Type 0
+ShowsLine b (Base i) values shown = ShowsSegment b.design (meaning_of b.set) b.set (Base i) values shown
+ShowsLine b (Step i) values shown = ShowsSegment b.design (meaning_of b.set) b.set (Step i) values shown
+ShowsLine b Reset values shown = ShowsSegment b.design (meaning_of b.set) b.set Reset values shown
+ShowsLine b (Operation p) values shown = ShowsSegment b.design (meaning_of b.set) b.set (Operation p) values shown
+ShowsLine b (End p) values shown = ShowsWindows b.set (End p) shown
+ShowsLine b (Split p) values shown = ShowsWindows b.set (Split p) shown
+ShowsLine b (SameEnd p) values shown = ShowsWindows b.set (SameEnd p) shown
+ShowsLine b (Choose p q) values shown = ShowsWindows b.set (Choose p q) shown
+ShowsLine b (Hand p q) values shown = ShowsWindows b.set (Hand p q) shown
+ShowsLine b (Determine p) values shown = ShowsWindows b.set (Determine p) shown
+
+-- a counterexample where values refute the line, and none otherwise
+abbrev pub IsTraceOf : Pair → Line → Parts → Evidence → Option Shown → Type 0
+IsTraceOf b line ob (e.Derivation steps) o = o ≡ None
+IsTraceOf b line ob (e.Values us) None = ⊥
+IsTraceOf b line ob (e.Values us) (Some shown) = ShowsLine b line (naming_from ob.nodes us.items) shown
+IsTraceOf b line ob (e.Chain steps) o = o ≡ None

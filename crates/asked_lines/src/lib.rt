@@ -1,0 +1,12 @@
+//! The lines that are asked for of a set that is bound to a design, decided; and what they say of modules whose runs the design has.
+#![tactic(auto)]
+
+mod asked;
+mod decide;
+mod fault;
+mod law;
+mod trace;
+
+pub use decide::decide_lines;
+pub use fault::LineFault;
+pub use law::{decided_of_modules, proved_lines_promise};

@@ -1,0 +1,94 @@
+-- What two texts are to a check, and why a stage refuses them.
+use Rattle.std.specs.Prelude.{ℕ, ◌≡◌, ◌<◌, nat_lt, Bool, List}
+use Rattle.vlog_tree.specs.declared.module.Module.{Module}
+use Rattle.vlog_runs.specs.declared.flat.Flat.{Flat}
+use Rattle.vlog_runs.specs.declared.flat.Signal.{Signal}
+use Rattle.vlog_runs.specs.Places.{Among, Name}
+use Rattle.flat_laws.specs.Flattened.{KeepsRuns}
+use Rattle.flat_faults.specs.declared.fault.FlatFault.{FlatFault}
+use Rattle.flat_faults.specs.Stands.{Stands as StandsFlat}
+use Rattle.flat_ready.specs.Handed.{HasClocks, HasNoMemories, HasTopPorts, IsFlattened}
+use Rattle.elab_faults.specs.declared.fault.ElabFault.{ElabFault}
+use Rattle.elaborate.specs.Asked.{IsFaultOf}
+use Rattle.elaborate.specs.Parts.{HasHeader}
+use Rattle.word_design.specs.Designs.{HasRunsOf, Parts}
+use Rattle.set_tree.specs.declared.set.Set.{Set}
+use Rattle.binding.specs.declared.fault.BindFault.{BindFault}
+use Rattle.binding.specs.declared.fault.BindFault.TheVariants as b
+use Rattle.binding.specs.Binding.{Fits, Pair, Stands as StandsBetween}
+use Rattle.check_faults.specs.declared.fault.ModuleFault.TheVariants as m
+use Rattle.check_faults.specs.declared.fault.CheckFault.{CheckFault}
+use Rattle.check_faults.specs.declared.fault.CheckFault.TheVariants as f
+use Rattle.check_stages.specs.Texts.{IsModuleText, IsSetText, RefusesModules, RefusesSet}
+
+-- ---- what the stages give
+
+abbrev pub is_memory : Signal → Bool
+is_memory g = nat_lt 0 g.depth
+
+abbrev pub IsMemory : List Signal → Signal → Type 0
+IsMemory gs g = Among gs g × (0 < g.depth)
+
+-- modules without a fault of flattening are from their top this module without instances, which has their runs, the top's ports and clocks, and no
+-- memories
+pub record IsPlainFlatOf (ms : List Module) (top : Name) (flat : Flat) : Type 0 where
+  pub flattened : IsFlattened ms top flat
+  pub faultless : (fault : FlatFault) → StandsFlat ms top fault → ⊥
+  pub keeps : KeepsRuns ms top flat
+  pub ports : HasTopPorts ms top flat
+  pub clocks : HasClocks ms top flat
+  pub plain : HasNoMemories flat
+
+-- it has no fault of elaboration, and the design has its runs and its header
+pub record IsDesignOf (ms : List Module) (top : Name) (d : Parts) : Type 0 where
+  pub flat : Flat
+  pub flat_of : IsPlainFlatOf ms top flat
+  pub clean : (fault : ElabFault) → IsFaultOf flat fault → ⊥
+  pub runs : HasRunsOf flat d
+  pub header : HasHeader flat d
+
+-- the set of one text fits the design of the other's modules from the set's block
+pub record IsBoundOf (text set_text : List ℕ) (b : Pair) : Type 0 where
+  pub modules : List Module
+  pub module_is : IsModuleText text modules
+  pub set_is : IsSetText set_text b.set
+  pub design_is : IsDesignOf modules b.set.block b.design
+  pub fits : Fits b.design b.set
+
+-- ---- refusals
+
+-- a fault of flattening stands for the modules, a signal is a memory, or a fault of elaboration stands
+abbrev pub RefusesDesign : List Module → Name → CheckFault → Type 0
+RefusesDesign ms top (f.Module (m.Flat fault)) = StandsFlat ms top fault
+RefusesDesign ms top (f.Module (m.Later n)) = (flat : Flat) × IsFlattened ms top flat × (g : Signal) × IsMemory flat.signals g × (n ≡ g.name)
+RefusesDesign ms top (f.Module (m.Elab fault)) = (flat : Flat) × IsPlainFlatOf ms top flat × IsFaultOf flat fault
+RefusesDesign ms top (f.Module m.TooLong) = ⊥
+RefusesDesign ms top (f.Module (m.Read fault)) = ⊥
+RefusesDesign ms top (f.Set stop) = ⊥
+RefusesDesign ms top (f.Bind fault) = ⊥
+RefusesDesign ms top f.NoLine = ⊥
+RefusesDesign ms top f.Memory = Unit {0}
+
+-- the stages that refuse after texts were read
+abbrev pub RefusesAfter : (List Module → Set → Type 0) → List ℕ → List ℕ → Type 0
+RefusesAfter P text set_text = (ms : List Module) × (set : Set) × IsModuleText text ms × IsSetText set_text set × P ms set
+
+-- the first stage that refuses, and why
+abbrev pub Refuses : List ℕ → List ℕ → CheckFault → Type 0
+Refuses text set_text (f.Module m.TooLong) = RefusesModules text (f.Module m.TooLong)
+Refuses text set_text (f.Module (m.Read fault)) = RefusesModules text (f.Module (m.Read fault))
+Refuses text set_text (f.Set stop) = ((ms : List Module) × IsModuleText text ms) × RefusesSet set_text (f.Set stop)
+Refuses text set_text (f.Module (m.Flat fault)) = RefusesAfter (λ ms set. RefusesDesign ms set.block (f.Module (m.Flat fault))) text set_text
+Refuses text set_text (f.Module (m.Later n)) = RefusesAfter (λ ms set. RefusesDesign ms set.block (f.Module (m.Later n))) text set_text
+Refuses text set_text (f.Module (m.Elab fault)) = RefusesAfter (λ ms set. RefusesDesign ms set.block (f.Module (m.Elab fault))) text set_text
+Refuses text set_text (f.Bind fault) = RefusesAfter (λ ms set. (d : Parts) × IsDesignOf ms set.block d × StandsBetween d set fault) text set_text
+Refuses text set_text f.NoLine = ⊥
+Refuses text set_text f.Memory = Unit {0}
+
+-- a set that doesn't fit its design
+abbrev pub unbound : BindFault → CheckFault
+unbound (b.Missing n) = f.Bind (b.Missing n)
+unbound (b.WidthOf n) = f.Bind (b.WidthOf n)
+unbound (b.ExtraInput n) = f.Bind (b.ExtraInput n)
+unbound (b.Role n) = f.Bind (b.Role n)
+unbound b.Memory = f.Memory

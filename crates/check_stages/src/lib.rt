@@ -1,0 +1,11 @@
+//! The stages of a check: from two texts to a set of properties that is bound to the design of its modules.
+#![tactic(auto)]
+
+mod bound;
+mod design;
+mod memory;
+mod texts;
+
+pub use bound::bound_of;
+pub use design::design_of;
+pub use texts::{modules_of, set_of};

@@ -1,0 +1,47 @@
+-- What a check gives, and why it refuses.
+use Rattle.std.specs.Prelude.{◌≡◌, ℕ, true, List, map}
+use Rattle.std.specs.List.{AllZip}
+use Rattle.set_tree.specs.declared.line.Line.{Line}
+use Rattle.set_tree.specs.declared.set.Set.{Set}
+use Rattle.line_designs.specs.Promises.{HoldsInRuns, SignsOff}
+use Rattle.binding.specs.Binding.{Pair}
+use Rattle.check_faults.specs.declared.fault.CheckFault.{CheckFault}
+use Rattle.check_faults.specs.declared.fault.CheckFault.TheVariants as f
+use Rattle.check_stages.specs.Stages.{IsBoundOf, Refuses as StageRefuses}
+use Rattle.reports.specs.declared.book.Line.{Line as Told}
+use Rattle.reports.specs.declared.report.Report.{Report}
+use Rattle.reports.specs.declared.which.Which.{Which}
+use Rattle.reports.specs.declared.which.Which.TheVariants as w
+use Rattle.reports.specs.Lines.{all_proved}
+use Rattle.reports.specs.Reports.{is_complete, report_text}
+use Rattle.asked_lines.specs.Decided.{AreAsked, IsLineNamed, IsLineOf}
+
+-- The report of two texts: its lines are those asked for, each decided rightly, and its text tells them.
+pub record IsReport (module_text set_text : List ℕ) (which : Which) (budget : ℕ) (decided : List Told) (r : Report) : Type 0 where
+  pub bound : Pair
+  pub from : IsBoundOf module_text set_text bound
+  pub lines : List Line
+  pub asked : AreAsked which bound.set lines
+  pub each : AllZip (IsLineOf budget from.modules bound) lines decided
+  pub text : r.text ≡ report_text which decided
+  pub verdicts : r.verdicts.items ≡ map (λ d. d.verdict) decided
+  pub complete : r.complete ≡ is_complete which decided
+  -- where all of these lines are proved, every constrained run of the modules from reset satisfies the set; and where they are all lines, the set is complete
+  pub satisfied : which ≡ w.Ops → all_proved decided ≡ true → HoldsInRuns from.modules bound.set.block bound.set
+  pub signed_off : r.complete ≡ true → SignsOff from.modules bound.set.block bound.set
+
+-- no line has the name that was asked for
+abbrev pub LacksAsked : Set → Which → CheckFault → Type 0
+LacksAsked set which f.NoLine = (name : List ℕ) × (which ≡ w.One name) × ((line : Line) → IsLineNamed set name line → ⊥)
+LacksAsked set which f.Memory = Unit {0}
+LacksAsked set which (f.Module fault) = ⊥
+LacksAsked set which (f.Set stop) = ⊥
+LacksAsked set which (f.Bind fault) = ⊥
+
+-- a stage refuses the texts, or no line has the name
+abbrev pub Refuses : List ℕ → List ℕ → Which → CheckFault → Type 0
+Refuses text set_text which f.NoLine = (b : Pair) × IsBoundOf text set_text b × LacksAsked b.set which f.NoLine
+Refuses text set_text which f.Memory = StageRefuses text set_text f.Memory
+Refuses text set_text which (f.Module fault) = StageRefuses text set_text (f.Module fault)
+Refuses text set_text which (f.Set stop) = StageRefuses text set_text (f.Set stop)
+Refuses text set_text which (f.Bind fault) = StageRefuses text set_text (f.Bind fault)

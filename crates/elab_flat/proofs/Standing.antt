@@ -1,0 +1,26 @@
+-- What stands at a scope or around it stands.
+use Rattle.std.proofs.Common.{List, inl, inr}
+use Rattle.vlog_tree.specs.declared.module.Module.{Module}
+use Rattle.vlog_runs.specs.Places.{Name, Among}
+use Rattle.vlog_runs.specs.Contents.{instances_in}
+use Rattle.vlog_runs.specs.Scopes.{Scope}
+use Rattle.flat_laws.proofs.Apart.{instance_found}
+use Rattle.flat_faults.specs.declared.fault.FlatFault.{FlatFault}
+use Rattle.flat_faults.specs.Stands.{Stands}
+use Rattle.flat_bounds.specs.Texts.{StandsAround}
+use Rattle.flat_instances.specs.Naming.{prefix_name}
+use Rattle.flat_instances.specs.Unfolding.{AreUnfolded}
+use Rattle.flat_instances.proofs.Standing.{in_scope}
+use Rattle.flat_checked.proofs.Sound.{at_one, at_any}
+use Rattle.elab_flat.specs.Standing.{StandsAtOne}
+
+module _ (ms : List Module) (top : Name) (ss : List Scope) (are : AreUnfolded ms top ss) where
+  pub one_stands : (fault : FlatFault) → StandsAtOne ss fault → Stands ms top fault
+  one_stands fault h = at_any ms top ss are h.0 h.1 fault h.2
+
+  pub around_stands : (s : Scope) → Among ss s → (fault : FlatFault) → StandsAround ms (prefix_name top s.prefix) s fault → Stands ms top fault
+  around_stands s a fault (inl h) = at_one ms top ss are s a fault h
+  around_stands s a fault (inr (i, found, t, is, h)) =
+      let here = (instance_found (instances_in s.module') i.name i found).0 in
+      let p = are.scopes.only t (are.scopes.inner s t i a here is) in
+      in_scope ms top p.0 t p.1 fault h

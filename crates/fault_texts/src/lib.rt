@@ -1,0 +1,10 @@
+//! How refusals are written: the name of a fault, and then what it is about, each behind a space.
+#![tactic(auto)]
+
+mod designs;
+mod line;
+mod put;
+mod reading;
+mod sets;
+
+pub use line::{fault_line, status_of};

@@ -1,0 +1,30 @@
+use Rattle.std.proofs.Common.{map, ap, ◌∙◌}
+use Rattle.vlog_runs.specs.Scopes.{place_of}
+use Rattle.flat_params.specs.Constants.{is_known}
+use Rattle.flat_scopes.specs.Borrowed.{assigned_meant}
+use Rattle.flat_instances.specs.Unfolding.{scope_meant}
+use Rattle.elab_drive.specs.Parts.{part_meant}
+use Rattle.elab_drive.proofs.Growing.{ok_then}
+use Rattle.flat_bounds.specs.declared.side.Side.TheVariants as d
+use Rattle.flat_bounds.specs.Taken.{Fails}
+use Rattle.flat_bounds.specs.Stores.{IsSoundTo, BreaksTo, IsSoundStore, BreaksStore}
+use Rattle.flat_bounds.proofs.Takes.{if_err, fails}
+use Rattle.flat_bounds.proofs.Stores.{store_sound, store_breaks}
+use Rattle.flat_bounds.proofs.assignment.check_assigned.Goals as goal
+
+pub returns-clause-ok : goal.returns-clause-ok
+returns-clause-ok c =
+    let p = place_of (scope_meant c.args.scope.now) in
+    let a = assigned_meant c.args.assigned.now in
+    let qs = map part_meant c.deref.result.now in
+    ok_then c.check_store.result (IsSoundTo d.Continuous (is_known c.args.scope.now.params) c.args.rest.now qs a.right) (IsSoundStore d.Continuous p a) c.check_store.ensures.ok
+    (store_sound d.Continuous p a qs c.args.rest.now (ap (map part_meant) c.deref.ensures.value ∙ c.in_ok-parts.ensures) c.requires.rest)
+
+pub returns-clause-err : goal.returns-clause-err
+returns-clause-err c =
+    let p = place_of (scope_meant c.args.scope.now) in
+    let a = assigned_meant c.args.assigned.now in
+    let qs = map part_meant c.deref.result.now in
+    if_err c.check_store.result (BreaksTo d.Continuous (is_known c.args.scope.now.params) c.args.rest.now qs a.right) (Fails (BreaksStore d.Continuous p a))
+    (λ w h. fails (BreaksStore d.Continuous p a) w
+    (store_breaks d.Continuous p a qs c.args.rest.now (ap (map part_meant) c.deref.ensures.value ∙ c.in_ok-parts.ensures) c.requires.rest c.requires.signals w h)) c.check_store.ensures.err

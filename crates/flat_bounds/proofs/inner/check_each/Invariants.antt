@@ -1,0 +1,11 @@
+use Rattle.std.proofs.Common.{◌⊎◌, drop, map}
+use Rattle.vlog_runs.specs.Places.{Among}
+use Rattle.vlog_runs.specs.Contents.{Inner}
+use Rattle.flat_scopes.specs.Borrowed.{inner_meant}
+use Rattle.flat_instances.specs.Unfolding.{scope_meant}
+use Rattle.flat_bounds.specs.Texts.{HasSoundConnections}
+use Rattle.flat_bounds.proofs.inner.check_each.Given as goal
+
+abbrev pub invariant-loop-inner : goal.invariant-loop-inner
+invariant-loop-inner l =
+    (i : Inner) → Among (map inner_meant l.instances) i → (HasSoundConnections l.modules (scope_meant l.scope) i) ⊎ Among (map inner_meant (drop l.inner-index l.instances)) i

@@ -1,0 +1,268 @@
+// What is connected to the ports of instances (IEEE 1364-2005, section 12.3).
+
+ghost use Rattle.std.specs.Prelude.{◌≡◌, ◌≤◌, ◌++◌, Some, map, OnOk, IfOk, IfErr, IfSome};
+ghost use Rattle.vlog_runs.specs.Places.{Among};
+ghost use Rattle.vlog_runs.specs.Contents.{Inner as Instance, instances_in, port_names, signals_in};
+ghost use Rattle.vlog_runs.specs.Scopes.{place_of, given_to, child, decl_at};
+ghost use Rattle.flat_faults.specs.Constants.{at_rest};
+ghost use Rattle.flat_faults.specs.Stands.{Refuses};
+ghost use Rattle.flat_scopes.specs.Borrowed.{name_meant, decl_meant, given_meant, inner_meant};
+ghost use Rattle.flat_scopes.specs.Finding.{decl_name};
+ghost use Rattle.flat_instances.specs.Unfolding.{scope_meant, IsSoundInner, HasSoundInners};
+ghost use Rattle.flat_bounds.specs.declared.violation.Violation.TheVariants.{Memory};
+ghost use Rattle.flat_bounds.specs.Ranges.{fault_of, StandsAlone};
+ghost use Rattle.flat_bounds.specs.Taken.{Fails};
+ghost use Rattle.flat_bounds.specs.Texts.{taking, IsSoundGiven, BreaksGiven, IsSoundConnection, BreaksConnection, AreSoundConnections, SomeConnectionBreaks, HasSoundConnections, IsConnectionFault, IsInnerFault, IsSomeInnerFault};
+
+use crate::declared::{declared, fault_of};
+use crate::output::check_output;
+use crate::taken::check_stored;
+use crate::violation::Violation;
+use flat_faults::FlatFault;
+use flat_instances::{Scope, full_name, inner_prefix};
+use flat_params::{ParamFault, params_of};
+use flat_scopes::{
+    Decl, Given, Inner, Modules, Names, Signals, given_to, instances_in, overriding, port_names,
+    signals_in,
+};
+use outside::Text;
+use std::alloc::{AllocError, Global};
+use vlog_tree::{Expr, Module, Valuation};
+
+// The scope of an instance. Refused only for want of memory.
+fn inner_scope<'a>(
+    alloc: Global,
+    modules: &Modules<'a>,
+    scope: &Scope<'a>,
+    inner: &Inner<'a>,
+) -> Result<Scope<'a>, Violation>
+    requires { IsSoundInner modules.now (scope_meant scope.now) (inner_meant inner.now) }
+    ensures ok { IfOk result (λ t. child modules.now (scope_meant scope.now) (inner_meant inner.now) ≡ Some (scope_meant t)) }
+    ensures err { IfErr result (λ w. w ≡ Memory) }
+{
+    match modules.at(inner.of_module.bytes()) {
+        Some(text) => {
+            let prefix = inner_prefix(alloc, scope.prefix.bytes(), inner.name.bytes())?;
+            let given = overriding(alloc, text, inner.overrides)?;
+            match params_of(alloc, text, &given, &scope.params) {
+                Ok(params) => Ok(Scope {
+                    prefix,
+                    text,
+                    params,
+                }),
+                Err(ParamFault::Bad(_, _)) => unreachable!(),
+                Err(ParamFault::Memory) => Err(Violation::Memory),
+            }
+        }
+        None => unreachable!(),
+    }
+}
+
+// The length of an input of an instance's scope; none for any other port. A refusal's fault stands at that scope.
+fn port_width(alloc: Global, child: &Scope<'_>, port: &Decl<'_>) -> Result<Option<u8>, FlatFault>
+    requires { Among (signals_in child.now.text.now) (decl_meant port.now) }
+    ensures ok { IfOk result (λ o. o ≡ taking (scope_meant child.now) (decl_meant port.now)) }
+    ensures most { IfOk result (λ o. IfSome o (λ n. n ≤ 64)) }
+    ensures err { IfErr result (Refuses (StandsAlone (scope_meant child.now))) }
+{
+    if !port.input {
+        return Ok(None);
+    }
+    match declared(alloc, port, &child.params) {
+        Ok(signal) => Ok(Some(signal.width)),
+        Err(violation) => {
+            let name = full_name(alloc, child.prefix.bytes(), port.name.bytes())?;
+            Err(fault_of(name, violation))
+        }
+    }
+}
+
+// What an input of so many bits takes, or else what an output is assigned to, keeps the rules.
+fn check_value(
+    alloc: Global,
+    scope: &Scope<'_>,
+    rest: &Valuation,
+    signals: &Names<'_>,
+    width: Option<u8>,
+    value: &Expr,
+) -> Result<(), Violation>
+    requires rest { rest.now ≡ at_rest (place_of (scope_meant scope.now)) }
+    requires signals { signals.now ≡ map decl_name (signals_in scope.now.text.now) }
+    requires most { IfSome width (λ n. n ≤ 64) }
+    ensures ok { OnOk result (IsSoundGiven (place_of (scope_meant scope.now)) value.now width) }
+    ensures err { IfErr result (Fails (BreaksGiven (place_of (scope_meant scope.now)) value.now width)) }
+{
+    match width {
+        Some(least) => check_stored(value, least, &scope.params, rest),
+        None => check_output(alloc, scope, rest, signals, value),
+    }
+}
+
+/// The fault of what breaks a rule at a scope of this name.
+pub fn named_fault(
+    alloc: Global,
+    path: &[u8],
+    violation: Violation,
+) -> Result<FlatFault, AllocError>
+    ensures { IfOk result (λ fault. fault ≡ fault_of path.now violation) }
+{
+    let name = Text::copy(alloc, path)?;
+    Ok(fault_of(name, violation))
+}
+
+// What is connected to one port of an instance keeps the rules.
+fn check_connection(
+    alloc: Global,
+    scope: &Scope<'_>,
+    rest: &Valuation,
+    signals: &Names<'_>,
+    path: &[u8],
+    child: &Scope<'_>,
+    ports: &Signals<'_>,
+    connection: &Given<'_>,
+) -> Result<(), FlatFault>
+    requires rest { rest.now ≡ at_rest (place_of (scope_meant scope.now)) }
+    requires signals { signals.now ≡ map decl_name (signals_in scope.now.text.now) }
+    requires ports { ports.now ≡ signals_in child.now.text.now }
+    ensures ok { OnOk result (IsSoundConnection (place_of (scope_meant scope.now)) (scope_meant child.now) (given_meant connection.now) (decl_at (signals_in child.now.text.now) connection.now.name.now)) }
+    ensures err { IfErr result (Refuses (IsConnectionFault path.now (scope_meant child.now) (BreaksConnection (place_of (scope_meant scope.now)) (scope_meant child.now) (given_meant connection.now) (decl_at (signals_in child.now.text.now) connection.now.name.now)))) }
+{
+    let port = match ports.at(connection.name.bytes()) {
+        Some(port) => port,
+        None => return Ok(()),
+    };
+    let width = match port_width(alloc, child, port) {
+        Ok(width) => width,
+        Err(fault) => return Err(fault),
+    };
+    match check_value(alloc, scope, rest, signals, width, connection.value) {
+        Ok(()) => Ok(()),
+        Err(violation) => Err(named_fault(alloc, path, violation)?),
+    }
+}
+
+fn connections_of<'a>(
+    alloc: Global,
+    child: &Scope<'a>,
+    inner: &Inner<'a>,
+) -> Result<Vec<Given<'a>>, AllocError>
+    ensures { IfOk result (λ r. map given_meant r.items ≡ given_to (port_names child.now.text.now) inner.now.args.now) }
+{
+    let names = port_names(alloc, child.text)?;
+    given_to(alloc, &names, inner.args)
+}
+
+// What is connected to the ports of an instance keeps the rules.
+fn check_connections<'a>(
+    alloc: Global,
+    scope: &Scope<'_>,
+    rest: &Valuation,
+    signals: &Names<'_>,
+    path: &[u8],
+    child: &Scope<'a>,
+    inner: &Inner<'a>,
+) -> Result<(), FlatFault>
+    requires rest { rest.now ≡ at_rest (place_of (scope_meant scope.now)) }
+    requires signals { signals.now ≡ map decl_name (signals_in scope.now.text.now) }
+    ensures ok { OnOk result (AreSoundConnections (place_of (scope_meant scope.now)) (scope_meant child.now) (inner_meant inner.now)) }
+    ensures err { IfErr result (Refuses (IsConnectionFault path.now (scope_meant child.now) (SomeConnectionBreaks (place_of (scope_meant scope.now)) (scope_meant child.now) (inner_meant inner.now)))) }
+{
+    let ports = Signals::of(alloc, child.text)?;
+    let given = connections_of(alloc, child, inner)?;
+    for connection in &given {
+        match check_connection(alloc, scope, rest, signals, path, child, &ports, connection) {
+            Ok(()) => {}
+            Err(fault) => return Err(fault),
+        }
+    }
+    Ok(())
+}
+
+// What is connected to an instance keeps the rules.
+fn check_inner<'a>(
+    alloc: Global,
+    modules: &Modules<'a>,
+    scope: &Scope<'a>,
+    rest: &Valuation,
+    signals: &Names<'_>,
+    path: &[u8],
+    inner: &Inner<'a>,
+) -> Result<(), FlatFault>
+    requires sound { IsSoundInner modules.now (scope_meant scope.now) (inner_meant inner.now) }
+    requires rest { rest.now ≡ at_rest (place_of (scope_meant scope.now)) }
+    requires signals { signals.now ≡ map decl_name (signals_in scope.now.text.now) }
+    ensures ok { OnOk result (HasSoundConnections modules.now (scope_meant scope.now) (inner_meant inner.now)) }
+    ensures err { IfErr result (Refuses (IsInnerFault modules.now path.now (scope_meant scope.now) (inner_meant inner.now))) }
+{
+    let child = match inner_scope(alloc, modules, scope, inner) {
+        Ok(child) => child,
+        Err(_) => return Err(FlatFault::Memory),
+    };
+    match check_connections(alloc, scope, rest, signals, path, &child, inner) {
+        Ok(()) => Ok(()),
+        Err(fault) => Err(fault),
+    }
+}
+
+// The names of declarations.
+fn add_names<'a>(all: &mut Vec<&'a Text>, decls: &[Decl<'a>]) -> Result<(), AllocError>
+    ensures { OnOk result (map name_meant all.new.items ≡ map name_meant all.old.items ++ map decl_name (map decl_meant decls.now)) }
+{
+    for decl in decls {
+        all.push(decl.name)?;
+    }
+    Ok(())
+}
+
+// The names of a module's signals.
+fn signal_names(alloc: Global, text: &Module) -> Result<Vec<&Text>, AllocError>
+    ensures { IfOk result (λ r. map name_meant r.items ≡ map decl_name (signals_in text.now)) }
+{
+    let signals = signals_in(alloc, text)?;
+    let mut all = Vec::new(alloc);
+    add_names(&mut all, &signals)?;
+    Ok(all)
+}
+
+fn check_each<'a>(
+    alloc: Global,
+    modules: &Modules<'a>,
+    scope: &Scope<'a>,
+    rest: &Valuation,
+    signals: &Names<'_>,
+    path: &[u8],
+    instances: &[Inner<'a>],
+) -> Result<(), FlatFault>
+    requires sound { HasSoundInners modules.now (scope_meant scope.now) }
+    requires rest { rest.now ≡ at_rest (place_of (scope_meant scope.now)) }
+    requires signals { signals.now ≡ map decl_name (signals_in scope.now.text.now) }
+    requires instances { map inner_meant instances.now ≡ instances_in scope.now.text.now }
+    ensures ok { OnOk result ((i : Instance) → Among (map inner_meant instances.now) i → HasSoundConnections modules.now (scope_meant scope.now) i) }
+    ensures err { IfErr result (Refuses (IsSomeInnerFault modules.now path.now (scope_meant scope.now))) }
+{
+    for inner in instances {
+        match check_inner(alloc, modules, scope, rest, signals, path, inner) {
+            Ok(()) => {}
+            Err(fault) => return Err(fault),
+        }
+    }
+    Ok(())
+}
+
+/// What is connected to the instances of a scope keeps the rules. A refusal's fault is of a connection, or of a range in an instance's scope.
+pub fn check_inners<'a>(
+    alloc: Global,
+    modules: &Modules<'a>,
+    scope: &Scope<'a>,
+    rest: &Valuation,
+    path: &[u8],
+) -> Result<(), FlatFault>
+    requires sound { HasSoundInners modules.now (scope_meant scope.now) }
+    requires rest { rest.now ≡ at_rest (place_of (scope_meant scope.now)) }
+    ensures ok { OnOk result ((i : Instance) → Among (instances_in scope.now.text.now) i → HasSoundConnections modules.now (scope_meant scope.now) i) }
+    ensures err { IfErr result (Refuses (IsSomeInnerFault modules.now path.now (scope_meant scope.now))) }
+{
+    let signals = Names::of(alloc, signal_names(alloc, scope.text)?)?;
+    let instances = instances_in(alloc, scope.text)?;
+    check_each(alloc, modules, scope, rest, &signals, path, &instances)
+}

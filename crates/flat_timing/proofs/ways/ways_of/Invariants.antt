@@ -1,0 +1,20 @@
+use Rattle.std.proofs.Common.{◌≡◌, ◌≤◌, ◌-◌, List, length, map, take, drop}
+use Rattle.vlog_tree.specs.declared.module.Module.{Module}
+use Rattle.vlog_runs.specs.Places.{Name}
+use Rattle.flat_instances.specs.Unfolding.{scope_meant, AreUnfolded}
+use Rattle.flat_timing.specs.Passing.{ArePassed}
+use Rattle.flat_timing.specs.Tabled.{AreTables}
+use Rattle.flat_timing.proofs.Paths.{known}
+use Rattle.flat_timing.proofs.ways.ways_of.Given as goal
+
+abbrev pub invariant-loop-at : goal.invariant-loop-at
+invariant-loop-at l = record {
+  within : l.at ≤ length l.scopes;
+  behind : (ms : List Module) (top : Name) (u : AreUnfolded ms top (map scope_meant l.scopes)) → l.at ≤ length (known ms top u.paths l.at);
+  left : (ms : List Module) (top : Name) (u : AreUnfolded ms top (map scope_meant l.scopes)) → l.rest ≡ drop (length (known ms top u.paths l.at)) l.scopes;
+  tables : (ms : List Module) (top : Name) (u : AreUnfolded ms top (map scope_meant l.scopes)) → AreTables ms top (known ms top u.paths l.at) l.tables.items;
+  passed : (ms : List Module) (top : Name) (u : AreUnfolded ms top (map scope_meant l.scopes)) → ArePassed ms (take l.at (map scope_meant l.scopes)) l.passed.items;
+}
+
+abbrev pub decreases-loop-at : goal.decreases-loop-at
+decreases-loop-at l = length l.scopes - l.at

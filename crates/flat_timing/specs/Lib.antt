@@ -1,0 +1,5 @@
+pub mod Passing
+pub mod Tabled
+pub mod Driving
+pub mod Clocking
+pub mod Unread

@@ -1,0 +1,11 @@
+//! The clock and the asynchronous resets of the instances of a list of modules.
+#![tactic(auto)]
+
+mod asyncs;
+mod clocks;
+mod passed;
+mod reads;
+mod timings;
+mod ways;
+
+pub use clocks::{Clocks, clocks_of};

@@ -1,0 +1,12 @@
+use Rattle.std.proofs.Common.{subst}
+use Rattle.word_design.specs.Designs.{IsDesign}
+use Rattle.set_tree.specs.Report.{design_lines}
+use Rattle.unroll.proofs.Obtaining.{lines_speak}
+use Rattle.line_obs.proofs.Obliged.{are_design_lines, obs_of_design}
+use Rattle.line_obs.proofs.obs.obs_of_design.Goals as goal
+
+pub returns : goal.returns
+returns c =
+    let b = c.args.bound.now in
+    let design = subst IsDesign c.design.ensures.value c.dag-design.ensures.design in
+    obs_of_design b design (design_lines b.set) c.in_ok-obs.obs.items (are_design_lines b.set) (lines_speak b.set) c.in_ok-obs.ensures

@@ -1,0 +1,6 @@
+//! The obligations of a report's lines, of a set that is bound to a design.
+#![tactic(auto)]
+
+mod obs;
+
+pub use obs::{obs_of_all, obs_of_design};

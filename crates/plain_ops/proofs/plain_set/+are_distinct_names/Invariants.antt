@@ -1,5 +1,0 @@
-use Rattle.std.proofs.Common.{length}
-use Rattle.plain_ops.proofs.plain_set.+are_distinct_names.Given as goal
-
-abbrev pub decreases-are_distinct_names : goal.decreases-are_distinct_names
-decreases-are_distinct_names l = length l.names.now

@@ -1,0 +1,104 @@
+-- The segment that is shown of a refuted line on a design.
+use Rattle.std.specs.Prelude.{◌≡◌, ℕ, zero, suc, ◌%◌, ◌^◌, ◌++◌, List, [], ◌∷◌, None, Some, length, map, slice_get}
+use Rattle.set_tree.specs.declared.line.Line.{Line}
+use Rattle.set_tree.specs.declared.line.Line.TheVariants.{Base, Step, Reset, Operation, End, Split, SameEnd, Choose, Hand, Determine}
+use Rattle.set_tree.specs.declared.set.Rule.{Rule}
+use Rattle.set_tree.specs.declared.set.Set.{Set}
+use Rattle.set_tree.specs.Meaning.{Meaning}
+use Rattle.set_tree.specs.Parts.{window_of}
+use Rattle.set_tree.specs.Runs.{ViolatesBase, ViolatesStep, ViolatesReset, ViolatesOperation, trace_of}
+use Rattle.vlog_runs.specs.Places.{Name}
+use Rattle.word_core.specs.Words.{Bits}
+use Rattle.word_dag.specs.Nodes.{Naming, dag_values}
+use Rattle.word_design.specs.declared.design.Register.{Register}
+use Rattle.word_design.specs.Designs.{Parts, naming_of}
+use Rattle.word_design.specs.Laws.{DesignCycle, word_design}
+use Rattle.segment_laws.specs.Segments.{IsNamedBy, cycle_number}
+use Rattle.segment_laws.specs.Tests.{held}
+use Rattle.replay.specs.declared.shown.Shown.{Shown}
+use Rattle.replay.specs.declared.shown.Start.{Start}
+use Rattle.replay.specs.declared.values.Values.{Values}
+use Rattle.replay.specs.Values.{AreOf}
+use Rattle.replay.specs.Windows.{declared_names}
+
+-- ---- what is shown
+
+-- reset cycles, where the line has them, and the cycles from cycle 0 on violate the line
+abbrev pub AreViolatingCycles : (d : Parts) → Meaning → Set → Line → List (DesignCycle d) → List (DesignCycle d) → Type 0
+AreViolatingCycles d m set (Base i) resets cycles = (rule : Rule) × (slice_get set.invariants i ≡ Some rule) × ViolatesBase (word_design d set) m set rule resets cycles
+AreViolatingCycles d m set (Step i) resets cycles = (resets ≡ []) × (rule : Rule) × (slice_get set.invariants i ≡ Some rule) × ViolatesStep (word_design d set) m set rule cycles
+AreViolatingCycles d m set Reset resets cycles = ViolatesReset (word_design d set) m set resets cycles
+AreViolatingCycles d m set (Operation p) resets cycles = (resets ≡ []) × ViolatesOperation (word_design d set) m set p cycles
+AreViolatingCycles d m set (End p) resets cycles = ⊥
+AreViolatingCycles d m set (Split p) resets cycles = ⊥
+AreViolatingCycles d m set (SameEnd p) resets cycles = ⊥
+AreViolatingCycles d m set (Choose p q) resets cycles = ⊥
+AreViolatingCycles d m set (Hand p q) resets cycles = ⊥
+AreViolatingCycles d m set (Determine p) resets cycles = ⊥
+
+abbrev pub started : Name → ℕ → Start
+started x u = record { name = x; value = u }
+
+-- the registers' values in the first of some cycles
+abbrev pub first_values : (d : Parts) → List (DesignCycle d) → List Start
+first_values d [] = []
+first_values d (c ∷ cycles) = map (λ (r : Register). started r.name (c.0 r.name)) d.registers
+
+-- What is shown of a line on a design: a segment that violates it, which the values name.
+pub record ShowsSegment (d : Parts) (m : Meaning) (set : Set) (line : Line) (e : Naming) (shown : Shown) : Type 0 where
+  pub resets : List (DesignCycle d)
+  pub cycles : List (DesignCycle d)
+  pub violating : AreViolatingCycles d m set line resets cycles
+  pub named : IsNamedBy d set (length resets) e (resets ++ cycles)
+  pub start : shown.start ≡ first_values d (resets ++ cycles)
+  pub before : shown.before ≡ length resets
+  pub names : shown.first.names ≡ declared_names set
+  pub rows : shown.first.rows ≡ trace_of (word_design d set) (resets ++ cycles)
+  pub second : shown.second ≡ None
+
+-- ---- how it is made
+
+-- how many reset cycles stand before the cycles of a line, and the number of its last cycle
+abbrev pub resets_of : Set → Line → ℕ
+resets_of set (Base i) = set.cycles
+resets_of set (Step i) = 0
+resets_of set Reset = set.cycles
+resets_of set (Operation p) = 0
+resets_of set (End p) = 0
+resets_of set (Split p) = 0
+resets_of set (SameEnd p) = 0
+resets_of set (Choose p q) = 0
+resets_of set (Hand p q) = 0
+resets_of set (Determine p) = 0
+
+abbrev pub last_cycle : Set → Line → ℕ
+last_cycle set (Base i) = 0
+last_cycle set (Step i) = 1
+last_cycle set Reset = window_of set 0
+last_cycle set (Operation p) = window_of set p
+last_cycle set (End p) = 0
+last_cycle set (Split p) = 0
+last_cycle set (SameEnd p) = 0
+last_cycle set (Choose p q) = 0
+last_cycle set (Hand p q) = 0
+last_cycle set (Determine p) = 0
+
+abbrev pub register_name : Register → Name
+register_name r = r.name
+
+abbrev pub register_next : Register → ℕ
+register_next r = r.next
+
+-- the first value that is named of a register, where k cycles stand before cycle 0
+abbrev pub named_start : Naming → ℕ → Register → Start
+named_start e k r = started r.name (e r.name 0 (cycle_number k 0) % 2 ^ r.width)
+
+-- the words of all nodes at a position of the segment that the values name
+pub record AreWordsAt (d : Parts) (set : Set) (k i : ℕ) (values : Values) (words : List Bits) : Type 0 where
+  pub count : length words ≡ length d.nodes
+  pub named : (e : Naming) → AreOf e values → words ≡ dag_values (naming_of (held d set k e i)) [] d.nodes
+
+-- those of the cycle before, where there is one
+abbrev pub AreWordsBefore : Parts → Set → ℕ → ℕ → Values → List Bits → Type 0
+AreWordsBefore d set k zero values words = Unit {0}
+AreWordsBefore d set k (suc i) values words = AreWordsAt d set k i values words

@@ -1,0 +1,150 @@
+// The words of a design's nodes in the cycles of a segment that values name.
+ghost use Rattle.std.specs.Prelude.{◌≡◌, map, IfOk};
+ghost use Rattle.std.specs.Option.{option_map};
+ghost use Rattle.flat_scopes.specs.Borrowed.{name_meant};
+ghost use Rattle.word_dag.specs.Given.{widths_of};
+ghost use Rattle.word_dag.specs.Nodes.{FitsNode, Naming, named, node_value, width_of, word_at};
+ghost use Rattle.word_design.specs.Designs.{IsDesign, naming_of};
+ghost use Rattle.segment_laws.specs.Segments.{cycle_number};
+ghost use Rattle.segment_laws.specs.Tests.{held, register_at};
+ghost use Rattle.replay.specs.Segments.{AreWordsAt, AreWordsBefore, register_name, register_next};
+ghost use Rattle.replay.specs.Values.{AreOf};
+
+use crate::values::{Values, value_at};
+use crate::window::cut;
+use binding::Bound;
+use flat_scopes::Names;
+use std::alloc::{AllocError, Global};
+use unroll::{Moment, cycle_of, level};
+use word_core::Word;
+use word_dag::{Node, value_of};
+use word_design::Design;
+
+/// The names of a design's registers, each found at once.
+pub fn register_names<'a>(alloc: Global, design: &'a Design) -> Result<Names<'a>, AllocError>
+    ensures { IfOk result (λ names. names ≡ map register_name design.now.registers) }
+{
+    let mut names = Vec::new(alloc);
+    for register in design.registers() {
+        names.push(&register.name)?;
+    }
+    Names::of(alloc, names)
+}
+
+// The node of a register's next value, where there is a register of this name.
+fn next_of(design: &Design, registers: &Names<'_>, name: &[u8]) -> Option<u64>
+    requires { registers.now ≡ map register_name design.now.registers }
+    ensures { result ≡ option_map register_next (register_at design.now.registers name.now) }
+{
+    match registers.place(name) {
+        Some(at) => match design.registers().get(at) {
+            Some(register) => Some(register.next),
+            None => None,
+        },
+        None => None,
+    }
+}
+
+/// The value of a node; 0 where it isn't there.
+pub fn value_in(words: &[Word], node: u64) -> u64
+    ensures { result ≡ (word_at words.now node).value }
+{
+    match words.get(node as usize) {
+        Some(word) => word.value(),
+        None => 0,
+    }
+}
+
+// The value of a free word in a cycle.
+fn free_value(values: &Values<'_>, name: &[u8], moment: Moment) -> u64
+    ensures { (e : Naming) → AreOf e values.now → result ≡ e name.now 0 (cycle_number moment.resets moment.position) }
+{
+    value_at(values, name, 0, cycle_of(moment))
+}
+
+// The value of a register or an input in a cycle: at first its free word's, then what the cycle before leaves in a register, and a free word's in
+// an input; the reset has its level.
+fn held(
+    bound: &Bound,
+    values: &Values<'_>,
+    registers: &Names<'_>,
+    moment: Moment,
+    before: &[Word],
+    name: &[u8],
+) -> u64
+    requires design { IsDesign bound.now.design }
+    requires registers { registers.now ≡ map register_name bound.now.design.registers }
+    requires before { AreWordsBefore bound.now.design bound.now.set moment.resets moment.position values.now before.now }
+    ensures { (e : Naming) → AreOf e values.now → result ≡ held bound.now.design bound.now.set moment.resets e moment.position name.now }
+{
+    let set = bound.set().set();
+    if name == set.reset.bytes() {
+        return level(set, moment.position < moment.resets);
+    }
+    let free = free_value(values, name, moment);
+    if moment.position == 0 {
+        return free;
+    }
+    match next_of(bound.design(), registers, name) {
+        Some(next) => value_in(before, next),
+        None => free,
+    }
+}
+
+// The word of a node in a cycle, from those of the nodes before it.
+fn node_word(
+    bound: &Bound,
+    values: &Values<'_>,
+    registers: &Names<'_>,
+    moment: Moment,
+    before: &[Word],
+    node: &Node,
+    words: &[Word],
+) -> Word
+    requires design { IsDesign bound.now.design }
+    requires registers { registers.now ≡ map register_name bound.now.design.registers }
+    requires before { AreWordsBefore bound.now.design bound.now.set moment.resets moment.position values.now before.now }
+    requires fits { FitsNode (widths_of words.now) node.now }
+    ensures value { (e : Naming) → AreOf e values.now → result ≡ node_value (named (naming_of (held bound.now.design bound.now.set moment.resets e moment.position)) node.now) words.now node.now }
+    ensures width { result.width ≡ width_of node.now }
+{
+    match node {
+        Node::Free { name, width, .. } => {
+            let value = held(bound, values, registers, moment, before, name.bytes());
+            Word::new(*width, cut(value, *width))
+        }
+        _ => value_of(node, 0, words),
+    }
+}
+
+/// The words of all nodes of a design in a cycle of the segment that values name, from those of the cycle before, where there is one. It is
+/// refused for want of memory alone.
+pub fn words_at(
+    alloc: Global,
+    bound: &Bound,
+    values: &Values<'_>,
+    registers: &Names<'_>,
+    moment: Moment,
+    before: &[Word],
+) -> Result<Vec<Word>, AllocError>
+    requires design { IsDesign bound.now.design }
+    requires registers { registers.now ≡ map register_name bound.now.design.registers }
+    requires before { AreWordsBefore bound.now.design bound.now.set moment.resets moment.position values.now before.now }
+    ensures { IfOk result (λ words. AreWordsAt bound.now.design bound.now.set moment.resets moment.position values.now words.items) }
+{
+    let nodes = bound.design().dag().nodes();
+    let mut words = Vec::with_capacity(alloc, nodes.len())?;
+    for node in nodes {
+        let word = node_word(
+            bound,
+            values,
+            registers,
+            moment,
+            before,
+            node,
+            words.as_slice(),
+        );
+        words.push(word)?;
+    }
+    Ok(words)
+}

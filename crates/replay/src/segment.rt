@@ -1,0 +1,180 @@
+// What is shown of the lines of a design.
+ghost use Rattle.std.specs.Prelude.{◌≡◌, ◌<◌, ◌≤◌, length, map, IfOk};
+ghost use Rattle.std.specs.List.{All, AllZip};
+ghost use Rattle.vlog_tree.specs.Valuation.{IsLength};
+ghost use Rattle.set_tree.specs.Formulas.{meaning_of};
+ghost use Rattle.word_core.specs.Words.{Bits};
+ghost use Rattle.word_dag.specs.Nodes.{Naming, root_value, word_at};
+ghost use Rattle.word_design.specs.Designs.{IsDesign};
+ghost use Rattle.word_design.specs.declared.design.Register.{Register as Registers};
+ghost use Rattle.word_names.specs.Names.{HasOneWordEach, naming_from};
+ghost use Rattle.binding.specs.Binding.{Fits};
+ghost use Rattle.segment_laws.specs.Lines.{IsOf};
+ghost use Rattle.segment_laws.specs.Tests.{rows_from};
+ghost use Rattle.twin_tests.specs.Framing.{SpeaksOf};
+ghost use Rattle.unroll.specs.Copies.{IsPlaceOf};
+ghost use Rattle.replay.specs.Segments.{ShowsSegment, last_cycle, named_start, register_name, resets_of};
+ghost use Rattle.replay.specs.Values.{AreOf};
+
+use crate::cycle::{register_names, value_in, words_at};
+use crate::shown::{Shown, Start};
+use crate::twin::{trace_of, window_of};
+use crate::values::{Values, value_at, values_of};
+use crate::window::cut;
+use binding::Bound;
+use flat_scopes::Names;
+use outside::Text;
+use set_sound::Sound;
+use set_tree::{Line, Rows};
+use std::alloc::{AllocError, Global};
+use unroll::{Moment, cycle_of, places_of};
+use word_core::Word;
+use word_dag::Ob;
+use word_design::Register;
+
+// How many reset cycles stand before the cycles of a line.
+fn resets_of(set: &Sound, line: Line) -> u8
+    ensures resets { result ≡ resets_of set.now line }
+    ensures small { result ≤ 64 }
+{
+    match line {
+        Line::Base(_) | Line::Reset => set.set().cycles,
+        Line::Step(_)
+        | Line::Operation(_)
+        | Line::End(_)
+        | Line::Split(_)
+        | Line::SameEnd(_)
+        | Line::Choose(..)
+        | Line::Hand(..)
+        | Line::Determine(_) => 0,
+    }
+}
+
+// The number of a line's last cycle.
+fn last_cycle(set: &Sound, line: Line) -> u8
+    requires { SpeaksOf set.now line }
+    ensures last { result ≡ last_cycle set.now line }
+    ensures small { result ≤ 64 }
+{
+    match line {
+        Line::Step(_) => 1,
+        Line::Reset => window_of(set, 0),
+        Line::Operation(p) => window_of(set, p),
+        Line::Base(_)
+        | Line::End(_)
+        | Line::Split(_)
+        | Line::SameEnd(_)
+        | Line::Choose(..)
+        | Line::Hand(..)
+        | Line::Determine(_) => 0,
+    }
+}
+
+// The values of the nodes at these places.
+fn row_of(alloc: Global, words: &[Word], places: &[u64]) -> Result<Rows<u64>, AllocError>
+    ensures { IfOk result (λ row. row ≡ map (λ place. (word_at words.now place).value) places.now) }
+{
+    let mut row = Rows::new(alloc);
+    for place in places {
+        row.push(value_in(words, *place))?;
+    }
+    Ok(row)
+}
+
+// The first rows of a segment, its reset cycles among them.
+fn segment_rows(
+    alloc: Global,
+    bound: &Bound,
+    values: &Values<'_>,
+    registers: &Names<'_>,
+    resets: u8,
+    count: u8,
+) -> Result<Rows<Rows<u64>>, AllocError>
+    requires design { IsDesign bound.now.design }
+    requires fits { Fits bound.now.design bound.now.set }
+    requires registers { registers.now ≡ map register_name bound.now.design.registers }
+    ensures { IfOk result (λ rows. (e : Naming) → AreOf e values.now → rows ≡ rows_from bound.now.design bound.now.set resets e 0 count) }
+{
+    let places = places_of(alloc, bound)?;
+    let mut words = Vec::new(alloc);
+    let mut rows = Rows::new(alloc);
+    for position in 0..count {
+        let moment = Moment { position, resets };
+        words = words_at(alloc, bound, values, registers, moment, words.as_slice())?;
+        let row = row_of(alloc, words.as_slice(), places.as_slice())?;
+        rows.push(row)?;
+    }
+    Ok(rows)
+}
+
+// The first value of a register.
+fn start_of(
+    alloc: Global,
+    register: &Register,
+    values: &Values<'_>,
+    resets: u8,
+) -> Result<Start, AllocError>
+    requires { IsLength register.now.width }
+    ensures { IfOk result (λ start. (e : Naming) → AreOf e values.now → start ≡ named_start e resets register.now) }
+{
+    let first = Moment {
+        position: 0,
+        resets,
+    };
+    let name = register.name.bytes();
+    let value = value_at(values, name, 0, cycle_of(first));
+    Ok(Start {
+        name: Text::copy(alloc, name)?,
+        value: cut(value, register.width),
+    })
+}
+
+// The registers' first values.
+fn starts_of(
+    alloc: Global,
+    registers: &[Register],
+    values: &Values<'_>,
+    resets: u8,
+) -> Result<Rows<Start>, AllocError>
+    requires { All (λ r. IsLength r.width) registers.now }
+    ensures { IfOk result (λ starts. (e : Naming) → AreOf e values.now → starts ≡ map (named_start e resets) registers.now) }
+{
+    let mut starts = Rows::new(alloc);
+    for register in registers {
+        starts.push(start_of(alloc, register, values, resets)?)?;
+    }
+    Ok(starts)
+}
+
+/// What is shown of a line of a design that is refuted by values of its obligation's free nodes, one each in number order: the segment that they
+/// name, every word that the obligation doesn't have being 0. It violates the line. Its reset cycles, where the line has them, stand first. It is
+/// refused for want of memory alone.
+pub fn replay(
+    alloc: Global,
+    bound: &Bound,
+    line: Line,
+    ob: &Ob,
+    values: &[u64],
+) -> Result<Shown, AllocError>
+    requires of_line { IsOf bound.now.design (meaning_of bound.now.set) bound.now.set line ob.now.nodes ob.now.root }
+    requires speaks { SpeaksOf bound.now.set line }
+    requires words { HasOneWordEach ob.now.nodes }
+    requires root { (root_value values.now ob.now.nodes ob.now.root).value ≡ 1 }
+    ensures { IfOk result (ShowsSegment bound.now.design (meaning_of bound.now.set) bound.now.set line (naming_from ob.now.nodes values.now)) }
+{
+    let design = bound.design();
+    // the nodes of a design fit
+    let _fit = design.dag();
+    let values = values_of(alloc, ob.nodes(), values)?;
+    let registers = register_names(alloc, design)?;
+    let set = bound.set();
+    let before = resets_of(set, line);
+    let count = before + last_cycle(set, line) + 1;
+    let rows = segment_rows(alloc, bound, &values, &registers, before, count)?;
+    Ok(Shown {
+        start: starts_of(alloc, design.registers(), &values, before)?,
+        before: u32::from(before),
+        first: trace_of(alloc, set.set(), rows)?,
+        second: None,
+    })
+}

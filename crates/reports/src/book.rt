@@ -1,0 +1,62 @@
+// The lines that a check decided.
+ghost use Rattle.std.specs.Prelude.{◌≡◌, []};
+ghost use Rattle.reports.specs.Lines.{verdict_of};
+
+use outside::Text;
+use replay::Shown;
+use std::alloc::Global;
+use verdicts::Evidence;
+use word_dag::Ob;
+
+/// How a line was decided.
+#[derive(Clone, Copy, PartialEq, Eq)]
+pub enum Verdict {
+    /// Nothing violates the line.
+    Proved,
+    /// Something violates it.
+    Refuted,
+    /// The budget was spent before it was decided.
+    Spent,
+}
+
+/// A line of a report: its name, how it was decided, the obligation that was decided, and what shows the verdict. Steps are over the clauses of the
+/// obligation, and values are those of its free nodes. Where it is refuted it has a counterexample.
+#[derive(Drop)]
+pub struct Line {
+    pub name: Text,
+    pub verdict: Verdict,
+    pub ob: Ob,
+    pub evidence: Evidence,
+    pub trace: Option<Shown>,
+}
+
+/// The lines that a call decided, in the order of its report, and the numbers that the workers drew, in ascending order.
+#[derive(Drop)]
+pub struct Book {
+    pub lines: Vec<Line>,
+    pub draws: Vec<u64>,
+}
+
+impl Book {
+    /// A book without lines.
+    pub fn new(alloc: Global) -> Book
+        ensures lines { result.lines.items ≡ [] }
+        ensures draws { result.draws.items ≡ [] }
+    {
+        Book {
+            lines: Vec::new(alloc),
+            draws: Vec::new(alloc),
+        }
+    }
+}
+
+/// The verdict that evidence shows.
+pub fn verdict_of(evidence: &Evidence) -> Verdict
+    ensures { result ≡ verdict_of evidence.now }
+{
+    match evidence {
+        Evidence::Derivation(_) => Verdict::Proved,
+        Evidence::Values(_) => Verdict::Refuted,
+        Evidence::Chain(_) => Verdict::Spent,
+    }
+}

@@ -1,0 +1,6 @@
+mod Words
+mod Elements
+mod Exprs
+mod Bodies
+mod Parts
+pub mod Reading
