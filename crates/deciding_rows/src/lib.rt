@@ -1,4 +1,4 @@
-//! Rows of the deciding layer: words, their clauses, derivations, the solver, helpers and the workers.
+//! Rows of the deciding layer: words, their clauses, derivations, their records, the solver, helpers and the workers.
 #![tactic(auto)]
 
 #[cfg(test)]
@@ -9,6 +9,8 @@ mod derivations;
 mod helpers;
 #[cfg(test)]
 mod jobs;
+#[cfg(test)]
+mod records;
 #[cfg(test)]
 mod solver;
 #[cfg(test)]

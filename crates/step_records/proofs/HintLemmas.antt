@@ -1,0 +1,64 @@
+use Rattle.std.proofs.Common.{◌≡◌, ◌<◌, ◌^◌, ℕ, List, [], ◌∷◌, length, ap, refl, inl, inr, arith}
+use Rattle.std.specs.List.{All}
+use Rattle.std.proofs.lemmas.Bool.{cases_lt}
+use Rattle.std.proofs.lemmas.List.Elements.{All-nil, All-cons, All-head, All-tail}
+use Rattle.step_records.specs.declared.version.Version.{Version}
+use Rattle.step_records.specs.declared.version.Version.TheVariants.{First, Second}
+use Rattle.step_records.specs.Front.{Lacks, Starts}
+use Rattle.step_records.specs.Layout.{distance, distances, distances_after, hint_numbers, list_bytes, hints_bytes, FitsNumbers, FitsHints}
+use Rattle.step_records.proofs.FrontLemmas.{by_none, by_odd, by_one}
+use Rattle.step_records.proofs.DistanceLemmas.{Below, down, up, distances_same}
+
+abbrev Word : ℕ → Type 0
+Word n = n < 2 ^ 64
+
+distance_word : (before h : ℕ) → Below before → Below h → Word (distance before h)
+distance_word before h low below = elim (cases_lt h before) [
+  | inl lower ↦ let d = down before h lower in omega arith
+  | inr higher ↦ let d = up before h higher in omega arith
+]
+
+after_words : (before : ℕ) (hs : List ℕ) → Below before → All Below hs → All Word (distances_after before hs)
+after_words before [] low below = All-nil Word
+after_words before (h ∷ hs) low below =
+    let head = All-head Below h hs below in
+    All-cons Word (distance before h) (distances_after h hs) (distance_word before h low head) (after_words h hs head (All-tail Below h hs below))
+
+words : (hs : List ℕ) → All Below hs → All Word (distances hs)
+words [] below = All-nil Word
+words (h ∷ hs) below =
+    let head = All-head Below h hs below in
+    All-cons Word h (distances_after h hs) (omega arith) (after_words h hs head (All-tail Below h hs below))
+
+length_after : (before : ℕ) (hs : List ℕ) → length (distances_after before hs) ≡ length hs
+length_after before [] = refl
+length_after before (h ∷ hs) = let e = length_after h hs in omega arith
+
+pub length_distances : (hs : List ℕ) → length (distances hs) ≡ length hs
+length_distances [] = refl
+length_distances (h ∷ hs) = let e = length_after h hs in omega arith
+
+numbers_fit : (version : Version) (hints : List ℕ) → FitsHints version hints → FitsNumbers version (hint_numbers version hints)
+numbers_fit First hints fits = fits
+numbers_fit Second hints fits = record { count = let few = fits.count in omega (arith, length_distances hints); each = words hints fits.each }
+
+pub hints_none : (version : Version) (bytes : List ℕ) → Lacks (FitsNumbers version) (list_bytes version) bytes → Lacks (FitsHints version) (hints_bytes version) bytes
+hints_none version bytes none = by_none (FitsNumbers version) (list_bytes version) (hint_numbers version) (FitsHints version) (numbers_fit version) bytes none
+
+pub hints_plain : (version : Version) (bytes numbers rest : List ℕ) → version ≡ First → Starts (FitsNumbers version) (list_bytes version) bytes numbers rest → Starts (FitsHints version) (hints_bytes version) bytes numbers rest
+hints_plain First bytes numbers rest e starts = by_one (FitsNumbers First) (list_bytes First) (hint_numbers First) (FitsHints First) (numbers_fit First) bytes numbers numbers rest starts refl starts.fits (λ others fits same. same)
+hints_plain Second bytes numbers rest e starts = cc
+
+pub hints_odd : (version : Version) (bytes numbers rest : List ℕ) → version ≡ Second → Starts (FitsNumbers version) (list_bytes version) bytes numbers rest
+    → ((hs : List ℕ) → All (λ h. h < 2 ^ 62) hs → distances hs ≡ numbers → ⊥) → Lacks (FitsHints version) (hints_bytes version) bytes
+hints_odd First bytes numbers rest e starts odd = cc
+hints_odd Second bytes numbers rest e starts odd =
+    by_odd (FitsNumbers Second) (list_bytes Second) (hint_numbers Second) (FitsHints Second) (numbers_fit Second) bytes numbers rest starts (λ hs fits told. odd hs fits.each told)
+
+pub hints_told : (version : Version) (bytes numbers rest hints : List ℕ) → version ≡ Second → Starts (FitsNumbers version) (list_bytes version) bytes numbers rest
+    → All (λ h. h < 2 ^ 62) hints → distances hints ≡ numbers → Starts (FitsHints version) (hints_bytes version) bytes hints rest
+hints_told First bytes numbers rest hints e starts below told = cc
+hints_told Second bytes numbers rest hints e starts below told =
+    by_one (FitsNumbers Second) (list_bytes Second) (hint_numbers Second) (FitsHints Second) (numbers_fit Second) bytes numbers hints rest starts told
+    (record { count = let few = starts.fits.count in omega (arith, ap length told, length_distances hints); each = below })
+    (λ others fits same. distances_same others hints same)

@@ -1,0 +1,67 @@
+use Rattle.std.proofs.Common.{◌≡◌, ◌<◌, ◌≤◌, ◌+◌, ◌*◌, ◌^◌, ℕ, Bool, true, false, cond, List, [], ◌∷◌, map, length, ap, sym, refl, ◌∙◌, arith}
+use Rattle.std.specs.List.{All}
+use Rattle.std.proofs.lemmas.List.{length-map}
+use Rattle.std.proofs.lemmas.List.Elements.{All-map, All-same, All-weaker}
+use Rattle.clause_check.specs.declared.literal.Lit.{Lit}
+use Rattle.step_records.specs.declared.version.Version.{Version}
+use Rattle.step_records.specs.declared.version.Version.TheVariants.{First, Second}
+use Rattle.step_records.specs.Front.{Lacks, Starts}
+use Rattle.step_records.specs.Layout.{lit_value, list_bytes, lits_bytes, var_limit, FitsNumbers, FitsLits}
+use Rattle.step_records.proofs.FrontLemmas.{by_none, by_odd, by_one}
+
+parts_same : (v w : ℕ) (a b : Bool) → 2 * v + cond a 1 0 ≡ 2 * w + cond b 1 0 → (v ≡ w) × (a ≡ b)
+parts_same v w true true e = (omega arith, refl)
+parts_same v w true false e = absurd (omega arith)
+parts_same v w false true e = absurd (omega arith)
+parts_same v w false false e = (omega arith, refl)
+
+with_parts : ℕ → Bool → Lit
+with_parts v n = record { var = v; negative = n }
+
+lit_same : (l m : Lit) → lit_value l ≡ lit_value m → l ≡ m
+unfolding with_parts
+lit_same l m e =
+    let p = parts_same l.var m.var l.negative m.negative e in
+    ap (λ v. with_parts v l.negative) p.0 ∙ ap (λ n. with_parts m.var n) p.1
+
+pub lits_same : (ls ms : List Lit) → map lit_value ls ≡ map lit_value ms → ls ≡ ms
+lits_same [] [] e = refl
+lits_same [] (m ∷ ms) e = cc
+lits_same (l ∷ ls) [] e = cc
+lits_same (l ∷ ls) (m ∷ ms) e =
+    let head : lit_value l ≡ lit_value m = cc in
+    let tail : map lit_value ls ≡ map lit_value ms = cc in
+    ap (λ k. k ∷ ls) (lit_same l m head) ∙ ap (λ ks. m ∷ ks) (lits_same ls ms tail)
+
+sign_small : (b : Bool) → cond b 1 0 ≤ 1
+sign_small true = omega arith
+sign_small false = omega arith
+
+value_fits : (version : Version) (l : Lit) → l.var < var_limit version → lit_value l < 2 ^ 64
+value_fits First l below = omega (arith, sign_small l.negative)
+value_fits Second l below = omega (arith, sign_small l.negative)
+
+values_fit : (version : Version) (lits : List Lit) → FitsLits version lits → FitsNumbers version (map lit_value lits)
+values_fit version lits fits = record {
+  count = let few = fits.count in omega (arith, length-map lits lit_value);
+  each = All-map (λ n. n < 2 ^ 64) lit_value lits (All-weaker (λ l. l.var < var_limit version) (λ l. lit_value l < 2 ^ 64) (value_fits version) lits fits.each);
+}
+
+module _ (version : Version) (bytes : List ℕ) where
+  pub lits_none : Lacks (FitsNumbers version) (list_bytes version) bytes → Lacks (FitsLits version) (lits_bytes version) bytes
+  lits_none none = by_none (FitsNumbers version) (list_bytes version) (map lit_value) (FitsLits version) (values_fit version) bytes none
+
+  pub lits_odd : (values rest : List ℕ) (lits : List Lit) → Starts (FitsNumbers version) (list_bytes version) bytes values rest → map lit_value lits ≡ values → (All (λ l. l.var < var_limit version) lits → ⊥)
+      → Lacks (FitsLits version) (lits_bytes version) bytes
+  lits_odd values rest lits starts is odd =
+      by_odd (FitsNumbers version) (list_bytes version) (map lit_value) (FitsLits version) (values_fit version) bytes values rest starts
+      (λ others fits same.
+      let e = lits_same others lits (same ∙ sym is) in
+      odd (All-same (λ l. l.var < var_limit version) lits others (sym e) fits.each))
+
+  pub lits_one : (values rest : List ℕ) (lits : List Lit) → Starts (FitsNumbers version) (list_bytes version) bytes values rest → map lit_value lits ≡ values → All (λ l. l.var < var_limit version) lits
+      → Starts (FitsLits version) (lits_bytes version) bytes lits rest
+  lits_one values rest lits starts is below =
+      by_one (FitsNumbers version) (list_bytes version) (map lit_value) (FitsLits version) (values_fit version) bytes values lits rest starts is
+      (record { count = let few = starts.fits.count in omega (arith, ap length is, length-map lits lit_value); each = below })
+      (λ others fits same. lits_same others lits same)

@@ -1,0 +1,4 @@
+pub mod Front
+pub mod Varint
+pub mod Layout
+pub mod Records
