@@ -1,8 +1,8 @@
 -- From modules to a module without instances that can be elaborated.
-use Rattle.std.proofs.Common.{◌≡◌, ◌<◌, true, false, List, [], ◌∷◌, Option, Some, None, refl, subst, arith, inl, inr, ⊎_elim}
+use Rattle.std.proofs.Common.{◌≡◌, ◌<◌, Bool, true, false, List, Option, Some, None, refl, arith}
 use Rattle.std.specs.Prelude.{nat_lt}
 use Rattle.std.specs.List.{find}
-use Rattle.std.proofs.lemmas.Bool.{cases_Bool}
+use Rattle.set_lookup.proofs.Searches.{find_has, find_misses}
 use Rattle.vlog_tree.specs.declared.module.Module.{Module}
 use Rattle.vlog_runs.specs.declared.flat.Flat.{Flat}
 use Rattle.vlog_runs.specs.declared.flat.Signal.{Signal}
@@ -23,25 +23,17 @@ some_depth d is = grind (arith, is)
 no_depth : (d : _) → nat_lt 0 d ≡ false → d ≡ 0
 no_depth d is = grind (arith, is)
 
+not_true : (b : Bool) → (b ≡ true → ⊥) → b ≡ false
+not_true true h = absurd (h refl)
+not_true false h = refl
+
 -- a signal that is found is a memory
 pub found_memory : (gs : List Signal) (g : Signal) → find is_memory gs ≡ Some g → IsMemory gs g
-found_memory [] g is = absurd (let none : None ≡ Some g = is in cc)
-found_memory (x ∷ xs) g is = elim (cases_Bool (is_memory x)) [
-  | inl t ↦
-      let some : Some x ≡ Some g = rw t at is in
-      let same : x ≡ g = cc in
-      (inl same, subst (λ (z : Signal). 0 < z.depth) same (some_depth x.depth t))
-  | inr t ↦ (let rest : find is_memory xs ≡ Some g = rw t at is in let r = found_memory xs g rest in (inr r.0, r.1))
-]
+found_memory gs g is = let r = find_has is_memory gs g is in (r.0, some_depth g.depth r.1)
 
 -- where none is found there is none
 pub no_memory : (gs : List Signal) → find is_memory gs ≡ None → (g : Signal) → Among gs g → g.depth ≡ 0
-no_memory [] is g m = absurd m
-no_memory (x ∷ xs) is g m = elim (cases_Bool (is_memory x)) [
-  | inl t ↦ absurd (let some : Some x ≡ None = rw t at is in cc)
-  | inr t ↦ (let rest : find is_memory xs ≡ None = rw t at is in
-      ⊎_elim (λ (same : x ≡ g). subst (λ (z : Signal). z.depth ≡ 0) same (no_depth x.depth t)) (λ (in' : Among xs g). no_memory xs rest g in') m)
-]
+no_memory gs is g m = no_depth g.depth (not_true (nat_lt 0 g.depth) (find_misses is_memory gs is g m))
 
 -- its bits have numbers of words
 pub plain_numbered : (ms : List Module) (top : Name) (flat : Flat) → IsFlattened ms top flat → ((fault : FlatFault) → Stands ms top fault → ⊥) → AreNumbered flat

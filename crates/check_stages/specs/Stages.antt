@@ -29,8 +29,12 @@ is_memory g = nat_lt 0 g.depth
 abbrev pub IsMemory : List Signal → Signal → Type 0
 IsMemory gs g = Among gs g × (0 < g.depth)
 
--- modules without a fault of flattening are from their top this module without instances, which has their runs, the top's ports and clocks, and no
--- memories
+-- modules without a fault of flattening are from their top this module without instances
+pub record IsFaultlessFlatOf (ms : List Module) (top : Name) (flat : Flat) : Type 0 where
+  pub flattened : IsFlattened ms top flat
+  pub faultless : (fault : FlatFault) → StandsFlat ms top fault → ⊥
+
+-- and it has their runs, the top's ports and clocks, and no memories
 pub record IsPlainFlatOf (ms : List Module) (top : Name) (flat : Flat) : Type 0 where
   pub flattened : IsFlattened ms top flat
   pub faultless : (fault : FlatFault) → StandsFlat ms top fault → ⊥
@@ -57,10 +61,10 @@ pub record IsBoundOf (text set_text : List ℕ) (b : Pair) : Type 0 where
 
 -- ---- refusals
 
--- a fault of flattening stands for the modules, a signal is a memory, or a fault of elaboration stands
+-- a fault of flattening stands for the modules; or none does, and a signal is a memory; or none is, and a fault of elaboration stands
 abbrev pub RefusesDesign : List Module → Name → CheckFault → Type 0
 RefusesDesign ms top (f.Module (m.Flat fault)) = StandsFlat ms top fault
-RefusesDesign ms top (f.Module (m.Later n)) = (flat : Flat) × IsFlattened ms top flat × (g : Signal) × IsMemory flat.signals g × (n ≡ g.name)
+RefusesDesign ms top (f.Module (m.Later n)) = (flat : Flat) × IsFaultlessFlatOf ms top flat × (g : Signal) × IsMemory flat.signals g × (n ≡ g.name)
 RefusesDesign ms top (f.Module (m.Elab fault)) = (flat : Flat) × IsPlainFlatOf ms top flat × IsFaultOf flat fault
 RefusesDesign ms top (f.Module m.TooLong) = ⊥
 RefusesDesign ms top (f.Module (m.Read fault)) = ⊥

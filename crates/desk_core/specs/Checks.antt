@@ -14,7 +14,9 @@ use Rattle.reports.specs.declared.which.Which.{Which}
 use Rattle.reports.specs.declared.which.Which.TheVariants as w
 use Rattle.reports.specs.Lines.{all_proved}
 use Rattle.reports.specs.Reports.{is_complete, report_text}
-use Rattle.asked_lines.specs.Decided.{AreAsked, IsLineNamed, IsLineOf}
+use Rattle.asked_lines.specs.declared.fault.LineFault.TheVariants as l
+use Rattle.asked_lines.specs.Asked.{LacksLine}
+use Rattle.asked_lines.specs.Decided.{AreAsked, IsLineOf}
 
 -- The report of two texts: its lines are those asked for, each decided rightly, and its text tells them.
 pub record IsReport (module_text set_text : List ℕ) (which : Which) (budget : ℕ) (decided : List Told) (r : Report) : Type 0 where
@@ -32,7 +34,7 @@ pub record IsReport (module_text set_text : List ℕ) (which : Which) (budget : 
 
 -- no line has the name that was asked for
 abbrev pub LacksAsked : Set → Which → CheckFault → Type 0
-LacksAsked set which f.NoLine = (name : List ℕ) × (which ≡ w.One name) × ((line : Line) → IsLineNamed set name line → ⊥)
+LacksAsked set which f.NoLine = LacksLine set which l.NoLine
 LacksAsked set which f.Memory = Unit {0}
 LacksAsked set which (f.Module fault) = ⊥
 LacksAsked set which (f.Set stop) = ⊥

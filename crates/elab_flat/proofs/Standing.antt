@@ -11,13 +11,9 @@ use Rattle.flat_bounds.specs.Texts.{StandsAround}
 use Rattle.flat_instances.specs.Naming.{prefix_name}
 use Rattle.flat_instances.specs.Unfolding.{AreUnfolded}
 use Rattle.flat_instances.proofs.Standing.{in_scope}
-use Rattle.flat_checked.proofs.Sound.{at_one, at_any}
-use Rattle.elab_flat.specs.Standing.{StandsAtOne}
+use Rattle.flat_checked.proofs.Sound.{at_one}
 
 module _ (ms : List Module) (top : Name) (ss : List Scope) (are : AreUnfolded ms top ss) where
-  pub one_stands : (fault : FlatFault) → StandsAtOne ss fault → Stands ms top fault
-  one_stands fault h = at_any ms top ss are h.0 h.1 fault h.2
-
   pub around_stands : (s : Scope) → Among ss s → (fault : FlatFault) → StandsAround ms (prefix_name top s.prefix) s fault → Stands ms top fault
   around_stands s a fault (inl h) = at_one ms top ss are s a fault h
   around_stands s a fault (inr (i, found, t, is, h)) =

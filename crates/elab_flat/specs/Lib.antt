@@ -1,3 +1,2 @@
 pub mod Scoped
-pub mod Standing
 pub mod Joined

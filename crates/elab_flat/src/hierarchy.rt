@@ -14,7 +14,7 @@ ghost use Rattle.flat_ready.specs.Handed.{HasTopPorts, HasClocks, IsFlattened};
 ghost use Rattle.flat_ready.specs.Plain.{ArePlainTexts};
 ghost use Rattle.flat_checked.specs.Following.{AreFollowed};
 ghost use Rattle.elab_flat.specs.Joined.{IsJoined};
-ghost use Rattle.elab_flat.specs.Standing.{StandsAtOne};
+ghost use Rattle.flat_timing.specs.Passing.{StandsAmong};
 
 use crate::block::blocks_of;
 use crate::check::check_scopes;
@@ -42,7 +42,7 @@ fn joined(
     ensures texts { IfOk result (λ f. (ms : List Design) → AreFollowed ms (map scope_meant scopes.now) → IsJoined ms (map scope_meant scopes.now) top.now f) }
     ensures clock { IfOk result (λ f. f.clock ≡ clocks.clock) }
     ensures asyncs { IfOk result (λ f. f.asyncs ≡ clocks.asyncs) }
-    ensures err { IfErr result (Refuses (StandsAtOne (map scope_meant scopes.now))) }
+    ensures err { IfErr result (Refuses (StandsAmong (map scope_meant scopes.now))) }
 {
     let signals = match signals_of(alloc, scopes) {
         Ok(signals) => signals,

@@ -6,7 +6,7 @@ ghost use Rattle.flat_laws.specs.Flattened.{flat_signals};
 ghost use Rattle.flat_faults.specs.Stands.{Refuses};
 ghost use Rattle.flat_instances.specs.Unfolding.{scope_meant};
 ghost use Rattle.flat_names.specs.Rows.{StandsAlone};
-ghost use Rattle.elab_flat.specs.Standing.{StandsAtOne};
+ghost use Rattle.flat_timing.specs.Passing.{StandsAmong};
 
 use flat_faults::FlatFault;
 use flat_instances::Scope;
@@ -38,7 +38,7 @@ fn add_signals(all: &mut Items<Signal>, alloc: Global, scope: &Scope<'_>) -> Res
 /// The signals of scopes, one scope's after another's.
 pub fn signals_of(alloc: Global, scopes: &[Scope<'_>]) -> Result<Items<Signal>, FlatFault>
     ensures ok { IfOk result (λ all. all ≡ flat_map flat_signals (map scope_meant scopes.now)) }
-    ensures err { IfErr result (Refuses (StandsAtOne (map scope_meant scopes.now))) }
+    ensures err { IfErr result (Refuses (StandsAmong (map scope_meant scopes.now))) }
 {
     let mut all = Items::new(alloc);
     for scope in scopes {

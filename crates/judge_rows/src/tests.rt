@@ -9,8 +9,9 @@ struct Flaw<'a> {
     flaw: &'a str,
     sound: &'a str,
     tail: &'a str,
-    windows: Windows<'a>,
-    // What the windows are to the text without the flaw.
+    // Windows that violate lines of the text with the flaw.
+    windows: &'a [Windows<'a>],
+    // What they are to the text without it.
     want: &'a str,
 }
 
@@ -57,25 +58,20 @@ const FLAWS: &[Flaw] = &[
         sound: "",
         tail: STEPPED,
         want: "kept",
-        windows: Windows {
-            line: Line::Split(0),
-            end: 0,
-            one: &[&[0, 0], &[0, 0]],
-            other: &[],
-        },
-    },
-    Flaw {
-        head: STEPS,
-        flaw: "assume en@0; ",
-        sound: "",
-        tail: STEPPED,
-        want: "kept",
-        windows: Windows {
-            line: Line::Split(1),
-            end: 1,
-            one: &[&[1, 3], &[0, 0], &[0, 0]],
-            other: &[],
-        },
+        windows: &[
+            Windows {
+                line: Line::Split(0),
+                end: 0,
+                one: &[&[0, 0], &[0, 0]],
+                other: &[],
+            },
+            Windows {
+                line: Line::Split(1),
+                end: 1,
+                one: &[&[1, 3], &[0, 0], &[0, 0]],
+                other: &[],
+            },
+        ],
     },
     Flaw {
         head: COUNTER,
@@ -83,25 +79,20 @@ const FLAWS: &[Flaw] = &[
         sound: "hand q@0; ",
         tail: COUNTED,
         want: "kept",
-        windows: Windows {
-            line: Line::Hand(2, 1),
-            end: 1,
-            one: &[&[0, 0], &[1, 0], &[0, 1]],
-            other: &[&[0, 1], &[1, 1], &[0, 2]],
-        },
-    },
-    Flaw {
-        head: COUNTER,
-        flaw: "",
-        sound: "hand q@0; ",
-        tail: COUNTED,
-        want: "kept",
-        windows: Windows {
-            line: Line::Determine(2),
-            end: 1,
-            one: &[&[0, 0], &[0, 0]],
-            other: &[&[0, 1], &[0, 1]],
-        },
+        windows: &[
+            Windows {
+                line: Line::Hand(2, 1),
+                end: 1,
+                one: &[&[0, 0], &[1, 0], &[0, 1]],
+                other: &[&[0, 1], &[1, 1], &[0, 2]],
+            },
+            Windows {
+                line: Line::Determine(2),
+                end: 1,
+                one: &[&[0, 0], &[0, 0]],
+                other: &[&[0, 1], &[0, 1]],
+            },
+        ],
     },
     Flaw {
         head: FLIP,
@@ -109,25 +100,44 @@ const FLAWS: &[Flaw] = &[
         sound: "input",
         tail: FLIPPED,
         want: "kept",
-        windows: Windows {
-            line: Line::Choose(0, 1),
-            end: 0,
-            one: &[&[0, 1], &[0, 1]],
-            other: &[&[0, 0], &[0, 0]],
-        },
-    },
-    Flaw {
-        head: FLIP,
-        flaw: "state",
-        sound: "input",
-        tail: FLIPPED,
-        want: "kept",
-        windows: Windows {
-            line: Line::Choose(1, 2),
-            end: 1,
-            one: &[&[0, 1], &[1, 0], &[1, 0]],
-            other: &[&[0, 1], &[1, 1], &[0, 1]],
-        },
+        windows: &[
+            Windows {
+                line: Line::Choose(0, 1),
+                end: 0,
+                one: &[&[0, 1], &[0, 1]],
+                other: &[&[0, 0], &[0, 0]],
+            },
+            Windows {
+                line: Line::Choose(0, 2),
+                end: 0,
+                one: &[&[0, 0], &[0, 0]],
+                other: &[&[0, 1], &[1, 1]],
+            },
+            Windows {
+                line: Line::Choose(1, 1),
+                end: 1,
+                one: &[&[0, 1], &[1, 1], &[0, 1]],
+                other: &[&[0, 1], &[1, 0], &[1, 0]],
+            },
+            Windows {
+                line: Line::Choose(1, 2),
+                end: 1,
+                one: &[&[0, 1], &[1, 0], &[1, 0]],
+                other: &[&[0, 1], &[1, 1], &[0, 1]],
+            },
+            Windows {
+                line: Line::Choose(2, 1),
+                end: 1,
+                one: &[&[1, 0], &[1, 1], &[0, 1]],
+                other: &[&[1, 0], &[1, 0], &[1, 0]],
+            },
+            Windows {
+                line: Line::Choose(2, 2),
+                end: 1,
+                one: &[&[1, 0], &[1, 0], &[1, 0]],
+                other: &[&[1, 0], &[1, 1], &[0, 1]],
+            },
+        ],
     },
     Flaw {
         head: PIPE,
@@ -135,25 +145,20 @@ const FLAWS: &[Flaw] = &[
         sound: "v",
         tail: PIPED,
         want: "kept",
-        windows: Windows {
-            line: Line::Determine(0),
-            end: 0,
-            one: &[&[0, 0, 0, 7]],
-            other: &[&[0, 0, 0, 6]],
-        },
-    },
-    Flaw {
-        head: PIPE,
-        flaw: "o == 8'd7",
-        sound: "v",
-        tail: PIPED,
-        want: "kept",
-        windows: Windows {
-            line: Line::Determine(1),
-            end: 1,
-            one: &[&[0, 0, 0, 0], &[0, 0, 0, 7]],
-            other: &[&[0, 0, 0, 0], &[0, 0, 0, 6]],
-        },
+        windows: &[
+            Windows {
+                line: Line::Determine(0),
+                end: 0,
+                one: &[&[0, 0, 0, 7]],
+                other: &[&[0, 0, 0, 6]],
+            },
+            Windows {
+                line: Line::Determine(1),
+                end: 1,
+                one: &[&[0, 0, 0, 0], &[0, 0, 0, 7]],
+                other: &[&[0, 0, 0, 0], &[0, 0, 0, 6]],
+            },
+        ],
     },
     Flaw {
         head: WAITER,
@@ -161,12 +166,12 @@ const FLAWS: &[Flaw] = &[
         sound: "constraint soon : ok@0 || ok@1 || ok@2; ",
         tail: WAITED,
         want: "unconstrained",
-        windows: Windows {
+        windows: &[Windows {
             line: Line::End(2),
             end: 0,
             one: &[&[1, 0, 0], &[0, 0, 1], &[0, 0, 1], &[0, 0, 1], &[0, 0, 1]],
             other: &[],
-        },
+        }],
     },
 ];
 
@@ -177,18 +182,31 @@ fn text_of(alloc: Global, head: &str, piece: &str, tail: &str) -> Result<Text, A
     Ok(text)
 }
 
-fn line(rt: &(impl Abort + AllocGlobal), flaw: &Flaw, piece: &str, want: &str) -> Result<(), Fail> {
+fn line(
+    rt: &(impl Abort + AllocGlobal),
+    flaw: &Flaw,
+    piece: &str,
+    windows: &Windows,
+    want: &str,
+) -> Result<(), Fail> {
     let text = text_of(rt.alloc(), flaw.head, piece, flaw.tail)?;
-    let word = shown(rt.alloc(), text.bytes(), &flaw.windows)?;
+    let word = shown(rt.alloc(), text.bytes(), windows)?;
     assert_eq!(rt; word, want, "at {piece:?}");
+    Ok(())
+}
+
+fn lines(rt: &(impl Abort + AllocGlobal), flaw: &Flaw) -> Result<(), Fail> {
+    for windows in flaw.windows {
+        line(rt, flaw, flaw.flaw, windows, "violated")?;
+        line(rt, flaw, flaw.sound, windows, flaw.want)?;
+    }
     Ok(())
 }
 
 #[test]
 fn windows_violate_the_line_that_the_flaw_refutes(rt: HostRuntime) -> Result<(), Fail> {
     for flaw in FLAWS {
-        line(&rt, flaw, flaw.flaw, "violated")?;
-        line(&rt, flaw, flaw.sound, flaw.want)?;
+        lines(&rt, flaw)?;
     }
     Ok(())
 }

@@ -1,5 +1,5 @@
 -- What a run answers to the words and to what was read, and what goes out.
-use Rattle.std.specs.Prelude.{◌≡◌, ◌≢◌, ℕ, suc, ◌⊎◌, ◌+◌, Bool, true, false, List, [], ◌∷◌, ◌++◌, length, take, Option, Some, None, IfSome, IsSomeAnd, codes, if◌then◌else◌}
+use Rattle.std.specs.Prelude.{◌≡◌, ◌≢◌, ℕ, ◌⊎◌, ◌+◌, Bool, true, false, List, [], ◌∷◌, ◌++◌, length, take, count_by, Option, Some, None, IfSome, IsSomeAnd, codes, if◌then◌else◌}
 use Rattle.std.specs.Fmt.{decimal}
 use Rattle.std.specs.List.{list_any}
 use Rattle.std.specs.Io.KnownBytes.{Appends}
@@ -17,6 +17,7 @@ use Rattle.reports.specs.declared.report.Report.{Report}
 use Rattle.reports.specs.declared.which.Which.{Which}
 use Rattle.reports.specs.declared.which.Which.TheVariants as w
 use Rattle.desk_core.specs.Checks.{IsReport, Refuses}
+use Rattle.reports.specs.Lines.{is_proved}
 use Rattle.reports.specs.Reports.{last_line}
 use Rattle.command_words.specs.declared.action.Asked.{Asked}
 use Rattle.command_words.specs.declared.action.Asked.TheVariants as a
@@ -29,11 +30,6 @@ use Rattle.signoff.specs.declared.files.Read.{Read}
 use Rattle.signoff.specs.declared.files.Read.TheVariants.{NoModule, NoSet, Both}
 
 -- ---- reports
-
-abbrev pub is_proved : Verdict → Bool
-is_proved v.Proved = true
-is_proved v.Refuted = false
-is_proved v.Spent = false
 
 abbrev pub is_refuted : Verdict → Bool
 is_refuted v.Proved = false
@@ -48,11 +44,6 @@ is_spent v.Spent = true
 -- 1 where a line is refuted, else 10 where one is spent, else 0
 abbrev pub status_from : List Verdict → ℕ
 status_from vs = if list_any is_refuted vs then 1 else if list_any is_spent vs then 10 else 0
-
--- how many verdicts are such
-abbrev pub count_of : (Verdict → Bool) → List Verdict → ℕ
-count_of is [] = 0
-count_of is (v ∷ vs) = if is v then suc (count_of is vs) else count_of is vs
 
 -- a refuted line's counterexample stands for the report
 abbrev pub traced : Option Shown → List ℕ → List ℕ → List ℕ
@@ -75,14 +66,14 @@ counted_word n word = decimal n ++ word
 -- the summary of a generated check
 abbrev pub summary_line : ℕ → List Verdict → List ℕ
 summary_line n vs =
-    (((((codes "demo " ++ counted_word n (codes ": ")) ++ counted_word (length vs) (codes " lines, ")) ++ counted_word (count_of is_proved vs) (codes " proved, "))
-    ++ counted_word (count_of is_refuted vs) (codes " refuted, ")) ++ counted_word (count_of is_spent vs) (codes " spent\n"))
+    (((((codes "demo " ++ counted_word n (codes ": ")) ++ counted_word (length vs) (codes " lines, ")) ++ counted_word (count_by is_proved vs) (codes " proved, "))
+    ++ counted_word (count_by is_refuted vs) (codes " refuted, ")) ++ counted_word (count_by is_spent vs) (codes " spent\n"))
 
 abbrev pub summary : ℕ → Report → List ℕ
 summary n r = summary_line n r.verdicts.items ++ last_line w.All r.complete
 
 abbrev pub counted : List Verdict → Counts
-counted vs = record { proved = count_of is_proved vs; refuted = count_of is_refuted vs; spent = count_of is_spent vs }
+counted vs = record { proved = count_by is_proved vs; refuted = count_by is_refuted vs; spent = count_by is_spent vs }
 
 -- ---- answers
 

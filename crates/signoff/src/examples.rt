@@ -153,3 +153,25 @@ operation serve { length 4; assume !busy@0 && req@0;
   commit !ack@1 && !ack@2 && ack@3 && !ack@4; commit !busy@4;
   cover ack from 1 to 5; next idle, serve; }
 ";
+
+pub const WAITER: &[u8] =
+    b"module waiter(input clk, input rst, input go, input ok, output reg busy);
+  always @(posedge clk)
+    if (rst) busy <= 1'b0;
+    else if (!busy) busy <= go;
+    else if (ok) busy <= 1'b0;
+endmodule
+";
+
+pub const WAITER_SET: &[u8] = b"block waiter; clock clk; reset rst high 1;
+input go; input ok; output busy;
+constraint soon : ok@0 || ok@1 || ok@2;
+property reset { length 0; commit !busy@0; cover busy from 0 to 1; next idle, serve; }
+operation idle { length 1; assume !busy@0 && !go@0; commit !busy@1;
+  cover busy from 1 to 2; next idle, serve; }
+operation serve { length 2 to 4 until !busy; assume !busy@0 && go@0;
+  commit busy@1; commit busy@2 == !ok@1;
+  commit !busy@2 || busy@3 == !ok@2;
+  commit !busy@2 || !busy@3 || busy@4 == !ok@3;
+  cover busy from 1 to end + 1; next idle, serve; }
+";

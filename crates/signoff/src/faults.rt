@@ -1,128 +1,130 @@
-// Each fault of modules, and modules beside them that have none.
+// Faults of flattening and of elaboration, and modules beside them that have none.
 use crate::examples::{COUNTER, COUNTER_SET};
 use crate::rows::{plain, row, with};
 use std::test::Fail;
 
 const REPORT: &[u8] = b"proved reset\nproved op step\nproved op hold\nsatisfied\n";
 
+// What stands in place of the module's last word, and the line of the fault.
+const FAULTS: [(&[u8], &[u8]); 38] = [
+    (b"assign y = en; endmodule", b"module: Unknown y\n"),
+    (b"wire en; endmodule", b"module: Twice en\n"),
+    (b"wire [en:0] w; endmodule", b"module: Constant w\n"),
+    (b"wire [1:2] w; endmodule", b"module: Constant w\n"),
+    (b"wire [0:3] w; endmodule", b"module: Constant w\n"),
+    (
+        b"wire w; assign w = q / en; endmodule",
+        b"module: Constant counter\n",
+    ),
+    (
+        b"wire [1:0] w; assign w = q / 2'd2; endmodule",
+        b"module: Constant counter\n",
+    ),
+    (
+        b"wire [3:0] w; assign w[q] = en; endmodule",
+        b"module: Constant counter\n",
+    ),
+    (
+        b"wire w; assign w = q[2:1]; endmodule",
+        b"module: Width counter\n",
+    ),
+    (b"wire g; assign g = clk; endmodule", b"module: Clock clk\n"),
+    (
+        b"reg y; always @(posedge en) y <= rst; endmodule",
+        b"module: Clock en\n",
+    ),
+    (b"input z; endmodule", b"module: Port z\n"),
+    (b"nope u(en); endmodule", b"module: Unknown u\n"),
+    (
+        b"counter u(clk, rst, en, q); endmodule",
+        b"module: Recursion counter\n",
+    ),
+    (
+        b"sub u(en, rst); endmodule module sub(input a); endmodule",
+        b"module: Port u\n",
+    ),
+    (
+        b"sub u(.a(en), .a(rst)); endmodule module sub(input a); endmodule",
+        b"module: Port u.a\n",
+    ),
+    (
+        b"sub u(.b(en)); endmodule module sub(input a); endmodule",
+        b"module: Unknown u.b\n",
+    ),
+    (
+        b"sub u(.a(en), .y(en & rst)); endmodule module sub(input a, output y); assign y = a; endmodule",
+        b"module: Port u.y\n",
+    ),
+    (
+        b"sub #(.L(2)) u(.a(en)); endmodule module sub(input a); localparam L = 1; endmodule",
+        b"module: Unknown u.L\n",
+    ),
+    (
+        b"sub #(en) u(.a(q)); endmodule module sub #(parameter W = 4) (input [W-1:0] a); endmodule",
+        b"module: Constant u.W\n",
+    ),
+    (
+        b"sub #(70) u(.a(q)); endmodule module sub #(parameter W = 4) (input [W-1:0] a); endmodule",
+        b"module: Width u.a\n",
+    ),
+    (
+        b"sub #(.W(2), .W(3)) u(.a(q)); endmodule module sub #(parameter W = 4) (input [W-1:0] a); endmodule",
+        b"module: Twice u.W\n",
+    ),
+    (b"reg [1:0] m [0:3]; endmodule", b"module: Later m\n"),
+    (
+        b"wire w; assign w = en; assign w = rst; endmodule",
+        b"module: Drivers w 0\n",
+    ),
+    (
+        b"wire w; assign {w, w} = {en, rst}; endmodule",
+        b"module: Drivers w 0\n",
+    ),
+    (
+        b"reg y; always @(posedge clk) y <= en; always @(posedge clk) y <= rst; endmodule",
+        b"module: Drivers y 0\n",
+    ),
+    (
+        b"wire w, z; assign z = w; endmodule",
+        b"module: Undriven w 0\n",
+    ),
+    (
+        b"reg y; always @(en) y = en & rst; endmodule",
+        b"module: Sensitivity rst\n",
+    ),
+    (b"reg y; always @* y <= en; endmodule", b"module: Kind y\n"),
+    (
+        b"reg y; always @(posedge clk) y = en; endmodule",
+        b"module: Kind y\n",
+    ),
+    (b"wire w; always @* w = en; endmodule", b"module: Kind w\n"),
+    (b"reg y; assign y = en; endmodule", b"module: Kind y\n"),
+    (
+        b"reg y; always @* if (en) y = rst; endmodule",
+        b"module: Latch y\n",
+    ),
+    (
+        b"reg y; always @* casez (en) 1'b0: y = rst; 1'b1: y = en; endcase endmodule",
+        b"module: Latch y\n",
+    ),
+    (
+        b"reg y; always @* case (q) 2'd0, 2'd1: y = en; 2'd2: y = rst; endcase endmodule",
+        b"module: Latch y\n",
+    ),
+    (
+        b"reg [3:0] y; always @* y[q] = en; endmodule",
+        b"module: Latch y\n",
+    ),
+    (b"wire w; assign w = w; endmodule", b"module: Loop w\n"),
+    (
+        b"wire a; assign a = en ? a : rst; endmodule",
+        b"module: Loop a\n",
+    ),
+];
+
 #[test]
 fn faults(rt: HostRuntime) -> Result<(), Fail> {
-    let rows: [(&'static [u8], &[u8]); 38] = [
-        (b"assign y = en; endmodule", b"module: Unknown y\n"),
-        (b"wire en; endmodule", b"module: Twice en\n"),
-        (b"wire [en:0] w; endmodule", b"module: Constant w\n"),
-        (b"wire [1:2] w; endmodule", b"module: Constant w\n"),
-        (b"wire [0:3] w; endmodule", b"module: Constant w\n"),
-        (
-            b"wire w; assign w = q / en; endmodule",
-            b"module: Constant counter\n",
-        ),
-        (
-            b"wire [1:0] w; assign w = q / 2'd2; endmodule",
-            b"module: Constant counter\n",
-        ),
-        (
-            b"wire [3:0] w; assign w[q] = en; endmodule",
-            b"module: Constant counter\n",
-        ),
-        (
-            b"wire w; assign w = q[2:1]; endmodule",
-            b"module: Width counter\n",
-        ),
-        (b"wire g; assign g = clk; endmodule", b"module: Clock clk\n"),
-        (
-            b"reg y; always @(posedge en) y <= rst; endmodule",
-            b"module: Clock en\n",
-        ),
-        (b"input z; endmodule", b"module: Port z\n"),
-        (b"nope u(en); endmodule", b"module: Unknown u\n"),
-        (
-            b"counter u(clk, rst, en, q); endmodule",
-            b"module: Recursion counter\n",
-        ),
-        (
-            b"sub u(en, rst); endmodule module sub(input a); endmodule",
-            b"module: Port u\n",
-        ),
-        (
-            b"sub u(.a(en), .a(rst)); endmodule module sub(input a); endmodule",
-            b"module: Port u.a\n",
-        ),
-        (
-            b"sub u(.b(en)); endmodule module sub(input a); endmodule",
-            b"module: Unknown u.b\n",
-        ),
-        (
-            b"sub u(.a(en), .y(en & rst)); endmodule module sub(input a, output y); assign y = a; endmodule",
-            b"module: Port u.y\n",
-        ),
-        (
-            b"sub #(.L(2)) u(.a(en)); endmodule module sub(input a); localparam L = 1; endmodule",
-            b"module: Unknown u.L\n",
-        ),
-        (
-            b"sub #(en) u(.a(q)); endmodule module sub #(parameter W = 4) (input [W-1:0] a); endmodule",
-            b"module: Constant u.W\n",
-        ),
-        (
-            b"sub #(70) u(.a(q)); endmodule module sub #(parameter W = 4) (input [W-1:0] a); endmodule",
-            b"module: Width u.a\n",
-        ),
-        (
-            b"sub #(.W(2), .W(3)) u(.a(q)); endmodule module sub #(parameter W = 4) (input [W-1:0] a); endmodule",
-            b"module: Twice u.W\n",
-        ),
-        (b"reg [1:0] m [0:3]; endmodule", b"module: Later m\n"),
-        (
-            b"wire w; assign w = en; assign w = rst; endmodule",
-            b"module: Drivers w 0\n",
-        ),
-        (
-            b"wire w; assign {w, w} = {en, rst}; endmodule",
-            b"module: Drivers w 0\n",
-        ),
-        (
-            b"reg y; always @(posedge clk) y <= en; always @(posedge clk) y <= rst; endmodule",
-            b"module: Drivers y 0\n",
-        ),
-        (
-            b"wire w, z; assign z = w; endmodule",
-            b"module: Undriven w 0\n",
-        ),
-        (
-            b"reg y; always @(en) y = en & rst; endmodule",
-            b"module: Sensitivity rst\n",
-        ),
-        (b"reg y; always @* y <= en; endmodule", b"module: Kind y\n"),
-        (
-            b"reg y; always @(posedge clk) y = en; endmodule",
-            b"module: Kind y\n",
-        ),
-        (b"wire w; always @* w = en; endmodule", b"module: Kind w\n"),
-        (b"reg y; assign y = en; endmodule", b"module: Kind y\n"),
-        (
-            b"reg y; always @* if (en) y = rst; endmodule",
-            b"module: Latch y\n",
-        ),
-        (
-            b"reg y; always @* casez (en) 1'b0: y = rst; 1'b1: y = en; endcase endmodule",
-            b"module: Latch y\n",
-        ),
-        (
-            b"reg y; always @* case (q) 2'd0, 2'd1: y = en; 2'd2: y = rst; endcase endmodule",
-            b"module: Latch y\n",
-        ),
-        (
-            b"reg [3:0] y; always @* y[q] = en; endmodule",
-            b"module: Latch y\n",
-        ),
-        (b"wire w; assign w = w; endmodule", b"module: Loop w\n"),
-        (
-            b"wire a; assign a = en ? a : rst; endmodule",
-            b"module: Loop a\n",
-        ),
-    ];
-    for (items, line) in rows {
+    for (items, line) in FAULTS {
         let module = with(COUNTER, b"endmodule", items);
         row(
             &rt,

@@ -1,16 +1,20 @@
 // The top call over memory.
 use crate::examples::{
     COUNTER, COUNTER_SET, CTL, CTL_SET, FLIP, FLIP_SET, HOP, HOP_SET, LATCH, LATCH_SET, MOD3,
-    MOD3_SET, MUL, MUL_SET, PIPE1, PIPE1_SET, PIPE3, PIPE3_SET,
+    MOD3_SET, MUL, MUL_SET, PIPE1, PIPE1_SET, PIPE3, PIPE3_SET, WAITER, WAITER_SET,
 };
 use crate::run::signoff;
+use check_stages::bound_of;
 use outside::{File, MemShelf, MemSink, QuietGate, Text};
 use reports::{Book, Verdict};
 use std::alloc::{AllocError, Global};
 use std::process::Abort;
 use std::test::Fail;
 use std::thread::Threads;
+use twin_tests::twin_obs;
+use unroll::design_obs;
 use verdicts::Evidence;
+use word_dag::text;
 
 const COUNTER_REPORT: &[u8] = b"proved reset
 proved op step
@@ -296,66 +300,109 @@ fn other_blocks(rt: HostRuntime) -> Result<(), Fail> {
 }
 
 #[test]
-fn operations(rt: HostRuntime) -> Result<(), Fail> {
-    let ops = ["ops", "M", "S"];
-    row(
-        &rt,
-        &ops,
-        plain(COUNTER),
-        plain(COUNTER_SET),
-        (
-            0,
-            b"proved reset\nproved op step\nproved op hold\nsatisfied\n",
-        ),
-    )?;
-    row(
-        &rt,
-        &ops,
-        plain(CTL),
-        plain(CTL_SET),
-        (
-            0,
-            b"proved reset\nproved op idle\nproved op serve\nsatisfied\n",
-        ),
-    )?;
-    row(
-        &rt,
-        &ops,
-        plain(MOD3),
+fn waiters(rt: HostRuntime) -> Result<(), Fail> {
+    signed_off(&rt, plain(WAITER), plain(WAITER_SET), 24)?;
+    // without the constraint the operation may go on past its last cycle
+    let endless = with(
+        WAITER_SET,
+        b"constraint soon : ok@0 || ok@1 || ok@2;\n",
+        b"",
+    );
+    report(&rt, plain(WAITER), endless, (24, &[b"end serve"]))
+}
+
+// The texts of `ops`, and the status and the bytes that are wanted.
+const OPERATIONS: [(Made, Made, u8, &[u8]); 4] = [
+    (
+        Made {
+            text: COUNTER,
+            old: b"",
+            new: b"",
+        },
+        SET,
+        0,
+        b"proved reset\nproved op step\nproved op hold\nsatisfied\n",
+    ),
+    (
+        Made {
+            text: CTL,
+            old: b"",
+            new: b"",
+        },
+        Made {
+            text: CTL_SET,
+            old: b"",
+            new: b"",
+        },
+        0,
+        b"proved reset\nproved op idle\nproved op serve\nsatisfied\n",
+    ),
+    (
+        Made {
+            text: MOD3,
+            old: b"",
+            new: b"",
+        },
         FROM_ZERO,
-        (1, b"proved reset\nrefuted op tick\nnot satisfied\n"),
-    )?;
-    row(
-        &rt,
-        &ops,
-        plain(HOP),
+        1,
+        b"proved reset\nrefuted op tick\nnot satisfied\n",
+    ),
+    (
+        Made {
+            text: HOP,
+            old: b"",
+            new: b"",
+        },
         NOT_FOUR,
-        (
-            1,
-            b"proved base four\nrefuted step four\nproved reset\nproved op tick\nnot satisfied\n",
-        ),
-    )?;
-    row(
-        &rt,
-        &["demo", "3"],
-        plain(b""),
-        plain(b""),
-        (
-            0,
-            b"demo 3: 10 lines, 10 proved, 0 refuted, 0 spent\nsigned off\n",
-        ),
-    )?;
+        1,
+        b"proved base four\nrefuted step four\nproved reset\nproved op tick\nnot satisfied\n",
+    ),
+];
+
+#[test]
+fn operations(rt: HostRuntime) -> Result<(), Fail> {
+    for (module, set, status, bytes) in OPERATIONS {
+        row(&rt, &["ops", "M", "S"], module, set, (status, bytes))?;
+    }
     Ok(())
 }
 
 #[test]
+fn generated(rt: HostRuntime) -> Result<(), Fail> {
+    let rows: [(&str, &[u8]); 2] = [
+        (
+            "3",
+            b"demo 3: 10 lines, 10 proved, 0 refuted, 0 spent\nsigned off\n",
+        ),
+        (
+            "64",
+            b"demo 64: 10 lines, 10 proved, 0 refuted, 0 spent\nsigned off\n",
+        ),
+    ];
+    for (count, bytes) in rows {
+        row(&rt, &["demo", count], plain(b""), plain(b""), (0, bytes))?;
+    }
+    Ok(())
+}
+
+const SPENT_REPORT: &[u8] = b"proved reset
+spent op mul
+proved split reset
+proved split mul
+proved choose reset mul
+proved choose mul mul
+proved hand reset mul
+proved hand mul mul
+proved determine reset
+proved determine mul
+not signed off
+";
+
+#[test]
 fn spent(rt: HostRuntime) -> Result<(), Fail> {
-    let words = ["ops", "--budget", "1", "M", "S"];
+    let words = ["check", "--budget", "1", "M", "S"];
     let ran = run(&rt, &words, plain(MUL), plain(MUL_SET), (&[], &[]))?;
-    assert_eq!(rt;
-        ran.out.bytes(),
-        b"proved reset\nspent op mul\nnot satisfied\n".as_slice()
-    );
+    assert_eq!(rt; ran.out.bytes(), SPENT_REPORT);
     assert_eq!(rt; ran.status, 10);
     let Some(line) = ran.book.lines.as_slice().get(1) else {
         panic!(rt; "no line");
@@ -367,61 +414,119 @@ fn spent(rt: HostRuntime) -> Result<(), Fail> {
     Ok(())
 }
 
+// A module's text, a set's, and the line of the fault.
+type Refusal = (Made, Made, &'static [u8]);
+
+const SET: Made = Made {
+    text: COUNTER_SET,
+    old: b"",
+    new: b"",
+};
+
+const MODULE_FAULTS: [Refusal; 5] = [
+    (
+        Made {
+            text: LATCH,
+            old: b"",
+            new: b"",
+        },
+        Made {
+            text: LATCH_SET,
+            old: b"",
+            new: b"",
+        },
+        b"module: Latch q\n",
+    ),
+    (
+        Made {
+            text: COUNTER,
+            old: b"module counter",
+            new: b"module count",
+        },
+        SET,
+        b"module: NoTop\n",
+    ),
+    (
+        Made {
+            text: COUNTER,
+            old: b"  always",
+            new: b"  reg [64:0] w; always",
+        },
+        SET,
+        b"module: Width w\n",
+    ),
+    (
+        Made {
+            text: COUNTER,
+            old: b"  always",
+            new: b"  wire a, b; assign a = b; assign b = a; always",
+        },
+        SET,
+        b"module: Loop a\n",
+    ),
+    (
+        Made {
+            text: COUNTER,
+            old: b"endmodule",
+            new: b"",
+        },
+        SET,
+        b"module: Syntax at 147\n",
+    ),
+];
+
 #[test]
-fn refusals(rt: HostRuntime) -> Result<(), Fail> {
-    let check = ["check", "M", "S"];
-    let counter = plain(COUNTER);
-    let set = plain(COUNTER_SET);
-    let modules: [(Made, Made, &[u8]); 5] = [
-        (plain(LATCH), plain(LATCH_SET), b"module: Latch q\n"),
-        (
-            with(COUNTER, b"module counter", b"module count"),
-            set,
-            b"module: NoTop\n",
-        ),
-        (
-            with(COUNTER, b"  always", b"  reg [64:0] w; always"),
-            set,
-            b"module: Width w\n",
-        ),
-        (
-            with(
-                COUNTER,
-                b"  always",
-                b"  wire a, b; assign a = b; assign b = a; always",
-            ),
-            set,
-            b"module: Loop a\n",
-        ),
-        (
-            with(COUNTER, b"endmodule", b""),
-            set,
-            b"module: Syntax at 147\n",
-        ),
-    ];
-    for (module, set, line) in modules {
-        row(&rt, &check, module, set, (3, line))?;
+fn refused_modules(rt: HostRuntime) -> Result<(), Fail> {
+    for (module, set, line) in MODULE_FAULTS {
+        row(&rt, &["check", "M", "S"], module, set, (3, line))?;
     }
-    let window = with(
-        COUNTER_SET,
+    Ok(())
+}
+
+// A part of a set's text, what is put in its place, and the status and the bytes that are wanted.
+type Other = (&'static [u8], &'static [u8], u8, &'static [u8]);
+
+const SETS: [Other; 4] = [
+    (
         b"step { length 1;",
         b"step { length 1; window 64;",
-    );
-    row(&rt, &check, counter, window, (0, COUNTER_REPORT))?;
-    let window = with(
-        COUNTER_SET,
+        0,
+        COUNTER_REPORT,
+    ),
+    (
         b"step { length 1;",
         b"step { length 1; window 65;",
-    );
-    row(&rt, &check, counter, window, (4, b"set: Limit window\n"))?;
-    let tile = with(
-        COUNTER_SET,
+        4,
+        b"set: Limit window\n",
+    ),
+    (
         b"cover q from 1 to 2;",
         b"cover q from 0 to 1;",
-    );
-    row(&rt, &check, counter, tile, (4, b"set: Tile reset step q\n"))?;
-    let wide = with(COUNTER_SET, b"output [1:0] q;", b"output [2:0] q;");
-    row(&rt, &check, counter, wide, (5, b"bind: WidthOf q\n"))?;
+        4,
+        b"set: Tile reset step q\n",
+    ),
+    (
+        b"output [1:0] q;",
+        b"output [2:0] q;",
+        5,
+        b"bind: WidthOf q\n",
+    ),
+];
+
+#[test]
+fn refused_sets(rt: HostRuntime) -> Result<(), Fail> {
+    for (old, new, status, bytes) in SETS {
+        let set = with(COUNTER_SET, old, new);
+        let check = ["check", "M", "S"];
+        row(&rt, &check, plain(COUNTER), set, (status, bytes))?;
+    }
+    let wide = with(WAITER_SET, b"end + 1", b"5");
+    let want: (u8, &[u8]) = (4, b"set: Cover serve busy\n");
+    row(&rt, &["check", "M", "S"], plain(WAITER), wide, want)
+}
+
+#[test]
+fn refused_words(rt: HostRuntime) -> Result<(), Fail> {
     let wrong: [&[&str]; 8] = [
         &[],
         &["check", "M"],
@@ -433,7 +538,7 @@ fn refusals(rt: HostRuntime) -> Result<(), Fail> {
         &["demo", "65"],
     ];
     for words in wrong {
-        row(&rt, words, counter, set, (2, b"usage\n"))?;
+        row(&rt, words, plain(COUNTER), SET, (2, b"usage\n"))?;
     }
     Ok(())
 }
@@ -486,6 +591,28 @@ fn workers(rt: HostRuntime) -> Result<(), Fail> {
         let ran = run(&rt, &words, plain(COUNTER), plain(COUNTER_SET), (&[], &[]))?;
         assert_eq!(rt; ran.out.bytes(), COUNTER_REPORT);
         assert_eq!(rt; ran.book.draws.len(), 21 + count);
+    }
+    let words = ["trace", "M", "S", "op step", "--workers", "16"];
+    let ran = run(&rt, &words, plain(COUNTER), plain(COUNTER_SET), (&[], &[]))?;
+    assert_eq!(rt; ran.out.bytes(), b"proved op step\n".as_slice());
+    assert_eq!(rt; ran.book.draws.len(), 17);
+    Ok(())
+}
+
+#[test]
+fn obligations(rt: HostRuntime) -> Result<(), Fail> {
+    let alloc = rt.alloc();
+    let check = ["check", "M", "S"];
+    let ran = run(&rt, &check, plain(COUNTER), plain(COUNTER_SET), (&[], &[]))?;
+    let Ok(bound) = bound_of(alloc, COUNTER, COUNTER_SET) else {
+        panic!(rt; "refused");
+    };
+    let mut made = design_obs(alloc, &bound)?;
+    made.append(&mut twin_obs(alloc, bound.set())?)?;
+    assert_eq!(rt; ran.book.lines.len(), made.len());
+    for (line, named) in ran.book.lines.iter().zip(made.iter()) {
+        assert_eq!(rt; line.name.bytes(), named.name.bytes());
+        assert_eq!(rt; text(alloc, &line.ob)?, text(alloc, &named.ob)?);
     }
     Ok(())
 }

@@ -45,12 +45,34 @@ fn add_memory(alloc: Global, valuation: &mut Valuation) -> Result<(), AllocError
     add(alloc, valuation, b"m$1", 4, 0, 5)
 }
 
-// a is 11 and b is 01; v[11:4] is 1010_0110.
+// A signed name of a row, of four bits.
+fn add_signed(
+    alloc: Global,
+    valuation: &mut Valuation,
+    name: &[u8],
+    value: u64,
+) -> Result<(), AllocError>
+    requires fits { value < 16 }
+{
+    valuation.push(Entry {
+        name: Text::copy(alloc, name)?,
+        offset: 0,
+        width: 4,
+        low: 0,
+        signed: true,
+        depth: 0,
+        value,
+    })
+}
+
+// a is 11 and b is 01; v[11:4] is 1010_0110; the signed s is 1010, which is -6, and t is 0011.
 fn names(alloc: Global) -> Result<Valuation, AllocError> {
     let mut valuation = Valuation::new(alloc);
     add(alloc, &mut valuation, b"a", 2, 0, 3)?;
     add(alloc, &mut valuation, b"b", 2, 0, 1)?;
     add(alloc, &mut valuation, b"v", 8, 4, 166)?;
+    add_signed(alloc, &mut valuation, b"s", 10)?;
+    add_signed(alloc, &mut valuation, b"t", 3)?;
     add_memory(alloc, &mut valuation)?;
     Ok(valuation)
 }
@@ -125,6 +147,100 @@ fn selects(rt: HostRuntime) -> Result<(), Fail> {
             ("m[b - 1]", 0, "4u 9"),
             ("m[2]", 0, "4u 0"),
             ("c", 0, "none"),
+        ],
+    )
+}
+
+// By hand from IEEE 1364-2005 sections 5.1.7 and 5.1.8.
+#[test]
+fn comparisons(rt: HostRuntime) -> Result<(), Fail> {
+    rows(
+        &rt,
+        &[
+            ("a != b", 0, "1u 1"),
+            ("a != 3", 0, "1u 0"),
+            ("b <= a", 0, "1u 1"),
+            ("b <= b", 0, "1u 1"),
+            ("a <= b", 0, "1u 0"),
+            ("a > b", 0, "1u 1"),
+            ("b > b", 0, "1u 0"),
+            ("b >= b", 0, "1u 1"),
+            ("b >= a", 0, "1u 0"),
+            ("s != -6", 0, "1u 0"),
+            ("s != 10", 0, "1u 1"),
+            ("s != 4'd10", 0, "1u 0"),
+            ("s < t", 0, "1u 1"),
+            ("s <= -6", 0, "1u 1"),
+            ("s <= -7", 0, "1u 0"),
+            ("s > -7", 0, "1u 1"),
+            ("s > t", 0, "1u 0"),
+            ("s > b", 0, "1u 1"),
+            ("t >= s", 0, "1u 1"),
+            ("t >= {s}", 0, "1u 0"),
+        ],
+    )
+}
+
+// By hand from IEEE 1364-2005 sections 5.1.5, 5.1.10 to 5.1.12.
+#[test]
+fn signs_reductions_and_shifts(rt: HostRuntime) -> Result<(), Fail> {
+    rows(
+        &rt,
+        &[
+            ("+a", 4, "2u 3"),
+            ("+s", 8, "4s 250"),
+            ("a ^~ b", 0, "2u 1"),
+            ("a ^~ b", 4, "2u 13"),
+            ("~&a", 4, "1u 0"),
+            ("~&b", 4, "1u 1"),
+            ("|b", 4, "1u 1"),
+            ("|2'd0", 0, "1u 0"),
+            ("~|b", 4, "1u 0"),
+            ("~|2'd0", 4, "1u 1"),
+            ("~^a", 4, "1u 1"),
+            ("~^b", 0, "1u 0"),
+            ("^~a", 4, "1u 1"),
+            ("^~b", 0, "1u 0"),
+            ("|s", 4, "1u 1"),
+            ("a <<< 1", 0, "2u 2"),
+            ("a <<< 1", 4, "2u 6"),
+            ("s <<< 1", 8, "4s 244"),
+            ("s <<< 4", 0, "4s 0"),
+            ("a << s", 16, "2u 3072"),
+            ("s >> 1", 0, "4s 5"),
+            ("s >> 1", 8, "4s 125"),
+            ("s >>> 1", 8, "4s 253"),
+            ("s >>> 9", 0, "4s 15"),
+            ("s >>> 1 | 4'd0", 0, "4u 5"),
+            ("{s >>> 1}", 0, "4u 13"),
+        ],
+    )
+}
+
+// By hand from IEEE 1364-2005 sections 5.2 and 5.5.
+#[test]
+fn signed_names_and_indices(rt: HostRuntime) -> Result<(), Fail> {
+    rows(
+        &rt,
+        &[
+            ("s", 8, "4s 250"),
+            ("s + t", 8, "4s 253"),
+            ("s + b", 8, "4u 11"),
+            ("-s", 8, "4s 6"),
+            ("s / 2", 0, "32s 4294967293"),
+            ("s % 4", 0, "32s 4294967294"),
+            ("s / 4'd3", 0, "4u 3"),
+            ("{s}", 8, "4u 10"),
+            ("s[3]", 8, "1u 1"),
+            ("s[3:0]", 8, "4u 10"),
+            ("$unsigned(s)", 8, "4u 10"),
+            ("b ? s : t", 8, "4s 250"),
+            ("b ? s : 4'd3", 8, "4u 10"),
+            ("v[4'd11]", 0, "1u 1"),
+            ("v[4'sd11]", 0, "1u 0"),
+            ("m[1'b1]", 0, "4u 5"),
+            ("m[1'sb1]", 0, "4u 5"),
+            ("m[-1]", 0, "4u 0"),
         ],
     )
 }

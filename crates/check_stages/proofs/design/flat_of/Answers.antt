@@ -10,7 +10,7 @@ returns-in-Some-clause-err c =
     let flat = c.in-Ok.flat in
     let g = c.in-Some.memory.now in
     let is : find is_memory flat.signals ≡ Some g = ap (find is_memory) (sym c.as_slice.ensures) ∙ (sym c.memory_in.ensures ∙ ap option_copied c.in-Some.is) in
-    (flat, c.in-Ok.ensures.texts, g, found_memory flat.signals g is, c.in_ok-name.ensures ∙ c.bytes.ensures)
+    (flat, record { flattened = c.in-Ok.ensures.texts; faultless = c.in-Ok.ensures.none }, g, found_memory flat.signals g is, c.in_ok-name.ensures ∙ c.bytes.ensures)
 
 pub returns-clause-ok : goal.returns-clause-ok
 returns-clause-ok c =

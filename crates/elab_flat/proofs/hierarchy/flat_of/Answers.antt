@@ -8,8 +8,8 @@ use Rattle.flat_instances.proofs.Children.{refuses_map}
 use Rattle.flat_ready.specs.Handed.{IsResetOf}
 use Rattle.flat_checked.proofs.Following.{are_followed}
 use Rattle.flat_checked.proofs.Flattening.{has_ports, none_stands}
-use Rattle.elab_flat.specs.Standing.{StandsAtOne}
-use Rattle.elab_flat.proofs.Standing.{one_stands}
+use Rattle.flat_timing.specs.Passing.{StandsAmong}
+use Rattle.flat_timing.proofs.Tabled.{among_stands}
 use Rattle.elab_flat.proofs.Whole.{is_flattened}
 use Rattle.elab_flat.proofs.hierarchy.flat_of.Goals as goal
 
@@ -49,4 +49,4 @@ returns-in-Err-joined-clause-err c =
     let ms = c.args.modules.now in
     let top = c.args.top.now in
     let ss = map scope_meant c.args.scopes.now in
-    refuses_map (StandsAtOne ss) (Stands ms top) (one_stands ms top ss c.requires.unfolded) c.in-Err-joined.fault c.in-Err-joined.ensures.err
+    refuses_map (StandsAmong ss) (Stands ms top) (among_stands ms top ss c.requires.unfolded) c.in-Err-joined.fault c.in-Err-joined.ensures.err

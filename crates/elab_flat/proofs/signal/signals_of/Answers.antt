@@ -6,7 +6,7 @@ use Rattle.flat_instances.specs.Unfolding.{scope_meant}
 use Rattle.flat_instances.proofs.Children.{refuses_map}
 use Rattle.flat_names.specs.Rows.{StandsAlone}
 use Rattle.elab_drive.proofs.Naming.{meant_at}
-use Rattle.elab_flat.specs.Standing.{StandsAtOne}
+use Rattle.flat_timing.specs.Passing.{StandsAmong}
 use Rattle.elab_flat.proofs.Making.{next_parts}
 use Rattle.elab_flat.proofs.signal.signals_of.Goals as goal
 
@@ -15,7 +15,7 @@ returns-in-Err-clause-err c =
     let xs = c.args.scopes.now in
     let x = c.scope-item.result in
     let here : Among (map scope_meant xs) (scope_meant x) = meant_at scope_meant xs xs (map scope_meant xs) c.loop-scope.scope-index x c.loop-scope-test.true c.scope-item.is refl refl in
-    refuses_map (StandsAlone (scope_meant x)) (StandsAtOne (map scope_meant xs)) (λ fault h. (scope_meant x, here, h)) c.in-Err.fault c.in-Err.ensures.err
+    refuses_map (StandsAlone (scope_meant x)) (StandsAmong (map scope_meant xs)) (λ fault h. (scope_meant x, here, h)) c.in-Err.fault c.in-Err.ensures.err
 
 pub loop-scope-preserved : goal.loop-scope-preserved
 loop-scope-preserved c =
