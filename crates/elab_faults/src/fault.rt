@@ -17,7 +17,7 @@ pub enum ElabFault {
     Undriven(Text, u64),
     /// A list of names leaves out one that its block reads.
     Sensitivity(Text),
-    /// The wrong form of assignment for the block or the declaration.
+    /// The wrong form of assignment for the block or the declaration, or a signal that a clocked and a combinational block both assign.
     Kind(Text),
     /// Want of memory.
     Memory,

@@ -20,11 +20,14 @@ pub enum FlatFault {
     Recursion(Text),
     /// The top and all instances are more than 4,096.
     Instances,
-    /// What must be constant isn't, a range isn't `[m:l]` with m >= l >= 0, or a divisor is 0.
+    /// What must be constant isn't, operands of `/` and `%` among it; a range isn't `[m:l]` with m >= l >= 0, or that of a memory's words
+    /// `[0:n]`; or a divisor is 0 at the length and sign that it has in its place (IEEE 1364-2005, sections 4.2.1, 4.9 and 5.1.5).
     Constant(Text),
     /// A length isn't from 1 to 64 bits, a part-select leaves its vector, or a memory has more than 64 words.
     Width(Text),
-    /// An edge, a clock or a reset isn't one of the accepted forms.
+    /// A block waits for other edges than the rising one of a clock, alone or beside an edge of a reset that its body tests first; the clock or
+    /// the reset isn't an input of the top of one bit that is passed on by its name alone; blocks wait for two clocks; or the clock is read
+    /// otherwise than to pass it on (IEEE 1364.1-2002, section 5.2.2).
     Clock(Text),
     /// Want of memory.
     Memory,

@@ -88,7 +88,7 @@ pub fn formula_value(
     Ok(own_value(formula, &entries).value())
 }
 
-/// Whether a formula of a set holds in the first of some rows. Refused for want of memory alone.
+/// Whether a formula of a set holds in the first of some rows, which reach its largest offset. Refused for want of memory alone.
 pub fn holds(
     alloc: Global,
     set: &Sound,
@@ -103,7 +103,7 @@ pub fn holds(
     Ok(value != 0)
 }
 
-/// Whether each formula does.
+/// Whether each formula does. Refused for want of memory alone.
 pub fn all_hold(
     alloc: Global,
     set: &Sound,

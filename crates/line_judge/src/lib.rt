@@ -6,4 +6,6 @@ mod judge;
 mod property;
 mod trace;
 
+pub use formula::{all_hold, holds};
 pub use judge::{is_constrained, is_violated};
+pub use property::{is_assumed, is_committed, meets_constraints};

@@ -57,7 +57,7 @@ fn holds_throughout(
     Ok(true)
 }
 
-/// Whether rows that are a trace meet the constraints.
+/// Whether each constraint holds in each row of a trace after which its largest offset fits. Refused for want of memory alone.
 pub fn meets_constraints(alloc: Global, set: &Sound, rows: &[Rows<u64>]) -> Result<bool, AllocError>
     requires { IsTrace set.now rows.now }
     ensures { IfOk result (λ b. b ≡ meets_constraints (meaning_of set.now) set.now rows.now) }
@@ -71,7 +71,8 @@ pub fn meets_constraints(alloc: Global, set: &Sound, rows: &[Rows<u64>]) -> Resu
     Ok(true)
 }
 
-/// Whether the property at a position is assumed in the first of some rows.
+/// Whether what the property at a position assumes holds in the first of some rows, which reach its window; the reset property, position 0,
+/// assumes nothing. Refused for want of memory alone.
 pub fn is_assumed(
     alloc: Global,
     set: &Sound,
@@ -91,8 +92,13 @@ pub fn is_assumed(
     Ok(assumed)
 }
 
-/// Whether it is committed there.
-fn is_committed(alloc: Global, set: &Sound, at: u32, rows: &[Rows<u64>]) -> Result<bool, AllocError>
+/// Whether what it commits holds there, in rows that reach its window. Refused for want of memory alone.
+pub fn is_committed(
+    alloc: Global,
+    set: &Sound,
+    at: u32,
+    rows: &[Rows<u64>],
+) -> Result<bool, AllocError>
     requires trace { IsTrace set.now rows.now }
     requires position { IsPosition set.now at }
     requires window { window_of set.now at < length rows.now }

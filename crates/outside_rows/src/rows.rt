@@ -1,4 +1,5 @@
-use crate::{
+// Files, the output, the keeper and the connections, in memory and real.
+use outside::{
     Block, Console, Failed, File, FileShelf, Keeper, MemKeeper, MemPort, MemShelf, MemSink,
     OutFault, Port, Shelf, Sink, TcpPort, Text, TraceText, Traces,
 };
