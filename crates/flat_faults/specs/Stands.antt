@@ -17,7 +17,7 @@ use Rattle.vlog_runs.specs.Scopes.{Scope, scope_at, scope_from, place_of, Given,
 use Rattle.flat_laws.specs.Uses.{has_signal, is_declared}
 use Rattle.flat_faults.specs.declared.fault.FlatFault.{FlatFault}
 use Rattle.flat_faults.specs.declared.fault.FlatFault.TheVariants as f
-use Rattle.flat_faults.specs.Texts.{names_in, numbers_in, alone_in, compared_in, stores_in, arg_names, all_exprs, assigned_in, waited_in}
+use Rattle.flat_faults.specs.Texts.{names_in, numbers_in, alone_in, compared_in, stores_in, arg_names, own_exprs, all_exprs, assigned_in, waited_in}
 use Rattle.flat_faults.specs.Declaring.{Repeats, IsDeclaredTwice, LacksDirection, IsUnlisted, MissesPorts, IsAssignable, open_params, Overshoots}
 use Rattle.flat_faults.specs.Constants.{at_rest, Taken, alone, stored, assigned_to, compared, BreaksConstants, BreaksLengths, IsInconstant, IsMissized, HasConstantNumbers, HasConstantSpans, AreSpansDefined, IsLeftFormed, IsOrdered, IsFromZero, BreaksBounds, BreaksRange, BreaksWords, InRange}
 use Rattle.flat_faults.specs.Clocks.{Reaches, IsTimed, IsBitInput}
@@ -186,11 +186,15 @@ abbrev pub IsClockOf : List Module → Name → Name → Type 0
 IsClockOf ms top y =
     (path : List Name) × (s : Scope) × (scope_at ms top path ≡ Some s) × (k : Block) × (edges : List Edge) × IsClockedBlock s k edges × IsTimed ms top (reverse path) edges k.body y
 
--- a connection to an input of one bit by a name alone
-abbrev pub PassesOn : List Module → Scope → Expr → Type 0
-PassesOn ms s a =
-    (i : Inner) × Among (instances_in s.module') i × (t : Scope) × (child ms s i ≡ Some t) × (d : Given) × Among (given_to (port_names t.module') i.args) d
-    × (d.value ≡ a) × (x : Read) × (a ≡ e.Name x) × IsBitInput t d.name
+-- a connection of a name alone to an input of one bit of a scope passes the name on
+pub record PassesOn (t : Scope) (d : Given) : Type 0 where
+  pub name : Read
+  pub alone : d.value ≡ e.Name name
+  pub input : IsBitInput t d.name
+
+-- an expression of a scope reads a clock by this name
+abbrev pub ReadsClock : List Module → Name → List Name → Expr → Name → Type 0
+ReadsClock ms top path a x = Among (names_in a) x × (y : Name) × Reaches ms top (reverse path) x y × IsClockOf ms top y
 
 abbrev pub BreaksClocks : List Module → Name → List Name → Scope → Name → Type 0
 BreaksClocks ms top path s n =
@@ -199,8 +203,11 @@ BreaksClocks ms top path s n =
     × (edge : Edge) × Among edges edge × (n ≡ full s edge.name))
     -- one of two clocks
     ⊎ (((k : Block) × (edges : List Edge) × (y z : Name) × IsClockedBlock s k edges × IsTimed ms top (reverse path) edges k.body y × IsClockOf ms top z × (y ≡ z → ⊥) × (n ≡ y))
-    -- a clock that is read in an expression
-    ⊎ ((a : Expr) × Among (all_exprs s.module') a × (PassesOn ms s a → ⊥) × (x y : Name) × Among (names_in a) x × Reaches ms top (reverse path) x y × IsClockOf ms top y × (n ≡ full s x)))
+    -- a clock that is read in an expression outside the instances
+    ⊎ (((a : Expr) × Among (own_exprs s.module') a × (x : Name) × ReadsClock ms top path a x × (n ≡ full s x))
+    -- or in a connection that doesn't pass it on
+    ⊎ ((i : Inner) × Among (instances_in s.module') i × (t : Scope) × (child ms s i ≡ Some t) × (d : Given) × Among (given_to (port_names t.module') i.args) d
+    × (PassesOn t d → ⊥) × (x : Name) × ReadsClock ms top path d.value x × (n ≡ full s x))))
 
 -- ---- all together
 

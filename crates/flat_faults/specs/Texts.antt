@@ -158,6 +158,11 @@ block_exprs b = alone_in b.body ++ flat_map compared_exprs (compared_in b.body) 
 abbrev pub inner_exprs : Inner → List Expr
 inner_exprs i = args_in i.overrides ++ args_in i.args
 
+-- the expressions of a module's text outside its instances
+abbrev pub own_exprs : Module → List Expr
+own_exprs m =
+    flat_map decl_exprs (decls_in m) ++ flat_map param_exprs (params_in m) ++ flat_map assign_exprs (assigns_in m) ++ flat_map block_exprs (blocks_in m)
+
 -- all expressions of a module's text
 abbrev pub all_exprs : Module → List Expr
 all_exprs m =
