@@ -8,9 +8,9 @@ use Rattle.vlog_tree.specs.declared.module.Module.{Module}
 use Rattle.vlog_runs.specs.Places.{Among}
 use Rattle.vlog_runs.specs.Contents.{Block, params_in, decls_in, assigns_in, blocks_in, instances_in}
 use Rattle.flat_laws.proofs.Lists.{among_append, append_left, append_right, among_flat, flat_among}
-use Rattle.flat_faults.specs.Texts.{alone_in, compared_in, stores_in, compared_exprs, decl_exprs, param_exprs, assign_exprs, block_exprs, inner_exprs, all_exprs}
+use Rattle.flat_faults.specs.Texts.{alone_in, compared_in, stores_in, compared_exprs, decl_exprs, param_exprs, assign_exprs, block_exprs, inner_exprs, own_exprs, all_exprs}
 use Rattle.elab_drive.proofs.Texts.{Stands, actions_stand, stand_actions}
-use Rattle.flat_texts.specs.Exprs.{body_exprs, text_exprs}
+use Rattle.flat_texts.specs.Exprs.{body_exprs, own_text_exprs, text_exprs}
 
 module _ (c : Expr) where
   abbrev rights : Block → List Expr
@@ -30,12 +30,13 @@ module _ (c : Expr) where
   from_block : (b : Block) → Among (block_exprs b) c → Among (body_exprs b) c
   from_block b h = stand_actions c b.body (⊎_elim (λ k. ⊎_elim (λ g. inl g) (λ g. inr (inl g)) (among_append (alone_in b.body) (tests b) c k)) (λ k. inr (inr k)) (among_append (alone_in b.body ++ tests b) (rights b) c h))
 
-  -- one part of five in another's place
-  in_fourth : (xs ys zs as' bs us : List Expr) → (Among as' c → Among bs c) → Among (xs ++ ys ++ zs ++ as' ++ us) c → Among (xs ++ ys ++ zs ++ bs ++ us) c
-  in_fourth xs ys zs as' bs us f h =
-      ⊎_elim (λ k. append_left (xs ++ ys ++ zs ++ bs) us c
-      (⊎_elim (λ g. append_left (xs ++ ys ++ zs) bs c g) (λ g. append_right (xs ++ ys ++ zs) bs c (f g)) (among_append (xs ++ ys ++ zs) as' c k)))
-      (λ k. append_right (xs ++ ys ++ zs ++ bs) us c k) (among_append (xs ++ ys ++ zs ++ as') us c h)
+  -- one end of a list in another's place
+  with_end : (xs as' bs : List Expr) → (Among as' c → Among bs c) → Among (xs ++ as') c → Among (xs ++ bs) c
+  with_end xs as' bs f h = ⊎_elim (λ k. append_left xs bs c k) (λ k. append_right xs bs c (f k)) (among_append xs as' c h)
+
+  -- and one front
+  with_front : (xs as' bs : List Expr) → (Among as' c → Among bs c) → Among (as' ++ xs) c → Among (bs ++ xs) c
+  with_front xs as' bs f h = ⊎_elim (λ k. append_left bs xs c (f k)) (λ k. append_right bs xs c k) (among_append as' xs c h)
 
   module _ (m : Module) where
     blocks_to : Among (flat_map body_exprs (blocks_in m)) c → Among (flat_map block_exprs (blocks_in m)) c
@@ -44,11 +45,23 @@ module _ (c : Expr) where
     blocks_from : Among (flat_map block_exprs (blocks_in m)) c → Among (flat_map body_exprs (blocks_in m)) c
     blocks_from h = let r = among_flat block_exprs (blocks_in m) c h in flat_among body_exprs (blocks_in m) r.0 c r.1 (from_block r.0 r.2)
 
+    abbrev before_blocks : List Expr
+    before_blocks = flat_map decl_exprs (decls_in m) ++ flat_map param_exprs (params_in m) ++ flat_map assign_exprs (assigns_in m)
+
+    pub own_text_is : Among (own_text_exprs m) c ↔ Among (own_exprs m) c
+    own_text_is = (
+      with_end before_blocks (flat_map body_exprs (blocks_in m)) (flat_map block_exprs (blocks_in m)) blocks_to,
+      with_end before_blocks (flat_map block_exprs (blocks_in m)) (flat_map body_exprs (blocks_in m)) blocks_from,
+    )
+
     pub text_is : Among (text_exprs m) c ↔ Among (all_exprs m) c
     text_is = (
-      in_fourth (flat_map decl_exprs (decls_in m)) (flat_map param_exprs (params_in m)) (flat_map assign_exprs (assigns_in m)) (flat_map body_exprs (blocks_in m)) (flat_map block_exprs (blocks_in m)) (flat_map inner_exprs (instances_in m)) blocks_to,
-      in_fourth (flat_map decl_exprs (decls_in m)) (flat_map param_exprs (params_in m)) (flat_map assign_exprs (assigns_in m)) (flat_map block_exprs (blocks_in m)) (flat_map body_exprs (blocks_in m)) (flat_map inner_exprs (instances_in m)) blocks_from,
+      with_front (flat_map inner_exprs (instances_in m)) (own_text_exprs m) (own_exprs m) own_text_is.0,
+      with_front (flat_map inner_exprs (instances_in m)) (own_exprs m) (own_text_exprs m) own_text_is.1,
     )
+
+pub same_own_exprs : (m : Module) (xs : List Expr) → xs ≡ own_text_exprs m → (a : Expr) → Among xs a ↔ Among (own_exprs m) a
+same_own_exprs m xs e a = subst (λ ys. Among ys a ↔ Among (own_exprs m) a) (sym e) (own_text_is a m)
 
 pub same_exprs : (m : Module) (xs : List Expr) → xs ≡ text_exprs m → (a : Expr) → Among xs a ↔ Among (all_exprs m) a
 same_exprs m xs e a = subst (λ ys. Among ys a ↔ Among (all_exprs m) a) (sym e) (text_is a m)

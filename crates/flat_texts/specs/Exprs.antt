@@ -24,11 +24,14 @@ action_exprs (Schedules left right) = numbers_in left ++ right ∷ []
 abbrev pub body_exprs : Block → List Expr
 body_exprs b = flat_map action_exprs (actions b.body)
 
--- those of the declarations, parameters, assignments, blocks and instances
-abbrev pub text_exprs : Module → List Expr
-text_exprs m =
+-- those of the declarations, parameters, assignments and blocks
+abbrev pub own_text_exprs : Module → List Expr
+own_text_exprs m =
     flat_map decl_exprs (decls_in m) ++ flat_map param_exprs (params_in m) ++ flat_map assign_exprs (assigns_in m) ++ flat_map body_exprs (blocks_in m)
-    ++ flat_map inner_exprs (instances_in m)
+
+-- and those of the instances
+abbrev pub text_exprs : Module → List Expr
+text_exprs m = own_text_exprs m ++ flat_map inner_exprs (instances_in m)
 
 -- the names that an assignment and a block assign, and those that a block waits for
 abbrev pub equation_names : Assign → List Name

@@ -1,12 +1,12 @@
-// All expressions of a module's text.
+// The expressions of a module's text.
 
 ghost use Rattle.std.specs.Prelude.{◌≡◌, ◌++◌, ◌↔◌, OnOk, IfOk, map};
 ghost use Rattle.std.specs.List.{flat_map};
 ghost use Rattle.vlog_tree.specs.declared.expr.Expr.{Expr as Form};
 ghost use Rattle.vlog_runs.specs.Places.{Among};
-ghost use Rattle.flat_faults.specs.Texts.{all_exprs, decl_exprs, param_exprs, assign_exprs, inner_exprs};
+ghost use Rattle.flat_faults.specs.Texts.{own_exprs, all_exprs, decl_exprs, param_exprs, assign_exprs, inner_exprs};
 ghost use Rattle.flat_scopes.specs.Borrowed.{decl_meant, param_meant, assigned_meant, block_meant, inner_meant};
-ghost use Rattle.flat_texts.specs.Exprs.{expr_meant, body_exprs, text_exprs};
+ghost use Rattle.flat_texts.specs.Exprs.{expr_meant, body_exprs, own_text_exprs, text_exprs};
 
 use crate::decl::{add_decl, add_inner, add_param};
 use crate::stmt::{add_assigned, add_block};
@@ -69,21 +69,36 @@ fn add_inners<'a>(all: &mut Vec<&'a Expr>, instances: &[Inner<'a>]) -> Result<()
     Ok(())
 }
 
-fn text_exprs(alloc: Global, text: &Module) -> Result<Vec<&Expr>, AllocError>
-    ensures { IfOk result (λ r. map expr_meant r.items ≡ text_exprs text.now) }
+fn own_text_exprs(alloc: Global, text: &Module) -> Result<Vec<&Expr>, AllocError>
+    ensures { IfOk result (λ r. map expr_meant r.items ≡ own_text_exprs text.now) }
 {
     let decls = decls_in(alloc, text)?;
     let params = params_in(alloc, text)?;
     let assigns = assigns_in(alloc, text)?;
     let blocks = blocks_in(alloc, text)?;
-    let instances = instances_in(alloc, text)?;
     let mut all = Vec::new(alloc);
     add_decls(&mut all, &decls)?;
     add_params(&mut all, &params)?;
     add_assigns(&mut all, alloc, &assigns)?;
     add_blocks(&mut all, alloc, &blocks)?;
+    Ok(all)
+}
+
+fn text_exprs(alloc: Global, text: &Module) -> Result<Vec<&Expr>, AllocError>
+    ensures { IfOk result (λ r. map expr_meant r.items ≡ text_exprs text.now) }
+{
+    let instances = instances_in(alloc, text)?;
+    let mut all = own_text_exprs(alloc, text)?;
     add_inners(&mut all, &instances)?;
     Ok(all)
+}
+
+/// The expressions of a module's text outside its instances. Refused only for want of memory.
+pub fn own_exprs_in(alloc: Global, text: &Module) -> Result<Vec<&Expr>, AllocError>
+    ensures { IfOk result (λ r. (a : Form) → Among (map expr_meant r.items) a ↔ Among (own_exprs text.now) a) }
+{
+    let own = own_text_exprs(alloc, text)?;
+    Ok(own)
 }
 
 /// All expressions of a module's text, those of overrides and connections among them. Refused only for want of memory.

@@ -7,5 +7,5 @@ mod left;
 mod names;
 mod stmt;
 
-pub use exprs::exprs_in;
+pub use exprs::{exprs_in, own_exprs_in};
 pub use names::{assigned_in, names_in, names_read, waited_in};
