@@ -1,13 +1,14 @@
 -- The windows that are shown of a refuted line of a set.
-use Rattle.std.specs.Prelude.{◌≡◌, ℕ, Bool, true, false, List, [], map, Option, Some, None}
+use Rattle.std.specs.Prelude.{◌≡◌, ℕ, ◌<◌, ◌≤◌, Bool, true, false, List, [], map, Option, Some, None}
 use Rattle.set_tree.specs.declared.line.Line.{Line}
 use Rattle.set_tree.specs.declared.line.Line.TheVariants.{Base, Step, Reset, Operation, End, Split, SameEnd, Choose, Hand, Determine}
 use Rattle.set_tree.specs.declared.set.Name.{Name}
 use Rattle.set_tree.specs.declared.set.Set.{Set}
 use Rattle.set_tree.specs.Formulas.{meaning_of}
 use Rattle.set_tree.specs.Meaning.{Row}
-use Rattle.set_tree.specs.Parts.{window_of}
+use Rattle.set_tree.specs.Parts.{property_at, window_of}
 use Rattle.word_dag.specs.Nodes.{Naming}
+use Rattle.line_laws.specs.Laws.{property_of}
 use Rattle.line_laws.specs.Lines.{edge_end, split_end}
 use Rattle.line_laws.specs.Windows.{named_rows}
 use Rattle.line_judge.specs.Judging.{AreViolating}
@@ -65,3 +66,18 @@ pub record ShowsWindows (set : Set) (line : Line) (shown : Shown) : Type 0 where
   pub names : shown.first.names ≡ declared_names set
   pub second : HasSecond set (compares line) shown.second
   pub violating : (n : ℕ) × AreViolating (meaning_of set) set line n shown.first.rows (second_rows shown.second)
+
+-- What is shown are the windows that the values name where the property of the line ends at n, the second one where the line compares two; they
+-- violate the line there.
+pub record AreNamedWindows (set : Set) (line : Line) (e : Naming) (n : ℕ) (shown : Shown) : Type 0 where
+  pub first : shown.first.rows ≡ named_rows set e 0 (line_end set line n)
+  pub second : compares line ≡ true → second_rows shown.second ≡ named_rows set e 1 (line_end set line n)
+  pub violating : ViolatesAt set line e n
+
+-- What is shown of a line that values refute: the windows that they name where its property ends at the first offset at which those violate it.
+pub record ShowsNamedWindows (set : Set) (line : Line) (e : Naming) (shown : Shown) : Type 0 where
+  pub n : ℕ
+  pub least : (property_at set (property_of line)).length.low ≤ n
+  pub most : n ≤ (property_at set (property_of line)).length.high
+  pub windows : AreNamedWindows set line e n shown
+  pub none_before : (k : ℕ) → (property_at set (property_of line)).length.low ≤ k → k < n → ¬ ViolatesAt set line e k

@@ -1,5 +1,5 @@
 // What is shown of the lines of a set.
-ghost use Rattle.std.specs.Prelude.{◌≡◌, ℕ, ◌≤◌, List, map, IfOk, None};
+ghost use Rattle.std.specs.Prelude.{◌≡◌, ℕ, ◌≤◌, List, map, IfOk, None, true};
 ghost use Rattle.std.specs.List.{All};
 ghost use Rattle.std.specs.Option.{IfSome};
 ghost use Rattle.set_tree.specs.declared.set.Name.{Name as Declared};
@@ -8,13 +8,13 @@ ghost use Rattle.set_tree.specs.Meaning.{Row};
 ghost use Rattle.set_tree.specs.Lines.{last_row};
 ghost use Rattle.set_tree.specs.Parts.{IsPosition, window_of};
 ghost use Rattle.word_dag.specs.Nodes.{Naming, root_value};
-ghost use Rattle.word_names.specs.Names.{HasOneWordEach};
+ghost use Rattle.word_names.specs.Names.{HasOneWordEach, naming_from};
 ghost use Rattle.line_laws.specs.Laws.{property_of};
 ghost use Rattle.line_laws.specs.Lines.{IsOf, edge_end, split_end};
 ghost use Rattle.twin_tests.specs.Framing.{SpeaksOf};
 ghost use Rattle.line_judge.specs.Judging.{AreViolating};
 ghost use Rattle.replay.specs.Values.{AreOf};
-ghost use Rattle.replay.specs.Windows.{HasSecond, ShowsWindows, ViolatesAt, compares, declared_names, line_end, second_rows};
+ghost use Rattle.replay.specs.Windows.{AreNamedWindows, HasSecond, ShowsNamedWindows, ShowsWindows, ViolatesAt, compares, declared_names, line_end, second_rows};
 
 use crate::shown::{Shown, Trace};
 use crate::values::{Values, values_of};
@@ -148,6 +148,7 @@ fn second_of(
 ) -> Result<Option<Trace>, AllocError>
     ensures second { IfOk result (HasSecond set.now (compares line)) }
     ensures rows { (n : ℕ) (first : List Row) → AreViolating (meaning_of set.now) set.now line n first rows → IfOk result (λ second. AreViolating (meaning_of set.now) set.now line n first (second_rows second)) }
+    ensures same { compares line ≡ true → IfOk result (λ second. second_rows second ≡ rows) }
 {
     if !compares(line) {
         return Ok(None);
@@ -167,6 +168,7 @@ fn shown_at(
     requires speaks { SpeaksOf set.now line }
     requires end { n ≤ 64 }
     ensures shown { IfOk result (λ found. IfSome found (ShowsWindows set.now line)) }
+    ensures named { IfOk result (λ found. (e : Naming) → AreOf e values.now → IfSome found (AreNamedWindows set.now line e n)) }
     ensures none { IfOk result (λ found. (e : Naming) → AreOf e values.now → found ≡ None → ViolatesAt set.now line e n → ⊥) }
 {
     let names = set.set().names.as_slice();
@@ -201,7 +203,8 @@ pub fn twin_trace(
     requires speaks { SpeaksOf sound.now line }
     requires words { HasOneWordEach ob.now.nodes }
     requires root { (root_value values.now ob.now.nodes ob.now.root).value ≡ 1 }
-    ensures { IfOk result (ShowsWindows sound.now line) }
+    ensures shows { IfOk result (ShowsWindows sound.now line) }
+    ensures named { IfOk result (ShowsNamedWindows sound.now line (naming_from ob.now.nodes values.now)) }
 {
     let words = values_of(alloc, ob.nodes(), values)?;
     let length = &property_of(sound.set(), position_of(line) as usize).length;

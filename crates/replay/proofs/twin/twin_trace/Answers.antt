@@ -6,8 +6,8 @@ use Rattle.word_dag.specs.declared.node.Node.{Node}
 use Rattle.line_laws.specs.Laws.{property_of}
 use Rattle.word_names.specs.Names.{naming_from}
 use Rattle.replay.specs.Values.{AreOf}
-use Rattle.replay.specs.Windows.{ViolatesAt}
-use Rattle.replay.proofs.Searching.{none_more, none_of, refuted_at}
+use Rattle.replay.specs.Windows.{AreNamedWindows, ViolatesAt}
+use Rattle.replay.proofs.Searching.{none_more, none_of, refuted_at, some_of}
 use Rattle.replay.proofs.twin.twin_trace.Goals as goal
 
 pub loop-n-preserved : goal.loop-n-preserved
@@ -15,6 +15,20 @@ loop-n-preserved c =
     let e = naming_from c.args.ob.now.nodes c.args.values.now in
     let named : AreOf e c.in_ok-words.words = subst (λ (ns : List Node). AreOf (naming_from ns c.args.values.now) c.in_ok-words.words) c.nodes.ensures.nodes c.in_ok-words.ensures in
     none_more (ViolatesAt c.args.sound.now c.args.line e) (property_at c.args.sound.now (property_of c.args.line)).length.low c.loop-n.n c.loop-n.invariant (c.in_ok-shown.ensures.none e named (none_of c.in_ok-shown.field-0 c.in_default.not-Some))
+
+pub returns-in-Some-clause-named : goal.returns-in-Some-clause-named
+returns-in-Some-clause-named c =
+    let e = naming_from c.args.ob.now.nodes c.args.values.now in
+    let named : AreOf e c.in_ok-words.words = subst (λ (ns : List Node). AreOf (naming_from ns c.args.values.now) c.in_ok-words.words) c.nodes.ensures.nodes c.in_ok-words.ensures in
+    let same : c.property_of.result.now ≡ property_at c.args.sound.now (property_of c.args.line) =
+    c.property_of.ensures ∙ (ap (property_at c.set.result.now) c.position_of.ensures ∙ ap (λ (s : Set). property_at s (property_of c.args.line)) c.set.ensures.value) in
+    record {
+      n = c.loop-n.n;
+      least = omega (arith, ap (λ (p : Property). p.length.low) same);
+      most = omega (arith, ap (λ (p : Property). p.length.high) same, c.loop-n-test.true);
+      windows = some_of (AreNamedWindows c.args.sound.now c.args.line e c.loop-n.n) c.in_ok-shown.field-0 c.in-Some.shown c.in-Some.is (c.in_ok-shown.ensures.named e named);
+      none_before = c.loop-n.invariant;
+    }
 
 pub unreachable-requires : goal.unreachable-requires
 unreachable-requires c =
