@@ -1,17 +1,18 @@
-//! Shows as a word whether windows violate a line of a set's text.
+//! Shows as a word whether windows violate a line of a set's text, or rows break a line of a design.
 #![tactic(auto)]
 
 #[cfg(test)]
 mod tests;
 
 use line_judge::{is_constrained, is_violated};
+use segment_judge::is_broken;
 use set_read::read_set;
 use set_sound::{Sound, structure};
 use set_tree::{Line, Rows};
 use std::alloc::{AllocError, Global};
 
 /// A line, the end of its property where the line speaks of one, and the windows that may violate it: a row of values in the order of the
-/// set's names for each cycle.
+/// set's names for each cycle. A line on a design has the first window alone, the rows of a segment.
 pub struct Windows<'a> {
     pub line: Line,
     pub end: u8,
@@ -41,6 +42,9 @@ fn judged(alloc: Global, set: &Sound, windows: &Windows) -> Result<&'static str,
     if is_violated(alloc, set, windows.line, windows.end, &one, &other)? {
         return Ok("violated");
     }
+    if is_broken(alloc, set, windows.line, &one)? {
+        return Ok("broken");
+    }
     if is_constrained(alloc, set, &one)? {
         Ok("kept")
     } else {
@@ -48,7 +52,7 @@ fn judged(alloc: Global, set: &Sound, windows: &Windows) -> Result<&'static str,
     }
 }
 
-/// `violated` where the windows violate the line; else `kept`, or `unconstrained` where the first isn't a trace that meets the set's
+/// `violated` where the windows violate a line of the set, `broken` where the rows break one of a design; else `kept`, or `unconstrained` where the first isn't a trace that meets the set's
 /// constraints. `unread` and `unsound` where the text is no set with a sound structure.
 pub fn shown(alloc: Global, text: &[u8], windows: &Windows) -> Result<&'static str, AllocError> {
     match read_set(alloc, text) {

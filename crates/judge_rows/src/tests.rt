@@ -9,7 +9,7 @@ struct Flaw<'a> {
     flaw: &'a str,
     sound: &'a str,
     tail: &'a str,
-    // Windows that violate lines of the text with the flaw.
+    // Windows that violate lines of the text with the flaw, or rows that break them.
     windows: &'a [Windows<'a>],
     // What they are to the text without it.
     want: &'a str,
@@ -175,6 +175,112 @@ const FLAWS: &[Flaw] = &[
     },
 ];
 
+const MOD3: &str = "block mod3; clock clk; reset rst high 1; output [1:0] q; ";
+
+const TICKED: &str =
+    "property reset { length 0; commit q@0 == 2'd0; cover q from 0 to 1; next tick; }
+operation tick { length 1; commit q@1 == (q@0 == 2'd2 ? 2'd0 : q@0 + 2'd1); commit q@1 != 2'd0 || q@0 == 2'd2;
+hand q@0; cover q from 1 to 2; next tick; }";
+
+const RESETS: &str = "block mod3; clock clk; reset rst high 1; output [1:0] q;
+property reset { length 0; commit q@0 == ";
+
+const RESET: &str = "; cover q from 0 to 1; next tick; }
+operation tick { length 1; commit q@1 == (q@0 == 2'd2 ? 2'd0 : q@0 + 2'd1); hand q@0; cover q from 1 to 2; next tick; }";
+
+const ADDS: &str = "block counter; clock clk; reset rst high 1; input en; output [1:0] q;
+property reset { length 0; commit q@0 == 2'd0; cover q from 0 to 1; next step, hold; }
+operation step { length 1; assume en@0; commit q@1 == q@0 + ";
+
+const ADDED: &str = "; hand q@0; cover q from 1 to 2; next step, hold; }
+operation hold { length 1; assume !en@0; commit q@1 == q@0; hand q@0; cover q from 1 to 2; next step, hold; }";
+
+const COUNTS: &str = "block counter; clock clk; reset rst high 1; input en; output [1:0] q; ";
+
+const WIDE: &str = "property reset { length 0; commit q@0 == 2'd0; cover q from 0 to 1; next step; }
+operation step { length 1; commit q@1 == (en@0 ? q@0 + 1 : q@0); hand q@0; cover q from 1 to 2; next step; }";
+
+const BREAKS: &[Flaw] = &[
+    Flaw {
+        head: MOD3,
+        flaw: "invariant low : q != 2'd0; ",
+        sound: "invariant low : q != 2'd3; ",
+        tail: TICKED,
+        want: "kept",
+        windows: &[Windows {
+            line: Line::Base(0),
+            end: 0,
+            one: &[&[0]],
+            other: &[],
+        }],
+    },
+    Flaw {
+        head: MOD3,
+        flaw: "invariant low : q != 2'd2; ",
+        sound: "invariant low : q != 2'd3; ",
+        tail: TICKED,
+        want: "kept",
+        windows: &[Windows {
+            line: Line::Step(0),
+            end: 0,
+            one: &[&[1], &[2]],
+            other: &[],
+        }],
+    },
+    Flaw {
+        head: RESETS,
+        flaw: "2'd1",
+        sound: "2'd0",
+        tail: RESET,
+        want: "kept",
+        windows: &[Windows {
+            line: Line::Reset,
+            end: 0,
+            one: &[&[0]],
+            other: &[],
+        }],
+    },
+    Flaw {
+        head: ADDS,
+        flaw: "1",
+        sound: "2'd1",
+        tail: ADDED,
+        want: "kept",
+        windows: &[Windows {
+            line: Line::Operation(1),
+            end: 0,
+            one: &[&[1, 3], &[0, 0]],
+            other: &[],
+        }],
+    },
+    Flaw {
+        head: MOD3,
+        flaw: "",
+        sound: "invariant low : q != 2'd3; ",
+        tail: TICKED,
+        want: "kept",
+        windows: &[Windows {
+            line: Line::Operation(1),
+            end: 0,
+            one: &[&[3], &[0]],
+            other: &[],
+        }],
+    },
+    Flaw {
+        head: COUNTS,
+        flaw: "",
+        sound: "constraint below : !en@0 || q@0 != 2'd3; ",
+        tail: WIDE,
+        want: "unconstrained",
+        windows: &[Windows {
+            line: Line::Operation(1),
+            end: 0,
+            one: &[&[1, 3], &[0, 0]],
+            other: &[],
+        }],
+    },
+];
+
 fn text_of(alloc: Global, head: &str, piece: &str, tail: &str) -> Result<Text, AllocError> {
     let mut text = Text::copy(alloc, head.as_bytes())?;
     text.append(piece.as_bytes())?;
@@ -195,9 +301,9 @@ fn line(
     Ok(())
 }
 
-fn lines(rt: &(impl Abort + AllocGlobal), flaw: &Flaw) -> Result<(), Fail> {
+fn lines(rt: &(impl Abort + AllocGlobal), flaw: &Flaw, word: &str) -> Result<(), Fail> {
     for windows in flaw.windows {
-        line(rt, flaw, flaw.flaw, windows, "violated")?;
+        line(rt, flaw, flaw.flaw, windows, word)?;
         line(rt, flaw, flaw.sound, windows, flaw.want)?;
     }
     Ok(())
@@ -206,7 +312,15 @@ fn lines(rt: &(impl Abort + AllocGlobal), flaw: &Flaw) -> Result<(), Fail> {
 #[test]
 fn windows_violate_the_line_that_the_flaw_refutes(rt: HostRuntime) -> Result<(), Fail> {
     for flaw in FLAWS {
-        lines(&rt, flaw)?;
+        lines(&rt, flaw, "violated")?;
+    }
+    Ok(())
+}
+
+#[test]
+fn rows_break_the_line_that_the_flaw_refutes(rt: HostRuntime) -> Result<(), Fail> {
+    for flaw in BREAKS {
+        lines(&rt, flaw, "broken")?;
     }
     Ok(())
 }
