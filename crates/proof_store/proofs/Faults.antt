@@ -1,0 +1,10 @@
+-- A count of faults over several calls.
+use Rattle.std.proofs.Common.{ℕ, ◌≤◌, ◌<◌, inl, inr, ⊎_elim, arith}
+use Rattle.outside.specs.Faults.{Rose}
+
+-- what rose after a while rose in all
+pub rose_from : (before now after : ℕ) → before ≤ now → Rose now after → Rose before after
+rose_from before now after later rose = ⊎_elim (λ less. inl (less_than before now after later less)) (λ top. inr top) rose
+  where
+    less_than : (a b c : ℕ) → a ≤ b → b < c → a < c
+    less_than a b c p q = omega arith

@@ -1,0 +1,10 @@
+mod Asking
+mod Faults
+mod Ordered
+mod Placed
+mod Proving
+mod Seconds
+mod Storing
+mod Turns
+mod Walking
+mod Wholes

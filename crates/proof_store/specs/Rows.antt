@@ -1,0 +1,33 @@
+-- Rows of a keeper, as they are read and made.
+use Rattle.std.specs.Prelude.{◌≡◌, ℕ, List, Option, Some, None, Vec, All}
+use Rattle.std.specs.declared.alloc.Global.{Global}
+use Rattle.std.specs.FinMap.{get}
+use Rattle.outside.specs.Tables.{Tables}
+use Rattle.clause_check.specs.declared.formula.Cnf.{Cnf}
+use Rattle.clause_check.specs.declared.formula.Step.{Step}
+use Rattle.clause_check.specs.Derivations.{IsRefutation}
+use Rattle.step_records.specs.Records.{IsRecord, version_2}
+use Rattle.verdicts.specs.declared.decide.Decided.{Decided}
+use Rattle.verdicts.specs.declared.decide.Evidence.TheVariants.{Derivation}
+use Rattle.proof_store.specs.Kept.{IsProof, key_of}
+use Rattle.proof_store.specs.Stored.{MayBeKept}
+use Rattle.proof_store.specs.declared.keeping.Row.{Row}
+
+-- what is found in these bytes: steps that refute the formula, of which they are a record; or nothing, and they are a record of no such steps
+abbrev pub IsAccepted : Cnf → List ℕ → Option (Vec Step Global) → Type 0
+IsAccepted cnf bytes (Some steps) = IsRecord bytes steps.items × IsRefutation cnf steps.items
+IsAccepted cnf bytes None = (steps : List Step) → IsRecord bytes steps → IsRefutation cnf steps → ⊥
+
+-- what is found in the row under this key
+abbrev pub FindsIn : Tables → List ℕ → Cnf → Option (Vec Step Global) → Type 0
+FindsIn t key cnf (Some steps) = (bytes : List ℕ) × (get t.proofs key ≡ Some bytes) × IsAccepted cnf bytes (Some steps)
+FindsIn t key cnf None = (bytes : List ℕ) → get t.proofs key ≡ Some bytes → IsAccepted cnf bytes None
+
+-- the row of a derivation that may be kept, and none for anything else
+abbrev pub IsRowOf : Decided → Option Row → Type 0
+IsRowOf d (Some row) = (steps : Vec Step Global) × MayBeKept d steps × (row.key.items ≡ key_of d.ob) × (row.bytes.items ≡ version_2 steps.items) × IsRecord row.bytes.items steps.items
+IsRowOf d None = (steps : Vec Step Global) → MayBeKept d steps → ⊥
+
+-- each derivation is a proof of its obligation
+abbrev pub HasProofs : List Decided → Type 0
+HasProofs decided = All (λ d. (steps : Vec Step Global) → d.evidence ≡ Derivation steps → IsProof d.ob steps.items) decided
