@@ -10,7 +10,7 @@ use Rattle.segment_laws.specs.Lines.{IsOf as IsOfDesign}
 use Rattle.binding.specs.Binding.{Pair}
 use Rattle.replay.specs.declared.shown.Shown.{Shown}
 use Rattle.replay.specs.Segments.{ShowsSegment}
-use Rattle.replay.specs.Windows.{ShowsWindows}
+use Rattle.replay.specs.Windows.{ShowsNamedWindows, ShowsWindows}
 use Rattle.line_obs.specs.Obligations.{IsExact}
 use Rattle.asked_lines.specs.Traces.{ShowsLine, is_on_design}
 
@@ -56,14 +56,14 @@ shows_design b (Choose p q) e shown is h = on_design _ is
 shows_design b (Hand p q) e shown is h = on_design _ is
 shows_design b (Determine p) e shown is h = on_design _ is
 
-pub shows_set : (b : Pair) (line : Line) (e : Naming) (shown : Shown) → is_on_design line ≡ false → ShowsWindows b.set line shown → ShowsLine b line e shown
-shows_set b (Base i) e shown is h = on_set _ is
-shows_set b (Step i) e shown is h = on_set _ is
-shows_set b Reset e shown is h = on_set _ is
-shows_set b (Operation p) e shown is h = on_set _ is
-shows_set b (End p) e shown is h = h
-shows_set b (Split p) e shown is h = h
-shows_set b (SameEnd p) e shown is h = h
-shows_set b (Choose p q) e shown is h = h
-shows_set b (Hand p q) e shown is h = h
-shows_set b (Determine p) e shown is h = h
+pub shows_set : (b : Pair) (line : Line) (e : Naming) (shown : Shown) → is_on_design line ≡ false → ShowsWindows b.set line shown → ShowsNamedWindows b.set line e shown → ShowsLine b line e shown
+shows_set b (Base i) e shown is h k = on_set _ is
+shows_set b (Step i) e shown is h k = on_set _ is
+shows_set b Reset e shown is h k = on_set _ is
+shows_set b (Operation p) e shown is h k = on_set _ is
+shows_set b (End p) e shown is h k = (h, k)
+shows_set b (Split p) e shown is h k = (h, k)
+shows_set b (SameEnd p) e shown is h k = (h, k)
+shows_set b (Choose p q) e shown is h k = (h, k)
+shows_set b (Hand p q) e shown is h k = (h, k)
+shows_set b (Determine p) e shown is h k = (h, k)

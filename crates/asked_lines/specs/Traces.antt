@@ -8,7 +8,7 @@ use Rattle.word_names.specs.Names.{naming_from}
 use Rattle.binding.specs.Binding.{Pair}
 use Rattle.replay.specs.declared.shown.Shown.{Shown}
 use Rattle.replay.specs.Segments.{ShowsSegment}
-use Rattle.replay.specs.Windows.{ShowsWindows}
+use Rattle.replay.specs.Windows.{ShowsNamedWindows, ShowsWindows}
 use Rattle.verdicts.specs.declared.decide.Evidence.{Evidence}
 use Rattle.verdicts.specs.declared.decide.Evidence.TheVariants as e
 
@@ -24,18 +24,18 @@ is_on_design (Choose p q) = false
 is_on_design (Hand p q) = false
 is_on_design (Determine p) = false
 
--- a segment that the values name, or windows, that violate the line
+-- a segment, or windows, which the values name and which violate the line
 abbrev pub ShowsLine : Pair → Line → Naming → Shown → Type 0
 ShowsLine b (Base i) values shown = ShowsSegment b.design (meaning_of b.set) b.set (Base i) values shown
 ShowsLine b (Step i) values shown = ShowsSegment b.design (meaning_of b.set) b.set (Step i) values shown
 ShowsLine b Reset values shown = ShowsSegment b.design (meaning_of b.set) b.set Reset values shown
 ShowsLine b (Operation p) values shown = ShowsSegment b.design (meaning_of b.set) b.set (Operation p) values shown
-ShowsLine b (End p) values shown = ShowsWindows b.set (End p) shown
-ShowsLine b (Split p) values shown = ShowsWindows b.set (Split p) shown
-ShowsLine b (SameEnd p) values shown = ShowsWindows b.set (SameEnd p) shown
-ShowsLine b (Choose p q) values shown = ShowsWindows b.set (Choose p q) shown
-ShowsLine b (Hand p q) values shown = ShowsWindows b.set (Hand p q) shown
-ShowsLine b (Determine p) values shown = ShowsWindows b.set (Determine p) shown
+ShowsLine b (End p) values shown = ShowsWindows b.set (End p) shown × ShowsNamedWindows b.set (End p) values shown
+ShowsLine b (Split p) values shown = ShowsWindows b.set (Split p) shown × ShowsNamedWindows b.set (Split p) values shown
+ShowsLine b (SameEnd p) values shown = ShowsWindows b.set (SameEnd p) shown × ShowsNamedWindows b.set (SameEnd p) values shown
+ShowsLine b (Choose p q) values shown = ShowsWindows b.set (Choose p q) shown × ShowsNamedWindows b.set (Choose p q) values shown
+ShowsLine b (Hand p q) values shown = ShowsWindows b.set (Hand p q) shown × ShowsNamedWindows b.set (Hand p q) values shown
+ShowsLine b (Determine p) values shown = ShowsWindows b.set (Determine p) shown × ShowsNamedWindows b.set (Determine p) values shown
 
 -- a counterexample where values refute the line, and none otherwise
 abbrev pub IsTraceOf : Pair → Line → Parts → Evidence → Option Shown → Type 0

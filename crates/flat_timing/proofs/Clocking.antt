@@ -10,7 +10,6 @@ use Rattle.std.specs.Str.{bytes_eq}
 use Rattle.std.proofs.lemmas.Slice.Eq.{bytes_eq-Decides}
 use Rattle.vlog_tree.specs.declared.module.Module.{Module}
 use Rattle.vlog_tree.specs.declared.expr.Expr.{Expr}
-use Rattle.vlog_tree.specs.declared.expr.Name.{Name as Read}
 use Rattle.vlog_tree.specs.declared.stmt.Edge.{Edge}
 use Rattle.vlog_tree.specs.declared.stmt.Stmt.{Stmt}
 use Rattle.vlog_runs.specs.Places.{Name, Among}
@@ -20,6 +19,7 @@ use Rattle.flat_faults.specs.declared.fault.FlatFault.{FlatFault}
 use Rattle.flat_faults.specs.declared.fault.FlatFault.TheVariants as f
 use Rattle.flat_faults.specs.Clocks.{Reaches, Reset, WaitsFor, reset_of}
 use Rattle.flat_faults.specs.Stands.{Stands, IsClockOf, IsClockedBlock}
+use Rattle.flat_faults.specs.Texts.{names_in}
 use Rattle.flat_laws.proofs.Lists.{among_append, among_map, map_among, among_flat, flat_among}
 use Rattle.flat_instances.specs.Unfolding.{AreUnfolded}
 use Rattle.flat_instances.proofs.Children.{among_get}
@@ -29,9 +29,9 @@ use Rattle.flat_ready.specs.Handed.{IsResetOf}
 use Rattle.flat_reach.specs.Tables.{Link, IsTable}
 use Rattle.flat_timing.specs.Tabled.{AreWays, AreWaysOf}
 use Rattle.flat_timing.specs.Driving.{Timed, timed_meant, at_level, ReachesAs, IsDriven, Site, site, sites_in, sites_at, AreTimings, AreTimingsOf}
-use Rattle.flat_timing.specs.Clocking.{IsClockAmong, HasTwoClocks, IsClockRead, IsAt, NoneReads, ReadsClock}
+use Rattle.flat_timing.specs.Clocking.{IsClockAmong, HasTwoClocks, IsClockRead, IsAt, NoneReads, SomeReads}
 use Rattle.flat_timing.proofs.Paths.{got_within, place_of_among, same_length, path_known}
-use Rattle.flat_timing.proofs.Tabled.{tables_length, table_at, passed_length, passed_at}
+use Rattle.flat_timing.proofs.Tabled.{tables_length, table_at, kept_length, kept_at}
 use Rattle.flat_timing.proofs.Driven.{timed_driven, driven_timed, path_of}
 
 -- ---- one clock of a list
@@ -96,15 +96,15 @@ one_wait (one ∷ other ∷ third ∷ edges) body x y r q v w = absurd v
 
 -- ---- of all scopes
 
-module _ (ms : List Module) (top : Name) (ss : List Scope) (ts : List (List Link)) (xss : List (List Read)) (us : List Timed) (unf : AreUnfolded ms top ss) (ways : AreWaysOf ss ts xss) where
-  abbrev all : AreWays ms unf.paths top ss ts xss
+module _ (ms : List Module) (top : Name) (ss : List Scope) (ts : List (List Link)) (kept : List (List Expr)) (us : List Timed) (unf : AreUnfolded ms top ss) (ways : AreWaysOf ss ts kept) where
+  abbrev all : AreWays ms unf.paths top ss ts kept
   all = ways ms top unf
 
   pub tables_long : length ts ≡ length ss
   tables_long = tables_length ms top unf.paths ts all.tables ∙ sym (same_length ms top ss unf)
 
-  pub passed_long : length xss ≡ length ss
-  passed_long = passed_length ms ss xss all.passed
+  pub kept_long : length kept ≡ length ss
+  kept_long = kept_length ms ss kept all.connections
 
   module _ (timings : AreTimingsOf ss ts us) where
     abbrev sites : List Site
@@ -206,12 +206,21 @@ module _ (ms : List Module) (top : Name) (ss : List Scope) (ts : List (List Link
         (w.path, w.scope, w.at, inr (inl (w.block, w.edges, u.clock, v.clock, w.is_block, driven_timed ms top (reverse w.path) w.edges w.block.body u w.driven, clock_of v b, differ, e)))
     two_stand fault h = absurd h
 
-    pub read_stands : (o : Option Name) → IsClockAmong us o → (clock : Name) → o ≡ Some clock → (fault : FlatFault) → ReadsClock ss ts xss clock fault → Stands ms top fault
-    read_stands o among clock is (f.Clock n) (j, s, t, xs, at, x, (a, in', not', name, reached), e) =
+    pub read_stands : (o : Option Name) → IsClockAmong us o → (clock : Name) → o ≡ Some clock → (fault : FlatFault) → SomeReads ss ts kept clock fault → Stands ms top fault
+    read_stands o among clock is (f.Clock n) (j, s, t, as', at, x, read, e) =
         let p = path_of ms top ss unf.paths unf.lead j s at.scope in
         let table = table_at ms top unf.paths ts all.tables j p.0 t p.1 at.table in
-        let passed = passed_at ms ss xss all.passed j s xs at.scope at.passed a in
-        (p.0, s, p.2, inr (inr (a, in', (λ h. not' (passed.1 h)), x, clock, name, (table x clock).0 reached, (clock_is o among clock).0 is, e)))
+        let clocked = (clock_is o among clock).0 is in (
+          p.0,
+          s,
+          p.2,
+          inr (inr (⊎_elim
+              (λ (a, in', name, reached). inl (a, in', x, (name, clock, (table x clock).0 reached, clocked), e))
+              (λ (a, in', name, reached).
+              let k = (kept_at ms ss kept all.connections j s as' at.scope at.exprs a).0 in' in
+              inr (k.0, k.1, k.2, k.3, k.4, k.5, k.6, x, (subst (λ b. Among (names_in b) x) (sym k.7) name, clock, (table x clock).0 reached, clocked), e))
+              read)),
+        )
     read_stands o among clock is fault h = absurd h
 
     scope_of : (j : ℕ) (path : List Name) (s : Scope) → slice_get unf.paths j ≡ Some path → scope_at ms top path ≡ Some s → slice_get ss j ≡ Some s
@@ -223,18 +232,18 @@ module _ (ms : List Module) (top : Name) (ss : List Scope) (ts : List (List Link
         by None h = cc
         by (Some r) h = cc
 
-    not_read : (clock : Name) → NoneReads ss ts xss clock → (path : List Name) (s : Scope) → scope_at ms top path ≡ Some s → (a : Expr) (x : Name) →
-        ((t : List Link) (xs : List Read) (j : ℕ) → IsAt ss ts xss j s t xs → IsTable ms top (reverse path) t → IsClockRead s.module' t xs clock x) → ⊥
-    not_read clock none path s at a x read =
+    not_read : (clock : Name) → NoneReads ss ts kept clock → (path : List Name) (s : Scope) → scope_at ms top path ≡ Some s → (x : Name) →
+        ((t : List Link) (as' : List Expr) (j : ℕ) → IsAt ss ts kept j s t as' → IsTable ms top (reverse path) t → IsClockRead s.module' as' t clock x) → ⊥
+    not_read clock none path s at x read =
         let j = place_of_among unf.paths path (path_known ms top ss unf path s at) in
         let lt = slice_get_within unf.paths j.0 path j.1 in
         let here = scope_of j.0 path s j.1 at in
         let t = got_within ts j.0 (omega (arith, tables_long, same_length ms top ss unf, lt)) in
-        let xs = got_within xss j.0 (omega (arith, passed_long, same_length ms top ss unf, lt)) in
-        let is : IsAt ss ts xss j.0 s t.0 xs.0 = record { scope = here; table = t.1; passed = xs.1 } in
-        none j.0 s t.0 xs.0 is x (read t.0 xs.0 j.0 is (table_at ms top unf.paths ts all.tables j.0 path t.0 j.1 t.1))
+        let as' = got_within kept j.0 (omega (arith, kept_long, same_length ms top ss unf, lt)) in
+        let is : IsAt ss ts kept j.0 s t.0 as'.0 = record { scope = here; table = t.1; exprs = as'.1 } in
+        none j.0 s t.0 as'.0 is x (read t.0 as'.0 j.0 is (table_at ms top unf.paths ts all.tables j.0 path t.0 j.1 t.1))
 
-    pub none_stands : (o : Option Name) → IsClockAmong us o → ((clock : Name) → o ≡ Some clock → NoneReads ss ts xss clock) → (n : Name) → Stands ms top (f.Clock n) → ⊥
+    pub none_stands : (o : Option Name) → IsClockAmong us o → ((clock : Name) → o ≡ Some clock → NoneReads ss ts kept clock) → (n : Name) → Stands ms top (f.Clock n) → ⊥
     none_stands o among reads n (path, s, at, breaks) =
         ⊎_elim
         (λ (k, edges, is, untimed, edge, a, e).
@@ -247,9 +256,14 @@ module _ (ms : List Module) (top : Name) (ss : List Scope) (ts : List (List Link
         let both : Some y ≡ Some z = sym first ∙ second in
         let same : y ≡ z = cc in
         differ same)
-        (λ (a, in', not', x, y, name, reaches, clock, e).
-        let is : o ≡ Some y = (clock_is o among y).1 clock in
-        not_read y (reads y is) path s at a x
-        (λ t xs j here table. (a, in', (λ h. not' ((passed_at ms ss xss all.passed j s xs here.scope here.passed a).0 h)), name, (table x y).1 reaches)))
+        (λ h. ⊎_elim
+        (λ (a, in', x, (name, y, reaches, clock), e).
+        not_read y (reads y ((clock_is o among y).1 clock)) path s at x (λ t as' j here table. inl (a, in', name, (table x y).1 reaches)))
+        (λ (i, in', t, made, d, given, free, x, (name, y, reaches, clock), e).
+        not_read y (reads y ((clock_is o among y).1 clock)) path s at x
+        (λ t' as' j here table.
+        let k = (kept_at ms ss kept all.connections j s as' here.scope here.exprs d.value).1 (i, in', t, made, d, given, free, refl) in
+        inr (d.value, k, name, (table x y).1 reaches)))
+        h)
         h)
         breaks

@@ -6,7 +6,7 @@ use Rattle.std.specs.Option.{option_map}
 use Rattle.std.proofs.lemmas.List.{take-map, drop-map, drop-drop, take_more, take_all, length-map, length-drop}
 use Rattle.std.proofs.lemmas.Option.{slice_get-map, slice_get_read, get_or_from_slice_get}
 use Rattle.vlog_tree.specs.declared.module.Module.{Module}
-use Rattle.vlog_tree.specs.declared.expr.Name.{Name as Read}
+use Rattle.vlog_tree.specs.declared.expr.Expr.{Expr}
 use Rattle.vlog_runs.specs.Places.{Name, Among}
 use Rattle.vlog_runs.specs.Contents.{instances_in}
 use Rattle.vlog_runs.specs.Scopes.{Scope, child, scope_at}
@@ -17,11 +17,11 @@ use Rattle.flat_instances.specs.Unfolding.{scope_meant, below, AreUnfolded}
 use Rattle.flat_instances.proofs.Children.{among_get, refuses_map}
 use Rattle.flat_names.specs.Rows.{StandsAlone}
 use Rattle.flat_reach.specs.Tables.{Link, IsTable}
-use Rattle.flat_timing.specs.Passing.{passed_into, ArePassed, StandsAmong}
+use Rattle.flat_timing.specs.Passing.{kept_into, AreKept, StandsAmong}
 use Rattle.flat_timing.specs.Tabled.{AreTables, AreTablesBelow, AreAllScopes, AreWaysOf}
 use Rattle.flat_timing.proofs.Paths.{known, same_length, path_at, ahead, known_first, all_known, sound, within, grown, new, next_known, fits, children_are}
-use Rattle.flat_timing.proofs.Tabled.{tables_append, tables_length, table_at, tables_grow, passed_more}
-use Rattle.flat_timing.proofs.Passing.{passes}
+use Rattle.flat_timing.proofs.Tabled.{tables_append, tables_length, table_at, tables_grow, kept_more}
+use Rattle.flat_timing.proofs.Passing.{keeps}
 
 -- ---- one scope of a list
 
@@ -132,26 +132,26 @@ module _ (scopes : List Instance) (k : ℕ) (x : Instance) (lt : k < length scop
         subst (λ ps. AreTables ms top ps all) (sym (next_known ms top ss u k s at))
         (subst (AreTables ms top (known ms top u.paths k ++ new ms top ss u k s at)) (sym grown-is) (tables_append ms top (known ms top u.paths k) (new ms top ss u k s at) ts more (inv ms top u) new-tables))
 
-    pub next_passed : (xss : List (List Read)) (xs : List Read) (all : List (List Read)) → ((ms : List Module) (top : Name) (u : AreUnfolded ms top ss) → ArePassed ms (take k ss) xss) →
-        xs ≡ passed_into (instances_in s.module') (map scope_meant part) → all ≡ xss ++ xs ∷ [] →
-        (ms : List Module) (top : Name) (u : AreUnfolded ms top ss) → ArePassed ms (take (k + 1) ss) all
-    next_passed xss xs all inv is-passed grown-is ms top u =
+    pub next_kept : (kept : List (List Expr)) (as' : List Expr) (all : List (List Expr)) → ((ms : List Module) (top : Name) (u : AreUnfolded ms top ss) → AreKept ms (take k ss) kept) →
+        as' ≡ kept_into (instances_in s.module') (map scope_meant part) → all ≡ kept ++ as' ∷ [] →
+        (ms : List Module) (top : Name) (u : AreUnfolded ms top ss) → AreKept ms (take (k + 1) ss) all
+    next_kept kept as' all inv is-kept grown-is ms top u =
         let long : k < length ss = omega (arith, length-map scopes scope_meant, lt) in
         let more : take (k + 1) ss ≡ take k ss ++ s ∷ [] = take_more ss k s long ∙ ap (λ z. take k ss ++ z ∷ []) (get_or_from_slice_get ss k s s at) in
-        subst (λ zs. ArePassed ms zs all) (sym more)
-        (subst (ArePassed ms (take k ss ++ s ∷ [])) (sym grown-is) (passed_more ms (take k ss) xss s xs (inv ms top u) (passes ms s (map scope_meant part) (children_here ms top u part m same e) xs is-passed)))
+        subst (λ zs. AreKept ms zs all) (sym more)
+        (subst (AreKept ms (take k ss ++ s ∷ [])) (sym grown-is) (kept_more ms (take k ss) kept s as' (inv ms top u) (keeps ms s (map scope_meant part) (children_here ms top u part m same e) as' is-kept)))
 
 -- ---- all of them
 
-pub ways_done : (scopes : List Instance) (k : ℕ) → length scopes ≤ k → (ts : List (List Link)) (xss : List (List Read)) →
+pub ways_done : (scopes : List Instance) (k : ℕ) → length scopes ≤ k → (ts : List (List Link)) (kept : List (List Expr)) →
     ((ms : List Module) (top : Name) (u : AreUnfolded ms top (map scope_meant scopes)) → AreTables ms top (known ms top u.paths k) ts) →
-    ((ms : List Module) (top : Name) (u : AreUnfolded ms top (map scope_meant scopes)) → ArePassed ms (take k (map scope_meant scopes)) xss) →
-    AreWaysOf (map scope_meant scopes) ts xss
-ways_done scopes k done ts xss tables passed ms top u =
+    ((ms : List Module) (top : Name) (u : AreUnfolded ms top (map scope_meant scopes)) → AreKept ms (take k (map scope_meant scopes)) kept) →
+    AreWaysOf (map scope_meant scopes) ts kept
+ways_done scopes k done ts kept tables connections ms top u =
     let ss = map scope_meant scopes in
     let most : length u.paths ≤ k = omega (arith, done, length-map scopes scope_meant, same_length ms top ss u) in
     let all : length ss ≤ k = omega (arith, done, length-map scopes scope_meant) in
     record {
       tables = subst (λ ps. AreTables ms top ps ts) (all_known ms top ss u k most) (tables ms top u);
-      passed = subst (λ zs. ArePassed ms zs xss) (take_all k ss all) (passed ms top u);
+      connections = subst (λ zs. AreKept ms zs kept) (take_all k ss all) (connections ms top u);
     }

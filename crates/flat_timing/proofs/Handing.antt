@@ -3,7 +3,7 @@ use Rattle.std.proofs.Common.{◌≡◌, Bool, true, false, List, ◌++◌, Opti
 use Rattle.std.specs.Prelude.{◌↔◌, Result, OnOk, IfErr}
 use Rattle.std.proofs.lemmas.Result.{IfErr-weaker, on_ok_weaker}
 use Rattle.vlog_tree.specs.declared.module.Module.{Module}
-use Rattle.vlog_tree.specs.declared.expr.Name.{Name as Read}
+use Rattle.vlog_tree.specs.declared.expr.Expr.{Expr}
 use Rattle.vlog_runs.specs.declared.flat.Async.{Async}
 use Rattle.vlog_runs.specs.Places.{Name, Among}
 use Rattle.vlog_runs.specs.Scopes.{Scope}
@@ -16,40 +16,40 @@ use Rattle.flat_ready.specs.Handed.{IsResetOf}
 use Rattle.flat_reach.specs.Tables.{Link}
 use Rattle.flat_timing.specs.Tabled.{AreWaysOf}
 use Rattle.flat_timing.specs.Driving.{Timed, AreTimingsOf, StandsBy}
-use Rattle.flat_timing.specs.Clocking.{async_at, asyncs_at, IsClockAmong, HasTwoClocks, NoneReads, ReadsClock}
+use Rattle.flat_timing.specs.Clocking.{async_at, asyncs_at, IsClockAmong, HasTwoClocks, NoneReads, SomeReads}
 use Rattle.flat_timing.specs.Unread.{IsUnread, IsReadBy}
 use Rattle.flat_timing.proofs.Resets.{asyncs_are}
 use Rattle.flat_timing.proofs.Clocking.{clock_is, reset_is, two_stand, read_stands, none_stands}
 
 -- the clock that there is, is read by no scope, or by one
-pub unread : {T : Type 0} (ss : List Scope) (ts us : List (List Link)) (xss yss : List (List Read)) (x : Name) (o : Option Name) → o ≡ Some x → (r : Result T FlatFault) → ts ≡ us → xss ≡ yss → OnOk r (NoneReads ss ts xss x) → OnOk r (IsUnread ss us yss o)
-unread ss ts us xss yss x o is r a b = on_ok_weaker r (λ (h : NoneReads ss ts xss x). λ (y : Name) (e : o ≡ Some y).
+pub unread : {T : Type 0} (ss : List Scope) (ts us : List (List Link)) (kept known : List (List Expr)) (x : Name) (o : Option Name) → o ≡ Some x → (r : Result T FlatFault) → ts ≡ us → kept ≡ known → OnOk r (NoneReads ss ts kept x) → OnOk r (IsUnread ss us known o)
+unread ss ts us kept known x o is r a b = on_ok_weaker r (λ (h : NoneReads ss ts kept x). λ (y : Name) (e : o ≡ Some y).
     let both : Some x ≡ Some y = sym is ∙ e in
     let same : x ≡ y = cc in
-    subst (λ z. NoneReads ss us yss z) same (subst (λ zs. NoneReads ss us zs x) b (subst (λ zs. NoneReads ss zs xss x) a h)))
+    subst (λ z. NoneReads ss us known z) same (subst (λ zs. NoneReads ss us zs x) b (subst (λ zs. NoneReads ss zs kept x) a h)))
 
-pub read_by : {T : Type 0} (ss : List Scope) (ts us : List (List Link)) (xss yss : List (List Read)) (x : Name) (o : Option Name) → o ≡ Some x → (r : Result T FlatFault) → ts ≡ us → xss ≡ yss → IfErr r (Refuses (ReadsClock ss ts xss x)) → IfErr r (Refuses (IsReadBy ss us yss o))
-read_by ss ts us xss yss x o is r a b = IfErr-weaker r (Refuses (ReadsClock ss ts xss x)) (Refuses (IsReadBy ss us yss o)) (λ fault h.
-    refuses_map (ReadsClock ss us yss x) (IsReadBy ss us yss o) (λ g z. (x, is, z)) fault
-    (subst (λ zs. Refuses (ReadsClock ss us zs x) fault) b (subst (λ zs. Refuses (ReadsClock ss zs xss x) fault) a h)))
+pub read_by : {T : Type 0} (ss : List Scope) (ts us : List (List Link)) (kept known : List (List Expr)) (x : Name) (o : Option Name) → o ≡ Some x → (r : Result T FlatFault) → ts ≡ us → kept ≡ known → IfErr r (Refuses (SomeReads ss ts kept x)) → IfErr r (Refuses (IsReadBy ss us known o))
+read_by ss ts us kept known x o is r a b = IfErr-weaker r (Refuses (SomeReads ss ts kept x)) (Refuses (IsReadBy ss us known o)) (λ fault h.
+    refuses_map (SomeReads ss us known x) (IsReadBy ss us known o) (λ g z. (x, is, z)) fault
+    (subst (λ zs. Refuses (SomeReads ss us zs x) fault) b (subst (λ zs. Refuses (SomeReads ss zs kept x) fault) a h)))
 
-module _ (ms : List Module) (top : Name) (ss : List Scope) (ts : List (List Link)) (xss : List (List Read)) (unf : AreUnfolded ms top ss) (ways : AreWaysOf ss ts xss) where
+module _ (ms : List Module) (top : Name) (ss : List Scope) (ts : List (List Link)) (kept : List (List Expr)) (unf : AreUnfolded ms top ss) (ways : AreWaysOf ss ts kept) where
   pub refused_timing : (fault : FlatFault) → Refuses (StandsBy ss ts) fault → Refuses (Stands ms top) fault
   refused_timing fault h = refuses_map (StandsBy ss ts) (Stands ms top) (λ g z. z ms top unf.paths unf.lead (ways ms top unf).tables) fault h
 
   module _ (us : List Timed) (timings : AreTimingsOf ss ts us) where
     pub refused_clocks : (fault : FlatFault) → Refuses (HasTwoClocks us) fault → Refuses (Stands ms top) fault
-    refused_clocks fault h = refuses_map (HasTwoClocks us) (Stands ms top) (two_stand ms top ss ts xss us unf ways timings) fault h
+    refused_clocks fault h = refuses_map (HasTwoClocks us) (Stands ms top) (two_stand ms top ss ts kept us unf ways timings) fault h
 
     pub resets_given : (as' : List Async) → as' ≡ asyncs_at true us ++ asyncs_at false us → (y : Name) (high : Bool) → Among as' (async_at high y) ↔ IsResetOf ms top y high
-    resets_given as' is y high = reset_is ms top ss ts xss us unf ways timings y high (Among as' (async_at high y)) (asyncs_are us as' is y high)
+    resets_given as' is y high = reset_is ms top ss ts kept us unf ways timings y high (Among as' (async_at high y)) (asyncs_are us as' is y high)
 
     module _ (o : Option Name) (among : IsClockAmong us o) where
-      pub refused_reads : (fault : FlatFault) → Refuses (IsReadBy ss ts xss o) fault → Refuses (Stands ms top) fault
-      refused_reads fault h = refuses_map (IsReadBy ss ts xss o) (Stands ms top) (λ g z. read_stands ms top ss ts xss us unf ways timings o among z.0 z.1 g z.2) fault h
+      pub refused_reads : (fault : FlatFault) → Refuses (IsReadBy ss ts kept o) fault → Refuses (Stands ms top) fault
+      refused_reads fault h = refuses_map (IsReadBy ss ts kept o) (Stands ms top) (λ g z. read_stands ms top ss ts kept us unf ways timings o among z.0 z.1 g z.2) fault h
 
       pub clock_given : (r : Option Name) → r ≡ o → (y : Name) → (r ≡ Some y) ↔ IsClockOf ms top y
-      clock_given r e y = subst (λ q. (q ≡ Some y) ↔ IsClockOf ms top y) (sym e) (clock_is ms top ss ts xss us unf ways timings o among y)
+      clock_given r e y = subst (λ q. (q ≡ Some y) ↔ IsClockOf ms top y) (sym e) (clock_is ms top ss ts kept us unf ways timings o among y)
 
-      pub none_left : IsUnread ss ts xss o → (n : Name) → Stands ms top (f.Clock n) → ⊥
-      none_left unread n h = none_stands ms top ss ts xss us unf ways timings o among unread n h
+      pub none_left : IsUnread ss ts kept o → (n : Name) → Stands ms top (f.Clock n) → ⊥
+      none_left unread n h = none_stands ms top ss ts kept us unf ways timings o among unread n h

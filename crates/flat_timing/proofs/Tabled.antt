@@ -4,16 +4,15 @@ use Rattle.std.specs.Prelude.{reverse}
 use Rattle.std.specs.List.{slice_get}
 use Rattle.std.proofs.lemmas.List.{reverse-append, reverse-reverse}
 use Rattle.vlog_tree.specs.declared.module.Module.{Module}
-use Rattle.vlog_tree.specs.declared.expr.Name.{Name as Read}
 use Rattle.vlog_runs.specs.Places.{Name, Among}
 use Rattle.vlog_runs.specs.Contents.{Inner, instances_in}
 use Rattle.vlog_runs.specs.Scopes.{Scope, child, scope_at}
 use Rattle.flat_faults.specs.declared.fault.FlatFault.{FlatFault}
-use Rattle.flat_faults.specs.Stands.{PassesOn, Stands}
+use Rattle.flat_faults.specs.Stands.{Stands}
 use Rattle.flat_instances.specs.Unfolding.{AreUnfolded, HasSoundInners}
 use Rattle.flat_instances.proofs.Standing.{in_scope}
 use Rattle.flat_reach.specs.Tables.{Link, IsTable, IsTableBelow}
-use Rattle.flat_timing.specs.Passing.{IsPassed, ArePassed, StandsAmong}
+use Rattle.flat_timing.specs.Passing.{IsKept, AreKept, StandsAmong}
 use Rattle.flat_timing.specs.Tabled.{AreTables, AreTablesBelow}
 use Rattle.vlog_tree.specs.declared.expr.Expr.{Expr}
 use Rattle.std.specs.Prelude.{◌↔◌}
@@ -71,29 +70,29 @@ below_more outer [] (s ∷ ts) ls i t l h b = absurd h
 below_more outer (j ∷ is) [] ls i t l h b = absurd h
 below_more outer (j ∷ is) (s ∷ ts) [] i t l h b = absurd h
 
--- ---- what is passed on, scope by scope
+-- ---- what connections don't pass on, scope by scope
 
 module _ (ms : List Module) where
-  pub passed_more : (ss : List Scope) (xss : List (List Read)) (s : Scope) (xs : List Read) → ArePassed ms ss xss → ((a : Expr) → IsPassed xs a ↔ PassesOn ms s a) → ArePassed ms (ss ++ s ∷ []) (xss ++ xs ∷ [])
-  passed_more [] [] s xs h b = (b, tt)
-  passed_more (r ∷ ss) (ys ∷ xss) s xs h b = (h.0, passed_more ss xss s xs h.1 b)
-  passed_more [] (ys ∷ xss) s xs h b = absurd h
-  passed_more (r ∷ ss) [] s xs h b = absurd h
+  pub kept_more : (ss : List Scope) (kept : List (List Expr)) (s : Scope) (as' : List Expr) → AreKept ms ss kept → ((a : Expr) → Among as' a ↔ IsKept ms s a) → AreKept ms (ss ++ s ∷ []) (kept ++ as' ∷ [])
+  kept_more [] [] s as' h b = (b, tt)
+  kept_more (r ∷ ss) (bs ∷ kept) s as' h b = (h.0, kept_more ss kept s as' h.1 b)
+  kept_more [] (bs ∷ kept) s as' h b = absurd h
+  kept_more (r ∷ ss) [] s as' h b = absurd h
 
-  pub passed_length : (ss : List Scope) (xss : List (List Read)) → ArePassed ms ss xss → length xss ≡ length ss
-  passed_length [] [] h = refl
-  passed_length (s ∷ ss) (xs ∷ xss) h = ap suc (passed_length ss xss h.1)
-  passed_length [] (xs ∷ xss) h = absurd h
-  passed_length (s ∷ ss) [] h = absurd h
+  pub kept_length : (ss : List Scope) (kept : List (List Expr)) → AreKept ms ss kept → length kept ≡ length ss
+  kept_length [] [] h = refl
+  kept_length (s ∷ ss) (as' ∷ kept) h = ap suc (kept_length ss kept h.1)
+  kept_length [] (as' ∷ kept) h = absurd h
+  kept_length (s ∷ ss) [] h = absurd h
 
-  pub passed_at : (ss : List Scope) (xss : List (List Read)) → ArePassed ms ss xss → (k : ℕ) (s : Scope) (xs : List Read) → slice_get ss k ≡ Some s → slice_get xss k ≡ Some xs → (a : Expr) → IsPassed xs a ↔ PassesOn ms s a
-  passed_at [] xss h k s xs e g = cc
-  passed_at (r ∷ ss) [] h k s xs e g = absurd h
-  passed_at (r ∷ ss) (ys ∷ xss) h zero s xs e g =
+  pub kept_at : (ss : List Scope) (kept : List (List Expr)) → AreKept ms ss kept → (k : ℕ) (s : Scope) (as' : List Expr) → slice_get ss k ≡ Some s → slice_get kept k ≡ Some as' → (a : Expr) → Among as' a ↔ IsKept ms s a
+  kept_at [] kept h k s as' e g = cc
+  kept_at (r ∷ ss) [] h k s as' e g = absurd h
+  kept_at (r ∷ ss) (bs ∷ kept) h zero s as' e g =
       let same : r ≡ s = cc in
-      let one : ys ≡ xs = cc in
-      λ a. subst (λ (z : Scope). IsPassed xs a ↔ PassesOn ms z a) same (subst (λ zs. IsPassed zs a ↔ PassesOn ms r a) one (h.0 a))
-  passed_at (r ∷ ss) (ys ∷ xss) h (suc k) s xs e g = passed_at ss xss h.1 k s xs e g
+      let one : bs ≡ as' = cc in
+      λ a. subst (λ (z : Scope). Among as' a ↔ IsKept ms z a) same (subst (λ zs. Among zs a ↔ IsKept ms r a) one (h.0 a))
+  kept_at (r ∷ ss) (bs ∷ kept) h (suc k) s as' e g = kept_at ss kept h.1 k s as' e g
 
 -- ---- faults
 

@@ -1,8 +1,7 @@
 -- The clock of all blocks, where it is read, and the asynchronous resets.
-use Rattle.std.specs.Prelude.{ℕ, ◌≡◌, ◌↔◌, Bool, not, List, [], ◌∷◌, Option, Some, None, map, slice_get, if◌then◌else◌}
+use Rattle.std.specs.Prelude.{ℕ, ◌≡◌, ◌↔◌, ◌⊎◌, Bool, not, List, [], ◌∷◌, Option, Some, None, map, slice_get, if◌then◌else◌}
 use Rattle.std.specs.List.{flat_map}
 use Rattle.vlog_tree.specs.declared.expr.Expr.{Expr}
-use Rattle.vlog_tree.specs.declared.expr.Name.{Name as Read}
 use Rattle.vlog_tree.specs.declared.module.Module.{Module}
 use Rattle.vlog_runs.specs.declared.flat.Async.{Async}
 use Rattle.vlog_runs.specs.Places.{Name, Among}
@@ -12,10 +11,9 @@ use Rattle.flat_faults.specs.declared.fault.FlatFault.{FlatFault}
 use Rattle.flat_faults.specs.declared.fault.FlatFault.TheVariants as f
 use Rattle.flat_faults.specs.Clocks.{Reset}
 use Rattle.flat_faults.specs.Stands.{full}
-use Rattle.flat_faults.specs.Texts.{all_exprs, names_in}
+use Rattle.flat_faults.specs.Texts.{own_exprs, names_in}
 use Rattle.flat_reach.specs.Tables.{Link, input_at}
 use Rattle.flat_timing.specs.Driving.{Timed}
-use Rattle.flat_timing.specs.Passing.{IsPassed}
 
 -- ---- one clock
 
@@ -29,26 +27,28 @@ HasTwoClocks us fault = ⊥
 
 -- ---- reads
 
--- a name that the clock reaches stands in one of some expressions that passes nothing on
-abbrev pub IsReadAmong : List Expr → List Link → List Read → Name → Name → Type 0
-IsReadAmong as' t xs clock x = (a : Expr) × Among as' a × (IsPassed xs a → ⊥) × Among (names_in a) x × (input_at t x ≡ Some clock)
+-- a name that the clock reaches stands in one of some expressions
+abbrev pub IsReadAmong : List Expr → List Link → Name → Name → Type 0
+IsReadAmong as' t clock x = (a : Expr) × Among as' a × Among (names_in a) x × (input_at t x ≡ Some clock)
 
-abbrev pub IsClockRead : Module → List Link → List Read → Name → Name → Type 0
-IsClockRead m t xs clock x = IsReadAmong (all_exprs m) t xs clock x
+-- in one of a text outside its instances, or in one that its connections don't pass on
+abbrev pub IsClockRead : Module → List Expr → List Link → Name → Name → Type 0
+IsClockRead m kept t clock x = IsReadAmong (own_exprs m) t clock x ⊎ IsReadAmong kept t clock x
 
--- a scope with its table and the names that it passes on
-pub record IsAt (ss : List Scope) (ts : List (List Link)) (xss : List (List Read)) (j : ℕ) (s : Scope) (t : List Link) (xs : List Read) : Type 0 where
+-- a scope with its table and the expressions that its connections don't pass on
+pub record IsAt (ss : List Scope) (ts : List (List Link)) (kept : List (List Expr)) (j : ℕ) (s : Scope) (t : List Link) (as' : List Expr) : Type 0 where
   pub scope : slice_get ss j ≡ Some s
   pub table : slice_get ts j ≡ Some t
-  pub passed : slice_get xss j ≡ Some xs
+  pub exprs : slice_get kept j ≡ Some as'
 
-abbrev pub NoneReads : List Scope → List (List Link) → List (List Read) → Name → Type 0
-NoneReads ss ts xss clock = (j : ℕ) (s : Scope) (t : List Link) (xs : List Read) → IsAt ss ts xss j s t xs → (x : Name) → IsClockRead s.module' t xs clock x → ⊥
+abbrev pub NoneReads : List Scope → List (List Link) → List (List Expr) → Name → Type 0
+NoneReads ss ts kept clock =
+    (j : ℕ) (s : Scope) (t : List Link) (as' : List Expr) → IsAt ss ts kept j s t as' → (x : Name) → IsClockRead s.module' as' t clock x → ⊥
 
-abbrev pub ReadsClock : List Scope → List (List Link) → List (List Read) → Name → FlatFault → Type 0
-ReadsClock ss ts xss clock (f.Clock n) =
-    (j : ℕ) × (s : Scope) × (t : List Link) × (xs : List Read) × IsAt ss ts xss j s t xs × (x : Name) × IsClockRead s.module' t xs clock x × (n ≡ full s x)
-ReadsClock ss ts xss clock fault = ⊥
+abbrev pub SomeReads : List Scope → List (List Link) → List (List Expr) → Name → FlatFault → Type 0
+SomeReads ss ts kept clock (f.Clock n) =
+    (j : ℕ) × (s : Scope) × (t : List Link) × (as' : List Expr) × IsAt ss ts kept j s t as' × (x : Name) × IsClockRead s.module' as' t clock x × (n ≡ full s x)
+SomeReads ss ts kept clock fault = ⊥
 
 -- ---- resets
 

@@ -1,62 +1,68 @@
--- Connections of inputs of one bit to names alone, by which a clock is passed on (IEEE 1364-2005, section 12.3).
-use Rattle.std.specs.Prelude.{◌≡◌, ◌↔◌, Bool, false, List, [], ◌∷◌, ◌++◌, Option, Some, None, option_to_list, if◌then◌else◌}
+-- Connections that pass a name on to an input of one bit, and the expressions of those that don't (IEEE 1364-2005, section 12.3).
+use Rattle.std.specs.Prelude.{◌≡◌, ◌↔◌, Bool, true, false, ◌&&◌, List, [], ◌∷◌, ◌++◌, Option, Some, None, map, if◌then◌else◌}
 use Rattle.std.specs.Borrow.{Bor}
 use Rattle.std.specs.List.{flat_map}
+use Rattle.std.proofs.Common.{Vec, Global}
 use Rattle.vlog_tree.specs.declared.expr.Expr.{Expr}
 use Rattle.vlog_tree.specs.declared.expr.Expr.TheVariants as e
-use Rattle.vlog_tree.specs.declared.expr.Name.{Name as Read}
 use Rattle.vlog_tree.specs.declared.module.Module.{Module}
 use Rattle.vlog_tree.specs.declared.valuation.Entry.{Entry}
-use Rattle.vlog_runs.specs.Places.{Name, Among}
-use Rattle.vlog_runs.specs.Contents.{Decl, signals_in, port_names, Inner}
-use Rattle.vlog_runs.specs.Scopes.{Scope, Given, given_to, decl_at}
+use Rattle.vlog_runs.specs.Places.{Among}
+use Rattle.vlog_runs.specs.Contents.{Decl, signals_in, port_names, Inner, instances_in}
+use Rattle.vlog_runs.specs.Scopes.{Scope, Given, given_to, child, decl_at}
 use Rattle.flat_faults.specs.declared.fault.FlatFault.{FlatFault}
 use Rattle.flat_faults.specs.Stands.{PassesOn}
 use Rattle.flat_names.specs.Rows.{StandsAlone}
+use Rattle.flat_texts.specs.Exprs.{expr_meant}
 use Rattle.flat_reach.specs.Tables.{is_bit_input}
 
-abbrev pub read_meant : Bor Read → Read
-read_meant x = x.now
+-- what a list of views of expressions stands for
+abbrev pub exprs_meant : Vec (Bor Expr) Global → List Expr
+exprs_meant v = map expr_meant v.items
 
-abbrev pub text_of : Read → Name
-text_of x = x.text
-
--- the name that an expression is
-abbrev pub name_alone : Expr → Option Read
-name_alone (e.Name x) = Some x
-name_alone a = None
+-- an expression is a name alone
+abbrev pub is_name : Expr → Bool
+is_name (e.Name x) = true
+is_name a = false
 
 abbrev pub is_bit_decl : List Entry → Option Decl → Bool
 is_bit_decl v None = false
 is_bit_decl v (Some d) = is_bit_input v d
 
--- the name that is connected to an input of one bit of a scope
-abbrev pub passed_by : Scope → Given → Option Read
-passed_by t d = if is_bit_decl t.params (decl_at (signals_in t.module') d.name) then name_alone d.value else None
+-- a connection passes a name on to an input of one bit of a scope
+abbrev pub passes_on : Scope → Given → Bool
+passes_on t d = is_name d.value && is_bit_decl t.params (decl_at (signals_in t.module') d.name)
 
-abbrev pub passed_given : Scope → Given → List Read
-passed_given t d = option_to_list (passed_by t d)
+-- its expression, where it passes nothing on
+abbrev pub kept_given : Scope → Given → List Expr
+kept_given t d = if passes_on t d then [] else d.value ∷ []
 
--- the names that are connected to those of an instance
-abbrev pub passed_to : Inner → Scope → List Read
-passed_to i t = flat_map (passed_given t) (given_to (port_names t.module') i.args)
+-- the expressions of an instance's connections that pass nothing on
+abbrev pub kept_to : Inner → Scope → List Expr
+kept_to i t = flat_map (kept_given t) (given_to (port_names t.module') i.args)
 
--- and to those of instances with their scopes
-abbrev pub passed_into : List Inner → List Scope → List Read
-passed_into [] ts = []
-passed_into (i ∷ is) [] = []
-passed_into (i ∷ is) (t ∷ ts) = passed_to i t ++ passed_into is ts
+-- and those of instances with their scopes
+abbrev pub kept_into : List Inner → List Scope → List Expr
+kept_into [] ts = []
+kept_into (i ∷ is) [] = []
+kept_into (i ∷ is) (t ∷ ts) = kept_to i t ++ kept_into is ts
 
--- an expression is one of these names
-abbrev pub IsPassed : List Read → Expr → Type 0
-IsPassed xs a = (x : Read) × (a ≡ e.Name x) × Among xs x
+-- a connection of these instances has this expression and doesn't pass it on
+abbrev pub IsKeptBy : List Module → Scope → List Inner → Expr → Type 0
+IsKeptBy ms s is a =
+    (i : Inner) × Among is i × (t : Scope) × (child ms s i ≡ Some t) × (d : Given) × Among (given_to (port_names t.module') i.args) d
+    × (PassesOn t d → ⊥) × (d.value ≡ a)
 
--- the names are those that a scope passes on, for each scope
-abbrev pub ArePassed : List Module → List Scope → List (List Read) → Type 0
-ArePassed ms [] [] = Unit {0}
-ArePassed ms (s ∷ ss) (xs ∷ xss) = ((a : Expr) → IsPassed xs a ↔ PassesOn ms s a) × ArePassed ms ss xss
-ArePassed ms [] (xs ∷ xss) = ⊥
-ArePassed ms (s ∷ ss) [] = ⊥
+-- a connection in a scope has this expression and doesn't pass it on
+abbrev pub IsKept : List Module → Scope → Expr → Type 0
+IsKept ms s a = IsKeptBy ms s (instances_in s.module') a
+
+-- the expressions are those that connections don't pass on, for each scope
+abbrev pub AreKept : List Module → List Scope → List (List Expr) → Type 0
+AreKept ms [] [] = Unit {0}
+AreKept ms (s ∷ ss) (as' ∷ kept) = ((a : Expr) → Among as' a ↔ IsKept ms s a) × AreKept ms ss kept
+AreKept ms [] (as' ∷ kept) = ⊥
+AreKept ms (s ∷ ss) [] = ⊥
 
 -- a fault stands at one of some scopes
 abbrev pub StandsAmong : List Scope → FlatFault → Type 0

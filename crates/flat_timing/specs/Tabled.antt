@@ -1,13 +1,13 @@
 -- Tables of what reaches the inputs of all scopes.
 use Rattle.std.specs.Prelude.{List, [], ◌∷◌, reverse}
-use Rattle.vlog_tree.specs.declared.expr.Name.{Name as Read}
+use Rattle.vlog_tree.specs.declared.expr.Expr.{Expr}
 use Rattle.vlog_tree.specs.declared.module.Module.{Module}
 use Rattle.vlog_runs.specs.Places.{Name}
 use Rattle.vlog_runs.specs.Contents.{Inner}
 use Rattle.vlog_runs.specs.Scopes.{Scope}
 use Rattle.flat_instances.specs.Unfolding.{AreUnfolded}
 use Rattle.flat_reach.specs.Tables.{Link, IsTable, IsTableBelow}
-use Rattle.flat_timing.specs.Passing.{ArePassed}
+use Rattle.flat_timing.specs.Passing.{AreKept}
 
 -- a table for each of some paths
 abbrev pub AreTables : List Module → Name → List (List Name) → List (List Link) → Type 0
@@ -26,10 +26,10 @@ AreTablesBelow outer is ss ts = ⊥
 abbrev pub AreAllScopes : List Scope → Type 0
 AreAllScopes ss = (ms : List Module) × (top : Name) × AreUnfolded ms top ss
 
--- tables for all scopes, and the names that each passes on
-pub record AreWays (ms : List Module) (paths : List (List Name)) (top : Name) (ss : List Scope) (ts : List (List Link)) (xss : List (List Read)) : Type 0 where
+-- tables for all scopes, and the expressions that the connections of each don't pass on
+pub record AreWays (ms : List Module) (paths : List (List Name)) (top : Name) (ss : List Scope) (ts : List (List Link)) (kept : List (List Expr)) : Type 0 where
   pub tables : AreTables ms top paths ts
-  pub passed : ArePassed ms ss xss
+  pub connections : AreKept ms ss kept
 
-abbrev pub AreWaysOf : List Scope → List (List Link) → List (List Read) → Type 0
-AreWaysOf ss ts xss = (ms : List Module) (top : Name) (u : AreUnfolded ms top ss) → AreWays ms u.paths top ss ts xss
+abbrev pub AreWaysOf : List Scope → List (List Link) → List (List Expr) → Type 0
+AreWaysOf ss ts kept = (ms : List Module) (top : Name) (u : AreUnfolded ms top ss) → AreWays ms u.paths top ss ts kept

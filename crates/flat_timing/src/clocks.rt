@@ -8,6 +8,7 @@ ghost use Rattle.flat_faults.specs.Stands.{Stands, Refuses, IsClockOf};
 ghost use Rattle.flat_instances.specs.Unfolding.{scope_meant, AreUnfolded};
 ghost use Rattle.flat_ready.specs.Handed.{IsResetOf};
 ghost use Rattle.flat_timing.specs.Driving.{timed_meant};
+ghost use Rattle.flat_timing.specs.Passing.{exprs_meant};
 ghost use Rattle.flat_timing.specs.Unread.{IsUnread, IsReadBy};
 ghost use Rattle.flat_timing.specs.Clocking.{async_at, IsClockAmong, HasTwoClocks};
 
@@ -67,12 +68,12 @@ fn check_clock(
     clock: Option<&Text>,
 ) -> Result<(), FlatFault>
     requires tables { length ways.now.tables.items ≡ length scopes.now }
-    requires passed { length ways.now.passed.items ≡ length scopes.now }
-    ensures ok { OnOk result (IsUnread (map scope_meant scopes.now) ways.now.tables.items ways.now.passed.items (option_copied clock.entry)) }
-    ensures err { IfErr result (Refuses (IsReadBy (map scope_meant scopes.now) ways.now.tables.items ways.now.passed.items (option_copied clock.entry))) }
+    requires kept { length ways.now.kept.items ≡ length scopes.now }
+    ensures ok { OnOk result (IsUnread (map scope_meant scopes.now) ways.now.tables.items (map exprs_meant ways.now.kept.items) (option_copied clock.entry)) }
+    ensures err { IfErr result (Refuses (IsReadBy (map scope_meant scopes.now) ways.now.tables.items (map exprs_meant ways.now.kept.items) (option_copied clock.entry))) }
 {
     match clock {
-        Some(clock) => check_reads(alloc, scopes, &ways.tables, &ways.passed, clock),
+        Some(clock) => check_reads(alloc, scopes, &ways.tables, &ways.kept, clock),
         None => Ok(()),
     }
 }

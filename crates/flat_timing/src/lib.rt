@@ -3,7 +3,7 @@
 
 mod asyncs;
 mod clocks;
-mod passed;
+mod kept;
 mod reads;
 mod timings;
 mod ways;

@@ -1,4 +1,4 @@
-// Where the clock is read: in expressions that aren't a connection of an input of one bit to a name alone.
+// Where the clock is read: in the expressions of a text outside its instances, and in those of connections that pass nothing on.
 
 ghost use Rattle.std.specs.Prelude.{◌≡◌, ◌↔◌, IsTrue, Some, IfOk, IfErr, OnOk, length, map};
 ghost use Rattle.std.specs.Option.{option_copied};
@@ -10,13 +10,13 @@ ghost use Rattle.flat_names.specs.Searching.{Finds};
 ghost use Rattle.flat_scopes.specs.Borrowed.{name_meant};
 ghost use Rattle.flat_texts.specs.Exprs.{expr_meant};
 ghost use Rattle.flat_reach.specs.Tables.{input_at};
-ghost use Rattle.flat_timing.specs.Clocking.{IsReadAmong, IsClockRead, NoneReads, ReadsClock};
+ghost use Rattle.flat_timing.specs.Clocking.{IsReadAmong, IsClockRead, NoneReads, SomeReads};
+ghost use Rattle.flat_timing.specs.Passing.{exprs_meant};
 
-use crate::passed::{Passed, is_passed};
 use flat_faults::FlatFault;
 use flat_instances::{Scope, full_name};
 use flat_reach::Table;
-use flat_texts::{exprs_in, names_in};
+use flat_texts::{names_in, own_exprs_in};
 use outside::Text;
 use std::alloc::{AllocError, Global};
 use vlog_tree::{Expr, Module};
@@ -56,19 +56,16 @@ fn clock_in<'a>(
     Ok(clock_among(&names, table, clock))
 }
 
+/// A name by which one of some expressions reads the clock.
 fn read_among<'a>(
     alloc: Global,
     exprs: &[&'a Expr],
     table: &Table<'_>,
-    passed: &Passed<'_>,
     clock: &Text,
 ) -> Result<Option<&'a Text>, AllocError>
-    ensures { IfOk result (λ r. Finds (IsReadAmong (map expr_meant exprs.now) table.now passed.now clock.now) (option_copied r)) }
+    ensures { IfOk result (λ r. Finds (IsReadAmong (map expr_meant exprs.now) table.now clock.now) (option_copied r)) }
 {
     for expr in exprs {
-        if is_passed(passed, expr) {
-            continue;
-        }
         if let Some(name) = clock_in(alloc, expr, table, clock)? {
             return Ok(Some(name));
         }
@@ -76,18 +73,21 @@ fn read_among<'a>(
     Ok(None)
 }
 
-/// A name by which a text reads the clock.
+/// A name by which a text reads the clock, or one of the expressions of its connections that pass nothing on.
 fn clock_read<'a>(
     alloc: Global,
     text: &'a Module,
+    kept: &[&'a Expr],
     table: &Table<'_>,
-    passed: &Passed<'_>,
     clock: &Text,
 ) -> Result<Option<&'a Text>, AllocError>
-    ensures { IfOk result (λ r. Finds (IsClockRead text.now table.now passed.now clock.now) (option_copied r)) }
+    ensures { IfOk result (λ r. Finds (IsClockRead text.now (map expr_meant kept.now) table.now clock.now) (option_copied r)) }
 {
-    let exprs = exprs_in(alloc, text)?;
-    let found = read_among(alloc, &exprs, table, passed, clock)?;
+    let own = own_exprs_in(alloc, text)?;
+    if let Some(name) = read_among(alloc, &own, table, clock)? {
+        return Ok(Some(name));
+    }
+    let found = read_among(alloc, kept, table, clock)?;
     Ok(found)
 }
 
@@ -96,17 +96,17 @@ pub fn check_reads(
     alloc: Global,
     scopes: &[Scope<'_>],
     tables: &[Table<'_>],
-    passed: &[Passed<'_>],
+    kept: &[Vec<&Expr>],
     clock: &Text,
 ) -> Result<(), FlatFault>
     requires tables { length tables.now ≡ length scopes.now }
-    requires passed { length passed.now ≡ length scopes.now }
-    ensures ok { OnOk result (NoneReads (map scope_meant scopes.now) tables.now passed.now clock.now) }
-    ensures err { IfErr result (Refuses (ReadsClock (map scope_meant scopes.now) tables.now passed.now clock.now)) }
+    requires kept { length kept.now ≡ length scopes.now }
+    ensures ok { OnOk result (NoneReads (map scope_meant scopes.now) tables.now (map exprs_meant kept.now) clock.now) }
+    ensures err { IfErr result (Refuses (SomeReads (map scope_meant scopes.now) tables.now (map exprs_meant kept.now) clock.now)) }
 {
     let mut at = 0;
     for scope in scopes {
-        if let Some(name) = clock_read(alloc, scope.text, &tables[at], &passed[at], clock)? {
+        if let Some(name) = clock_read(alloc, scope.text, &kept[at], &tables[at], clock)? {
             let name = full_name(alloc, scope.prefix.bytes(), name.bytes())?;
             return Err(FlatFault::Clock(name));
         }

@@ -4,21 +4,22 @@ ghost use Rattle.std.specs.Prelude.{◌≡◌, IfOk, IfErr, length, map};
 ghost use Rattle.flat_faults.specs.Stands.{Refuses};
 ghost use Rattle.flat_scopes.specs.Borrowed.{inner_meant};
 ghost use Rattle.flat_instances.specs.Unfolding.{scope_meant};
-ghost use Rattle.flat_timing.specs.Passing.{StandsAmong};
+ghost use Rattle.flat_timing.specs.Passing.{exprs_meant, StandsAmong};
 ghost use Rattle.flat_timing.specs.Tabled.{AreTablesBelow, AreAllScopes, AreWaysOf};
 
-use crate::passed::{Passed, passed_into};
+use crate::kept::kept_into;
 use flat_faults::FlatFault;
 use flat_instances::Scope;
 use flat_reach::{Table, child_table, top_table};
 use flat_scopes::{Inner, instances_in};
 use std::alloc::Global;
+use vlog_tree::Expr;
 
-/// For each scope what reaches its names, and the names that it passes on to its instances.
+/// For each scope what reaches its names, and the expressions of its connections that pass nothing on.
 #[derive(Drop)]
 pub struct Ways<'a> {
     pub tables: Vec<Table<'a>>,
-    pub passed: Vec<Passed<'a>>,
+    pub kept: Vec<Vec<&'a Expr>>,
 }
 
 /// The tables of some instances with their scopes, by that of the scope that they stand in. A refusal's fault stands at one of them.
@@ -47,11 +48,11 @@ fn tables_below<'a>(
 /// The ways through all scopes, which stand in the order of their paths. A refusal's fault stands at one of them.
 pub fn ways_of<'a>(alloc: Global, scopes: &[Scope<'a>]) -> Result<Ways<'a>, FlatFault>
     requires { AreAllScopes (map scope_meant scopes.now) }
-    ensures ok { IfOk result (λ w. AreWaysOf (map scope_meant scopes.now) w.tables.items w.passed.items) }
+    ensures ok { IfOk result (λ w. AreWaysOf (map scope_meant scopes.now) w.tables.items (map exprs_meant w.kept.items)) }
     ensures err { IfErr result (Refuses (StandsAmong (map scope_meant scopes.now))) }
 {
     let mut tables = Vec::new(alloc);
-    let mut passed = Vec::new(alloc);
+    let mut kept = Vec::new(alloc);
     match top_table(alloc, &scopes[0]) {
         Ok(table) => tables.push(table)?,
         Err(fault) => return Err(fault),
@@ -61,8 +62,8 @@ pub fn ways_of<'a>(alloc: Global, scopes: &[Scope<'a>]) -> Result<Ways<'a>, Flat
     while at < scopes.len() {
         let instances = instances_in(alloc, scopes[at].text)?;
         let (inner, after) = rest.split_at(instances.len());
-        match passed_into(alloc, &instances, inner) {
-            Ok(names) => passed.push(names)?,
+        match kept_into(alloc, &instances, inner) {
+            Ok(exprs) => kept.push(exprs)?,
             Err(fault) => return Err(fault),
         }
         let mut more = match tables_below(alloc, &tables[at], &instances, inner) {
@@ -73,5 +74,5 @@ pub fn ways_of<'a>(alloc: Global, scopes: &[Scope<'a>]) -> Result<Ways<'a>, Flat
         rest = after;
         at += 1;
     }
-    Ok(Ways { tables, passed })
+    Ok(Ways { tables, kept })
 }

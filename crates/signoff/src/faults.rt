@@ -6,7 +6,7 @@ use std::test::Fail;
 const REPORT: &[u8] = b"proved reset\nproved op step\nproved op hold\nsatisfied\n";
 
 // What stands in place of the module's last word, and the line of the fault.
-const FAULTS: [(&[u8], &[u8]); 38] = [
+const FAULTS: [(&[u8], &[u8]); 40] = [
     (b"assign y = en; endmodule", b"module: Unknown y\n"),
     (b"wire en; endmodule", b"module: Twice en\n"),
     (b"wire [en:0] w; endmodule", b"module: Constant w\n"),
@@ -29,6 +29,14 @@ const FAULTS: [(&[u8], &[u8]); 38] = [
         b"module: Width counter\n",
     ),
     (b"wire g; assign g = clk; endmodule", b"module: Clock clk\n"),
+    (
+        b"wire g, w; assign g = clk; sub u(.c(clk), .d(en), .y(w)); endmodule module sub(input c, input d, output reg y); always @(posedge c) y <= d; endmodule",
+        b"module: Clock clk\n",
+    ),
+    (
+        b"wire w; sub u(.c(clk), .d(en), .y(w)); two v(.a(clk)); endmodule module sub(input c, input d, output reg y); always @(posedge c) y <= d; endmodule module two(input [1:0] a); endmodule",
+        b"module: Clock clk\n",
+    ),
     (
         b"reg y; always @(posedge en) y <= rst; endmodule",
         b"module: Clock en\n",
@@ -139,7 +147,7 @@ fn faults(rt: HostRuntime) -> Result<(), Fail> {
 
 #[test]
 fn faultless(rt: HostRuntime) -> Result<(), Fail> {
-    let rows: [&'static [u8]; 11] = [
+    let rows: [&'static [u8]; 12] = [
         b"reg y; always @* if (en) y = rst; else y = en; endmodule",
         b"wire [1:0] w; assign w[0] = en; assign w[1] = rst; endmodule",
         b"reg y; always @(en, rst) y = en & rst; endmodule",
@@ -151,6 +159,7 @@ fn faultless(rt: HostRuntime) -> Result<(), Fail> {
         b"reg t; always @* begin t = en; t = t ^ rst; end endmodule",
         b"wire w; sub u(.a(en), .y(w)); endmodule module sub(input a, output y); assign y = a; endmodule",
         b"sub #(2) u(.a(q)); endmodule module sub #(parameter W = 4) (input [W-1:0] a); endmodule",
+        b"wire w; sub u(.c(clk), .d(en), .y(w)); endmodule module sub(input c, input d, output reg y); always @(posedge c) y <= d; endmodule",
     ];
     for items in rows {
         let module = with(COUNTER, b"endmodule", items);

@@ -9,6 +9,8 @@ mod faults;
 mod files;
 #[cfg(test)]
 mod rows;
+#[cfg(test)]
+mod rules;
 mod run;
 mod texts;
 

@@ -1,4 +1,4 @@
-use Rattle.std.proofs.Common.{◌≡◌, true, false, Some, sym, ◌∙◌}
+use Rattle.std.proofs.Common.{◌≡◌, Some}
 use Rattle.vlog_runs.specs.Places.{Name, Among}
 use Rattle.flat_faults.specs.Texts.{names_in}
 use Rattle.flat_names.proofs.Searches.{one_found, none_found}
@@ -6,22 +6,17 @@ use Rattle.flat_reach.specs.Tables.{input_at}
 use Rattle.flat_timing.proofs.Reading.{found_read, past, none_read}
 use Rattle.flat_timing.proofs.reads.read_among.Goals as goal
 
-pub loop-expr-preserved-then-is_passed : goal.loop-expr-preserved-then-is_passed
-loop-expr-preserved-then-is_passed c =
-    past c.args.exprs.now c.args.table.now c.args.passed.now c.args.clock.now c.loop-expr.expr-index c.expr-item.result c.loop-expr-test.true c.expr-item.is c.loop-expr.invariant
-    (λ x free h. free (c.is_passed.ensures.0 c.if-is_passed.true))
-
 pub returns-in-Some : goal.returns-in-Some
 returns-in-Some c =
     let P : Name → Type 0 = λ x. Among (names_in c.expr-item.result.now) x × (input_at c.args.table.now x ≡ Some c.args.clock.now) in
-    found_read c.args.exprs.now c.args.table.now c.args.passed.now c.args.clock.now c.loop-expr.expr-index c.expr-item.result c.loop-expr-test.true c.expr-item.is
-    (λ p. let z : true ≡ false = sym (c.is_passed.ensures.1 p) ∙ c.if-is_passed.false in cc) c.in-Some.name.now (one_found P c.in_ok-name.field-0 c.in-Some.name c.in_ok-name.ensures c.in-Some.is)
+    found_read c.args.exprs.now c.args.table.now c.args.clock.now c.loop-expr.expr-index c.expr-item.result c.loop-expr-test.true c.expr-item.is
+    c.in-Some.name.now (one_found P c.in_ok-name.field-0 c.in-Some.name c.in_ok-name.ensures c.in-Some.is)
 
 pub loop-expr-preserved : goal.loop-expr-preserved
 loop-expr-preserved c =
     let P : Name → Type 0 = λ x. Among (names_in c.expr-item.result.now) x × (input_at c.args.table.now x ≡ Some c.args.clock.now) in
-    past c.args.exprs.now c.args.table.now c.args.passed.now c.args.clock.now c.loop-expr.expr-index c.expr-item.result c.loop-expr-test.true c.expr-item.is c.loop-expr.invariant
-    (λ x free h. none_found P c.in_ok-name.field-0 c.in_ok-name.ensures c.in_default.not-Some x h)
+    past c.args.exprs.now c.args.table.now c.args.clock.now c.loop-expr.expr-index c.expr-item.result c.loop-expr-test.true c.expr-item.is c.loop-expr.invariant
+    (none_found P c.in_ok-name.field-0 c.in_ok-name.ensures c.in_default.not-Some)
 
 pub returns : goal.returns
-returns c = none_read c.args.exprs.now c.args.table.now c.args.passed.now c.args.clock.now c.loop-expr.expr-index c.loop-expr-test.false c.loop-expr.invariant
+returns c = none_read c.args.exprs.now c.args.table.now c.args.clock.now c.loop-expr.expr-index c.loop-expr-test.false c.loop-expr.invariant

@@ -5,4 +5,4 @@ use Rattle.flat_timing.specs.Clocking.{IsReadAmong}
 use Rattle.flat_timing.proofs.reads.read_among.Given as goal
 
 abbrev pub invariant-loop-expr : goal.invariant-loop-expr
-invariant-loop-expr l = (x : Name) → IsReadAmong (map expr_meant l.exprs) l.table l.passed l.clock x → IsReadAmong (map expr_meant (drop l.expr-index l.exprs)) l.table l.passed l.clock x
+invariant-loop-expr l = (x : Name) → IsReadAmong (map expr_meant l.exprs) l.table l.clock x → IsReadAmong (map expr_meant (drop l.expr-index l.exprs)) l.table l.clock x

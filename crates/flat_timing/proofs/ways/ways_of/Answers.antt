@@ -2,12 +2,13 @@ use Rattle.std.proofs.Common.{◌≡◌, ◌<◌, ◌++◌, ◌∷◌, [], lengt
 use Rattle.std.proofs.lemmas.List.{length-map}
 use Rattle.std.proofs.lemmas.Option.{slice_get_read}
 use Rattle.vlog_runs.specs.Contents.{instances_in}
+use Rattle.flat_laws.proofs.Lists.{map_append}
 use Rattle.flat_scopes.specs.Borrowed.{inner_meant}
 use Rattle.flat_instances.specs.declared.scope.Scope.{Scope as Instance}
 use Rattle.flat_instances.specs.Unfolding.{scope_meant}
-use Rattle.flat_timing.specs.Passing.{passed_into, ArePassed}
+use Rattle.flat_timing.specs.Passing.{exprs_meant, kept_into, AreKept}
 use Rattle.flat_timing.specs.Tabled.{AreTablesBelow}
-use Rattle.flat_timing.proofs.Growing.{not_empty, first_known, stands_there, room, stands_below, table_there, next_behind, next_left, next_tables, next_passed, ways_done}
+use Rattle.flat_timing.proofs.Growing.{not_empty, first_known, stands_there, room, stands_below, table_there, next_behind, next_left, next_tables, next_kept, ways_done}
 use Rattle.flat_timing.proofs.ways.ways_of.Goals as goal
 
 pub returns-in-Err-clause-err : goal.returns-in-Err-clause-err
@@ -22,7 +23,7 @@ loop-at-init c =
       behind = λ ms top u. omega arith;
       left = λ ms top u. c.split_at.ensures.back;
       tables = first_known c.args.scopes.now c.index-scopes-0.result (not_empty c.args.scopes.now c.requires) c.index-scopes-0.is c.push.new.self.items c.in-Ok.table items c.in-Ok.ensures.ok;
-      passed = λ ms top u. subst (ArePassed ms []) (sym c.new-passed.ensures.items) tt;
+      connections = λ ms top u. subst (λ vs. AreKept ms [] (map exprs_meant vs)) (sym c.new-kept.ensures.items) tt;
     }
 
 pub split_at-requires-in-loop-at : goal.split_at-requires-in-loop-at
@@ -33,10 +34,10 @@ split_at-requires-in-loop-at c =
     let m : c.len.result ≡ length (instances_in c.index-scopes-at.result.text.now) = omega (arith, c.len.ensures, long, length-map c.in_ok-instances.instances.items inner_meant, ap length text) in
     room c.args.scopes.now c.loop-at.at c.index-scopes-at.result c.loop-at-test.true c.index-scopes-at.is c.loop-at.rest.now c.loop-at.invariant.behind c.loop-at.invariant.left c.requires c.len.result m
 
-pub returns-in-Err-passed_into-clause-err : goal.returns-in-Err-passed_into-clause-err
-returns-in-Err-passed_into-clause-err c =
+pub returns-in-Err-kept_into-clause-err : goal.returns-in-Err-kept_into-clause-err
+returns-in-Err-kept_into-clause-err c =
     stands_below c.args.scopes.now c.loop-at.at c.index-scopes-at.result c.loop-at-test.true c.index-scopes-at.is c.loop-at.rest.now c.loop-at.invariant.behind c.loop-at.invariant.left c.requires c.split_at-in-loop-at.result.0.now c.len.result
-    c.split_at-in-loop-at.ensures.front c.in-Err-passed_into.fault c.in-Err-passed_into.ensures.err
+    c.split_at-in-loop-at.ensures.front c.in-Err-kept_into.fault c.in-Err-kept_into.ensures.err
 
 pub index-requires : goal.index-requires
 index-requires c =
@@ -72,14 +73,15 @@ loop-at-preserved c =
     let below : AreTablesBelow c.index.result.now (instances_in x.text.now) (map scope_meant part) c.in-Ok-tables_below.more.items =
     subst (λ is. AreTablesBelow c.index.result.now is (map scope_meant part) c.in-Ok-tables_below.more.items) others c.in-Ok-tables_below.ensures.ok in
     let outer = slice_get_read c.loop-at.tables.items (length c.loop-at.tables.items) k c.index.result.now refl (table_there scopes k x lt is rest behind left c.requires c.loop-at.tables.items c.loop-at.invariant.tables) c.index.ensures in
-    let passed = c.in-Ok-passed_into.ensures.ok ∙ ap (λ is. passed_into is (map scope_meant part)) inners in
+    let exprs = c.in-Ok-kept_into.ensures.ok ∙ ap (λ is. kept_into is (map scope_meant part)) inners in
     record {
       within = omega (arith, lt);
       behind = next_behind scopes k x lt is rest behind left part c.len.result m front;
       left = next_left scopes k x lt is rest behind left part c.len.result m front after c.split_at-in-loop-at.ensures.back;
       tables = next_tables scopes k x lt is rest behind left part c.len.result m front c.loop-at.tables.items c.index.result.now c.in-Ok-tables_below.more.items c.append.new.self.items c.loop-at.invariant.tables outer below c.in_ok-append.ensures.items;
-      passed = next_passed scopes k x lt is rest behind left part c.len.result m front c.loop-at.passed.items c.in-Ok-passed_into.names c.push-in-Ok-passed_into.new.self.items c.loop-at.invariant.passed passed c.in_ok-push-in-Ok-passed_into.ensures.items;
+      connections = next_kept scopes k x lt is rest behind left part c.len.result m front (map exprs_meant c.loop-at.kept.items) (exprs_meant c.in-Ok-kept_into.exprs) (map exprs_meant c.push-in-Ok-kept_into.new.self.items) c.loop-at.invariant.connections exprs
+          (ap (map exprs_meant) c.in_ok-push-in-Ok-kept_into.ensures.items ∙ map_append exprs_meant c.loop-at.kept.items (c.in-Ok-kept_into.exprs ∷ []));
     }
 
 pub returns-clause-ok : goal.returns-clause-ok
-returns-clause-ok c = ways_done c.args.scopes.now c.loop-at.at c.loop-at-test.false c.loop-at.tables.items c.loop-at.passed.items c.loop-at.invariant.tables c.loop-at.invariant.passed
+returns-clause-ok c = ways_done c.args.scopes.now c.loop-at.at c.loop-at-test.false c.loop-at.tables.items (map exprs_meant c.loop-at.kept.items) c.loop-at.invariant.tables c.loop-at.invariant.connections

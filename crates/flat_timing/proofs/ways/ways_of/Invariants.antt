@@ -2,7 +2,7 @@ use Rattle.std.proofs.Common.{◌≡◌, ◌≤◌, ◌-◌, List, length, map, 
 use Rattle.vlog_tree.specs.declared.module.Module.{Module}
 use Rattle.vlog_runs.specs.Places.{Name}
 use Rattle.flat_instances.specs.Unfolding.{scope_meant, AreUnfolded}
-use Rattle.flat_timing.specs.Passing.{ArePassed}
+use Rattle.flat_timing.specs.Passing.{exprs_meant, AreKept}
 use Rattle.flat_timing.specs.Tabled.{AreTables}
 use Rattle.flat_timing.proofs.Paths.{known}
 use Rattle.flat_timing.proofs.ways.ways_of.Given as goal
@@ -13,7 +13,7 @@ invariant-loop-at l = record {
   behind : (ms : List Module) (top : Name) (u : AreUnfolded ms top (map scope_meant l.scopes)) → l.at ≤ length (known ms top u.paths l.at);
   left : (ms : List Module) (top : Name) (u : AreUnfolded ms top (map scope_meant l.scopes)) → l.rest ≡ drop (length (known ms top u.paths l.at)) l.scopes;
   tables : (ms : List Module) (top : Name) (u : AreUnfolded ms top (map scope_meant l.scopes)) → AreTables ms top (known ms top u.paths l.at) l.tables.items;
-  passed : (ms : List Module) (top : Name) (u : AreUnfolded ms top (map scope_meant l.scopes)) → ArePassed ms (take l.at (map scope_meant l.scopes)) l.passed.items;
+  connections : (ms : List Module) (top : Name) (u : AreUnfolded ms top (map scope_meant l.scopes)) → AreKept ms (take l.at (map scope_meant l.scopes)) (map exprs_meant l.kept.items);
 }
 
 abbrev pub decreases-loop-at : goal.decreases-loop-at

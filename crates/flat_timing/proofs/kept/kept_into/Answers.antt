@@ -1,6 +1,6 @@
 use Rattle.std.proofs.Common.{arith}
 use Rattle.flat_timing.proofs.Growing.{stands_there}
-use Rattle.flat_timing.proofs.passed.names_into.Goals as goal
+use Rattle.flat_timing.proofs.kept.kept_into.Goals as goal
 
 pub returns-in-Err-clause-err : goal.returns-in-Err-clause-err
 returns-in-Err-clause-err c =

@@ -5,7 +5,7 @@ use Rattle.vlog_runs.specs.Scopes.{decl_at}
 use Rattle.flat_scopes.specs.Borrowed.{decl_meant}
 use Rattle.flat_names.proofs.Words.{signals_as}
 use Rattle.flat_names.proofs.Seconds.{among_at}
-use Rattle.flat_timing.proofs.passed.is_bit_input.Goals as goal
+use Rattle.flat_timing.proofs.kept.is_bit_input.Goals as goal
 
 pub declared_signal-requires : goal.declared_signal-requires
 declared_signal-requires c =
