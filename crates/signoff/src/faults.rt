@@ -6,7 +6,7 @@ use std::test::Fail;
 const REPORT: &[u8] = b"proved reset\nproved op step\nproved op hold\nsatisfied\n";
 
 // What stands in place of the module's last word, and the line of the fault.
-const FAULTS: [(&[u8], &[u8]); 40] = [
+const FAULTS: [(&[u8], &[u8]); 50] = [
     (b"assign y = en; endmodule", b"module: Unknown y\n"),
     (b"wire en; endmodule", b"module: Twice en\n"),
     (b"wire [en:0] w; endmodule", b"module: Constant w\n"),
@@ -40,6 +40,46 @@ const FAULTS: [(&[u8], &[u8]); 40] = [
     (
         b"reg y; always @(posedge en) y <= rst; endmodule",
         b"module: Clock en\n",
+    ),
+    (
+        b"reg y; always @(negedge clk) y <= en; endmodule",
+        b"module: Clock clk\n",
+    ),
+    (
+        b"reg y; always @(posedge clk or posedge rst) if (!rst) y <= 1'b0; else y <= en; endmodule",
+        b"module: Clock clk\n",
+    ),
+    (
+        b"reg y; always @(posedge clk or negedge rst) if (rst) y <= 1'b0; else y <= en; endmodule",
+        b"module: Clock clk\n",
+    ),
+    (
+        b"reg y; always @(posedge clk or posedge rst) if (rst != 1'b0) y <= 1'b0; else y <= en; endmodule",
+        b"module: Clock clk\n",
+    ),
+    (
+        b"reg y; always @(posedge clk or posedge rst) if (rst == 2'd1) y <= 1'b0; else y <= en; endmodule",
+        b"module: Clock clk\n",
+    ),
+    (
+        b"reg y; always @(posedge clk or posedge rst) if (rst) y <= 1'b0; endmodule",
+        b"module: Clock clk\n",
+    ),
+    (
+        b"reg y; always @(posedge clk or posedge rst) if (en) y <= 1'b0; else y <= rst; endmodule",
+        b"module: Clock clk\n",
+    ),
+    (
+        b"reg y, z; always @(posedge clk or posedge rst) begin if (rst) y <= 1'b0; else y <= en; z <= en; end endmodule",
+        b"module: Clock clk\n",
+    ),
+    (
+        b"reg y; always @(posedge clk or posedge rst or posedge en) if (rst) y <= 1'b0; else y <= en; endmodule",
+        b"module: Clock clk\n",
+    ),
+    (
+        b"reg y; wire r; assign r = rst; always @(posedge clk or posedge r) if (r) y <= 1'b0; else y <= en; endmodule",
+        b"module: Clock clk\n",
     ),
     (b"input z; endmodule", b"module: Port z\n"),
     (b"nope u(en); endmodule", b"module: Unknown u\n"),
@@ -147,7 +187,9 @@ fn faults(rt: HostRuntime) -> Result<(), Fail> {
 
 #[test]
 fn faultless(rt: HostRuntime) -> Result<(), Fail> {
-    let rows: [&'static [u8]; 12] = [
+    let rows: [&'static [u8]; 14] = [
+        b"reg y; always @(posedge clk or posedge rst) if (rst) y <= 1'b0; else y <= en; endmodule",
+        b"reg y; always @(posedge rst, posedge clk) begin if (rst == 1'b1) y <= 1'b0; else y <= en; end endmodule",
         b"reg y; always @* if (en) y = rst; else y = en; endmodule",
         b"wire [1:0] w; assign w[0] = en; assign w[1] = rst; endmodule",
         b"reg y; always @(en, rst) y = en & rst; endmodule",
@@ -172,4 +214,48 @@ fn faultless(rt: HostRuntime) -> Result<(), Fail> {
         )?;
     }
     Ok(())
+}
+
+// Resets that are active low, which the set's isn't: the block waits for them rightly, and the set doesn't fit.
+const LOW_RESETS: [&[u8]; 3] = [
+    b"reg y; always @(posedge clk or negedge rst) if (!rst) y <= 1'b0; else y <= en; endmodule",
+    b"reg y; always @(posedge clk or negedge rst) if (~rst) y <= 1'b0; else y <= en; endmodule",
+    b"reg y; always @(negedge rst or posedge clk) if (rst == 1'b0) y <= 1'b0; else y <= en; endmodule",
+];
+
+#[test]
+fn low_resets(rt: HostRuntime) -> Result<(), Fail> {
+    for items in LOW_RESETS {
+        let module = with(COUNTER, b"endmodule", items);
+        row(
+            &rt,
+            &["ops", "M", "S"],
+            module,
+            plain(COUNTER_SET),
+            (5, b"bind: Role rst\n"),
+        )?;
+    }
+    Ok(())
+}
+
+// Three levels of eight instances each, and a fourth one: of eight, so that all are 4,681, and of six, so that they are 3,657.
+const MANY: &[u8] =
+    b"a i0(); a i1(); a i2(); a i3(); a i4(); a i5(); a i6(); a i7(); endmodule module a; b i0(); b i1(); b i2(); b i3(); b i4(); b i5(); b i6(); b i7(); endmodule module b; c i0(); c i1(); c i2(); c i3(); c i4(); c i5(); c i6(); c i7(); endmodule module c; d i0(); d i1(); d i2(); d i3(); d i4(); d i5(); d i6(); d i7(); endmodule module d; endmodule";
+
+const FEWER: &[u8] =
+    b"a i0(); a i1(); a i2(); a i3(); a i4(); a i5(); a i6(); a i7(); endmodule module a; b i0(); b i1(); b i2(); b i3(); b i4(); b i5(); b i6(); b i7(); endmodule module b; c i0(); c i1(); c i2(); c i3(); c i4(); c i5(); c i6(); c i7(); endmodule module c; d i0(); d i1(); d i2(); d i3(); d i4(); d i5(); endmodule module d; endmodule";
+
+#[test]
+fn instances(rt: HostRuntime) -> Result<(), Fail> {
+    let ops = ["ops", "M", "S"];
+    let many = with(COUNTER, b"endmodule", MANY);
+    let fewer = with(COUNTER, b"endmodule", FEWER);
+    row(
+        &rt,
+        &ops,
+        many,
+        plain(COUNTER_SET),
+        (3, b"module: Instances\n"),
+    )?;
+    row(&rt, &ops, fewer, plain(COUNTER_SET), (0, REPORT))
 }
