@@ -3,3 +3,4 @@ pub mod Finding
 pub mod Promising
 pub mod Showing
 pub mod Telling
+pub mod Settling

@@ -1,5 +1,5 @@
 -- Lines of the book, one after another.
-use Rattle.std.proofs.Common.{◌≡◌, ℕ, zero, suc, ◌<◌, List, [], ◌∷◌, ◌++◌, length, get_or, refl, sym, ap, ◌∙◌, subst, arith, append_assoc, append-nil, length-append}
+use Rattle.std.proofs.Common.{◌≡◌, ℕ, zero, suc, ◌<◌, List, [], ◌∷◌, ◌++◌, length, map, get_or, refl, sym, ap, ◌∙◌, subst, arith, append_assoc, append-nil, length-append}
 use Rattle.std.specs.List.{AllZip}
 use Rattle.std.proofs.lemmas.Slice.Zip.{all_zipped_more}
 use Rattle.set_tree.specs.declared.line.Line.{Line}
@@ -8,6 +8,7 @@ use Rattle.verdicts.specs.declared.decide.Decided.{Decided}
 use Rattle.reports.specs.declared.book.Line.{Line as Told}
 use Rattle.asked_lines.specs.Asked.{IsObDecided}
 use Rattle.asked_lines.specs.Decided.{IsDecidedOn}
+use Rattle.asked_lines.specs.Settled.{decided_of}
 
 -- those before are told, and those after were decided so
 pub record TellLoop (budget : ℕ) (b : Pair) (lines : List Line) (done : List Told) (left : List Decided) : Type 0 where
@@ -104,3 +105,21 @@ all_told budget b lines done left loop none = by loop.after left loop.split loop
     by [] left split rest none = subst (λ (xs : List Line). AllZip (IsDecidedOn budget b) xs done) (sym (split ∙ append-nil loop.before)) loop.made
     by (x ∷ after) [] split rest none = absurd rest
     by (x ∷ after) (d ∷ left) split rest none = let no : suc (length left) ≡ 0 = none in absurd (omega arith)
+
+-- the lines so far enter what was decided, up to what is left
+abbrev pub EntersSo : List Told → List Decided → List Decided → Type 0
+EntersSo done left all = map decided_of done ++ left ≡ all
+
+entered : (done : List Told) (told : Told) → map decided_of (done ++ told ∷ []) ≡ map decided_of done ++ decided_of told ∷ []
+entered [] told = refl
+entered (x ∷ xs) told = ap (λ (ds : List Decided). decided_of x ∷ ds) (entered xs told)
+
+pub enters_more : (done more : List Told) (rest left all : List Decided) (d : Decided) (told : Told) → EntersSo done rest all → rest ≡ d ∷ left → decided_of told ≡ d → more ≡ done ++ told ∷ [] → EntersSo more left all
+enters_more done more rest left all d told so is same pushed =
+    ap (λ (ts : List Told). map decided_of ts ++ left) pushed ∙ (ap (λ (ds : List Decided). ds ++ left) (entered done told)
+    ∙ (append_assoc (map decided_of done) (decided_of told ∷ []) left ∙ (ap (λ (x : Decided). map decided_of done ++ x ∷ left) same
+    ∙ (ap (λ (ds : List Decided). map decided_of done ++ ds) (sym is) ∙ so))))
+
+pub enters_all : (done : List Told) (left all : List Decided) → EntersSo done left all → length left ≡ 0 → map decided_of done ≡ all
+enters_all done [] all so none = sym (append-nil (map decided_of done)) ∙ so
+enters_all done (d ∷ left) all so none = let no : suc (length left) ≡ 0 = none in absurd (omega arith)

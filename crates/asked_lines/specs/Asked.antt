@@ -27,7 +27,14 @@ pub record Asks (b : Pair) (which : Which) (lines : List Line) (obs : List Named
 -- no line has the name that is asked for
 abbrev pub LacksLine : Set → Which → LineFault → Type 0
 LacksLine set which f.NoLine = (name : List ℕ) × (which ≡ w.One name) × ((line : Line) → IsLineNamed set name line → ⊥)
+LacksLine set which f.Keeper = ⊥
 LacksLine set which f.Memory = Unit {0}
+
+-- no line has the name that is asked for; or the keeper of the proofs of those that are failed, or memory ran out
+abbrev pub RefusesLines : Set → Which → LineFault → Type 0
+RefusesLines set which f.NoLine = LacksLine set which f.NoLine
+RefusesLines set which f.Keeper = (lines : List Line) × AreAsked which set lines
+RefusesLines set which f.Memory = Unit {0}
 
 -- an obligation of the line, decided
 pub record IsObDecided (budget : ℕ) (b : Pair) (line : Line) (d : Decided) : Type 0 where

@@ -1,4 +1,5 @@
 pub mod Traces
 pub mod Decided
 pub mod Asked
+pub mod Settled
 pub mod Laws

@@ -1,7 +1,9 @@
 // Why no lines are decided.
 ghost use Rattle.std.specs.Prelude.{◌≡◌};
 ghost use Rattle.asked_lines.specs.declared.fault.LineFault.TheVariants.{Memory};
+ghost use Rattle.asked_lines.specs.Settled.{line_fault_of};
 
+use proof_store::StoreFault;
 use std::alloc::AllocError;
 
 /// Why no lines are decided.
@@ -9,6 +11,8 @@ use std::alloc::AllocError;
 pub enum LineFault {
     /// The set's report has no line of the name that was asked for.
     NoLine,
+    /// The keeper of proofs failed.
+    Keeper,
     /// Want of memory.
     Memory,
 }
@@ -18,5 +22,16 @@ impl From<AllocError> for LineFault {
 
     fn from(_error: AllocError) -> LineFault {
         LineFault::Memory
+    }
+}
+
+impl From<StoreFault> for LineFault {
+    ghost from_gives = { λ fault e. e ≡ line_fault_of fault };
+
+    fn from(fault: StoreFault) -> LineFault {
+        match fault {
+            StoreFault::Keeper => LineFault::Keeper,
+            StoreFault::Memory => LineFault::Memory,
+        }
     }
 }

@@ -45,6 +45,8 @@ pub enum CheckFault {
     Bind(BindFault),
     /// The set's report has no line of the name that was asked for.
     NoLine,
+    /// The keeper of proofs failed.
+    Keeper,
     /// Want of memory.
     Memory,
 }

@@ -22,6 +22,7 @@ module _ (text set_text : List ℕ) (ms : List Module) (set : Set) (modules : Is
   design_refused (f.Set stop) h = absurd h
   design_refused (f.Bind fault) h = absurd h
   design_refused f.NoLine h = absurd h
+  design_refused f.Keeper h = absurd h
   design_refused f.Memory h = tt
 
   pub bind_refused : (d : Parts) → IsDesignOf ms set.block d → (fault : BindFault) → BindRefuses d set fault → Refuses text set_text (unbound fault)

@@ -71,6 +71,7 @@ RefusesDesign ms top (f.Module (m.Read fault)) = ⊥
 RefusesDesign ms top (f.Set stop) = ⊥
 RefusesDesign ms top (f.Bind fault) = ⊥
 RefusesDesign ms top f.NoLine = ⊥
+RefusesDesign ms top f.Keeper = ⊥
 RefusesDesign ms top f.Memory = Unit {0}
 
 -- the stages that refuse after texts were read
@@ -87,6 +88,7 @@ Refuses text set_text (f.Module (m.Later n)) = RefusesAfter (λ ms set. RefusesD
 Refuses text set_text (f.Module (m.Elab fault)) = RefusesAfter (λ ms set. RefusesDesign ms set.block (f.Module (m.Elab fault))) text set_text
 Refuses text set_text (f.Bind fault) = RefusesAfter (λ ms set. (d : Parts) × IsDesignOf ms set.block d × StandsBetween d set fault) text set_text
 Refuses text set_text f.NoLine = ⊥
+Refuses text set_text f.Keeper = ⊥
 Refuses text set_text f.Memory = Unit {0}
 
 -- a set that doesn't fit its design

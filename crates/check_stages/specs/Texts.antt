@@ -35,6 +35,7 @@ RefusesModules text (f.Module (m.Elab fault)) = ⊥
 RefusesModules text (f.Set stop) = ⊥
 RefusesModules text (f.Bind fault) = ⊥
 RefusesModules text f.NoLine = ⊥
+RefusesModules text f.Keeper = ⊥
 RefusesModules text f.Memory = Unit {0}
 
 -- the set's text is too long, isn't read, or spells a set whose structure has this first fault
@@ -45,4 +46,5 @@ RefusesSet text (f.Set (t.Graph u)) = (length text ≤ 1048576) × Spells text u
 RefusesSet text (f.Module fault) = ⊥
 RefusesSet text (f.Bind fault) = ⊥
 RefusesSet text f.NoLine = ⊥
+RefusesSet text f.Keeper = ⊥
 RefusesSet text f.Memory = Unit {0}

@@ -1,24 +1,24 @@
 -- The options and the plain words among words.
-use Rattle.std.specs.Prelude.{ℕ, Bool, ◌&&◌, not, nat_eq, List, [], ◌∷◌, ◌++◌, drop, codes, Option, Some, None, is_some, if◌then◌else◌}
+use Rattle.std.specs.Prelude.{ℕ, Bool, ◌&&◌, not, nat_eq, List, [], ◌∷◌, ◌++◌, drop, codes, Option, Some, None, is_none, is_some, if◌then◌else◌}
 use Rattle.std.specs.List.{starts_with}
 use Rattle.std.specs.Str.{bytes_eq}
 use Rattle.command_words.specs.declared.chosen.Choice.{Choice}
-use Rattle.command_words.specs.declared.chosen.Choice.TheVariants.{Budget, Workers}
+use Rattle.command_words.specs.declared.chosen.Choice.TheVariants.{Budget, Workers, Store}
 use Rattle.command_words.specs.Numbers.{number_within}
 
 -- what options have been given, and the plain words so far
 pub record Choices : Type 0 where
   pub budget : Option ℕ
   pub workers : Option ℕ
+  pub store : Option (List ℕ)
   pub plain : List (List ℕ)
 
 abbrev pub nothing : Choices
-nothing = record { budget = None; workers = None; plain = [] }
+nothing = record { budget = None; workers = None; store = None; plain = [] }
 
--- a value of an option
-abbrev pub value_of : Choice → List ℕ → Option ℕ
-value_of Budget word = number_within 1 10000000 word
-value_of Workers word = number_within 1 64 word
+-- no option is given
+abbrev pub has_no_options : Choices → Bool
+has_no_options c = is_none c.budget && (is_none c.workers && is_none c.store)
 
 -- a value is given to an option that has none yet
 abbrev pub with_budget : Option ℕ → Choices → Option Choices
@@ -29,9 +29,13 @@ abbrev pub with_workers : Option ℕ → Choices → Option Choices
 with_workers None c = None
 with_workers (Some n) c = if is_some c.workers then None else Some (record c { workers = Some n })
 
+abbrev pub with_store : List ℕ → Choices → Option Choices
+with_store file c = if is_some c.store then None else Some (record c { store = Some file })
+
 abbrev pub given : Choice → List ℕ → Choices → Option Choices
-given Budget word c = with_budget (value_of Budget word) c
-given Workers word c = with_workers (value_of Workers word) c
+given Budget word c = with_budget (number_within 1 10000000 word) c
+given Workers word c = with_workers (number_within 1 64 word) c
+given Store word c = with_store word c
 
 abbrev pub with_plain : List ℕ → Choices → Choices
 with_plain word c = record c { plain = c.plain ++ word ∷ [] }
@@ -57,8 +61,10 @@ kind_of word =
     if bytes_eq word (codes "--") then ends
     else if bytes_eq word (codes "--budget") then waits Budget
     else if bytes_eq word (codes "--workers") then waits Workers
+    else if bytes_eq word (codes "--store") then waits Store
     else if starts_with nat_eq word (codes "--budget=") then gives Budget (drop 9 word)
     else if starts_with nat_eq word (codes "--workers=") then gives Workers (drop 10 word)
+    else if starts_with nat_eq word (codes "--store=") then gives Store (drop 8 word)
     else if is_hyphened word && not (bytes_eq word (codes "-")) then wrong
     else plain
 

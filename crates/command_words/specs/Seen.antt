@@ -1,12 +1,12 @@
 -- What choices and words of the code stand for.
-use Rattle.std.specs.Prelude.{ℕ, ◌<◌, ◌≤◌, List, IfSome}
+use Rattle.std.specs.Prelude.{◌<◌, ◌≤◌, IfSome}
 use Rattle.command_words.specs.declared.chosen.Chosen.{Chosen}
 use Rattle.command_words.specs.declared.choices.Kind.{Kind as View}
 use Rattle.command_words.specs.declared.choices.Kind.TheVariants as v
 use Rattle.command_words.specs.Choices.{Choices, Kind, ends, gives, plain, waits, wrong}
 
 abbrev pub choices_of : Chosen → Choices
-choices_of c = record { budget = c.budget; workers = c.workers; plain = c.plain.items }
+choices_of c = record { budget = c.budget; workers = c.workers; store = c.store; plain = c.plain.items }
 
 abbrev pub kind_meant : View → Kind
 kind_meant v.Ends = ends

@@ -2,12 +2,14 @@
 use outside::Text;
 
 /// The name of a command.
-#[derive(Clone, Copy, PartialEq, Eq)]
+#[derive(Clone, Copy)]
 pub enum Action {
     Ops,
     Check,
     Trace,
     Demo,
+    Serve,
+    Migrate,
 }
 
 /// What is asked of a module's text and a set's.
@@ -21,13 +23,25 @@ pub enum Asked {
     Trace(Text),
 }
 
-/// What is asked, the names of the two files, the most steps of the solver for a line (1 to 10,000,000, 20,000 where no option says), and how many
-/// workers decide lines (1 to 64, 4 where no option says).
+/// What is asked, the names of the two files, the most steps of the solver for a line (1 to 10,000,000, 20,000 where no option says), how many
+/// workers decide lines (1 to 64, 4 where no option says), and the file in which proofs are kept (none where no option says).
 #[derive(Drop)]
 pub struct Job {
     pub asked: Asked,
     pub module: Text,
     pub set: Text,
+    pub budget: u64,
+    pub workers: u32,
+    pub store: Option<Text>,
+}
+
+/// The port that is listened at (1 to 65,535), how many connections are served (1 to 1,000,000), the file that holds the desk, and for its checks the most
+/// steps of the solver for a line and the workers, as for a job.
+#[derive(Drop)]
+pub struct Service {
+    pub port: u16,
+    pub count: u32,
+    pub file: Text,
     pub budget: u64,
     pub workers: u32,
 }
@@ -39,4 +53,15 @@ pub enum Command {
     Texts(Job),
     /// The generated texts of so many stages are, 1 to 64.
     Demo(u32),
+    /// Connections are served.
+    Serve(Service),
+    /// The proofs that the file of this name keeps are moved to the newest form of records.
+    Migrate(Text),
+}
+
+/// What a command wants opened: the file that holds proofs or the desk, and the port that is listened at.
+#[derive(Drop)]
+pub struct Wants {
+    pub store: Option<Text>,
+    pub port: Option<u16>,
 }

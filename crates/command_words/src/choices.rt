@@ -1,6 +1,7 @@
 // Options and plain words.
 ghost use Rattle.std.specs.Prelude.{◌≡◌, None, map, option_map, string_bytes, IfOk, IfSome};
-ghost use Rattle.command_words.specs.Choices.{all_plain, chosen, given, is_hyphened, kind_of, value_of, with_budget, with_plain, with_workers};
+ghost use Rattle.command_words.specs.Choices.{all_plain, chosen, given, is_hyphened, kind_of, with_budget, with_plain, with_store, with_workers};
+ghost use Rattle.command_words.specs.Numbers.{number_within};
 ghost use Rattle.command_words.specs.Seen.{AreBounded, choices_of, kind_meant};
 
 use crate::chosen::{Choice, Chosen};
@@ -30,10 +31,14 @@ fn kind_of(word: &[u8]) -> Kind<'_>
         Kind::Waits(Choice::Budget)
     } else if word == b"--workers".as_slice() {
         Kind::Waits(Choice::Workers)
+    } else if word == b"--store".as_slice() {
+        Kind::Waits(Choice::Store)
     } else if word.starts_with(b"--budget=") {
         Kind::Gives(Choice::Budget, &word[9..])
     } else if word.starts_with(b"--workers=") {
         Kind::Gives(Choice::Workers, &word[10..])
+    } else if word.starts_with(b"--store=") {
+        Kind::Gives(Choice::Store, &word[8..])
     } else if word.starts_with(b"-") && word != b"-".as_slice() {
         Kind::Wrong
     } else {
@@ -41,40 +46,63 @@ fn kind_of(word: &[u8]) -> Kind<'_>
     }
 }
 
-// Choices with a value of an option that has none yet.
-fn given(choice: Choice, word: &[u8], so_far: Chosen) -> Option<Chosen>
+fn with_budget(word: &[u8], so_far: Chosen) -> Option<Chosen>
     requires { AreBounded (choices_of so_far) }
-    ensures is { option_map choices_of result ≡ given choice word.now (choices_of so_far) }
+    ensures is { option_map choices_of result ≡ with_budget (number_within 1 10000000 word.now) (choices_of so_far) }
     ensures bounded { IfSome result (λ c. AreBounded (choices_of c)) }
 {
-    let Chosen {
-        budget,
-        workers,
-        plain,
-    } = so_far;
+    let value = number_within(1, 10_000_000, word)?;
+    if so_far.budget.is_some() {
+        return None;
+    }
+    Some(Chosen {
+        budget: Some(value),
+        ..so_far
+    })
+}
+
+fn with_workers(word: &[u8], so_far: Chosen) -> Option<Chosen>
+    requires { AreBounded (choices_of so_far) }
+    ensures is { option_map choices_of result ≡ with_workers (number_within 1 64 word.now) (choices_of so_far) }
+    ensures bounded { IfSome result (λ c. AreBounded (choices_of c)) }
+{
+    let value = number_within(1, 64, word)?;
+    if so_far.workers.is_some() {
+        return None;
+    }
+    Some(Chosen {
+        workers: Some(value as u32),
+        ..so_far
+    })
+}
+
+fn with_store(alloc: Global, word: &[u8], so_far: Chosen) -> Result<Option<Chosen>, AllocError>
+    requires { AreBounded (choices_of so_far) }
+    ensures is { IfOk result (λ o. option_map choices_of o ≡ with_store word.now (choices_of so_far)) }
+    ensures bounded { IfOk result (λ o. IfSome o (λ c. AreBounded (choices_of c))) }
+{
+    if so_far.store.is_some() {
+        return Ok(None);
+    }
+    let store = Some(Text::copy(alloc, word)?);
+    Ok(Some(Chosen { store, ..so_far }))
+}
+
+// Choices with a value of an option that has none yet.
+fn given(
+    alloc: Global,
+    choice: Choice,
+    word: &[u8],
+    so_far: Chosen,
+) -> Result<Option<Chosen>, AllocError>
+    requires { AreBounded (choices_of so_far) }
+    ensures is { IfOk result (λ o. option_map choices_of o ≡ given choice word.now (choices_of so_far)) }
+    ensures bounded { IfOk result (λ o. IfSome o (λ c. AreBounded (choices_of c))) }
+{
     match choice {
-        Choice::Budget => {
-            let value = number_within(1, 10_000_000, word)?;
-            if budget.is_some() {
-                return None;
-            }
-            Some(Chosen {
-                budget: Some(value),
-                workers,
-                plain,
-            })
-        }
-        Choice::Workers => {
-            let value = number_within(1, 64, word)?;
-            if workers.is_some() {
-                return None;
-            }
-            Some(Chosen {
-                budget,
-                workers: Some(value as u32),
-                plain,
-            })
-        }
+        Choice::Budget => Ok(with_budget(word, so_far)),
+        Choice::Workers => Ok(with_workers(word, so_far)),
+        Choice::Store => with_store(alloc, word, so_far),
     }
 }
 
@@ -126,7 +154,7 @@ pub fn choices_in(
                     if word.starts_with(b"-") {
                         return Ok(None);
                     }
-                    match given(choice, word, so_far) {
+                    match given(alloc, choice, word, so_far)? {
                         Some(so_far) => choices_in(alloc, rest, None, so_far),
                         None => Ok(None),
                     }
@@ -137,7 +165,7 @@ pub fn choices_in(
                         Ok(Some(so_far))
                     }
                     Kind::Waits(choice) => choices_in(alloc, rest, Some(choice), so_far),
-                    Kind::Gives(choice, value) => match given(choice, value, so_far) {
+                    Kind::Gives(choice, value) => match given(alloc, choice, value, so_far)? {
                         Some(so_far) => choices_in(alloc, rest, None, so_far),
                         None => Ok(None),
                     },

@@ -1,13 +1,19 @@
 // What words choose.
+ghost use Rattle.std.specs.Prelude.{◌≡◌};
+ghost use Rattle.command_words.specs.Choices.{has_no_options};
+ghost use Rattle.command_words.specs.Seen.{choices_of};
+
 use outside::Text;
 
 /// An option.
-#[derive(Clone, Copy, PartialEq, Eq)]
+#[derive(Clone, Copy)]
 pub enum Choice {
     /// The most steps of the solver for a line.
     Budget,
     /// How many workers decide lines.
     Workers,
+    /// The file in which proofs are kept.
+    Store,
 }
 
 /// The options that words give, and the plain words.
@@ -15,5 +21,15 @@ pub enum Choice {
 pub struct Chosen {
     pub budget: Option<u64>,
     pub workers: Option<u32>,
+    pub store: Option<Text>,
     pub plain: Vec<Text>,
+}
+
+impl Chosen {
+    /// Whether no option is given.
+    pub fn has_no_options(&self) -> bool
+        ensures { result ≡ has_no_options (choices_of self.now) }
+    {
+        self.budget.is_none() && self.workers.is_none() && self.store.is_none()
+    }
 }

@@ -1,9 +1,9 @@
 // Commands.
-ghost use Rattle.std.specs.Prelude.{◌≡◌, map, option_map, string_bytes, IfOk, IfSome};
-ghost use Rattle.command_words.specs.Commands.{HasBounds, IsBounded, action_of, command_of, demo_of, job_of, with_plain_words};
+ghost use Rattle.std.specs.Prelude.{◌≡◌, ◌≤◌, map, option_map, string_bytes, IfOk, IfSome};
+ghost use Rattle.command_words.specs.Commands.{HasBounds, IsBounded, action_of, command_of, demo_of, job_of, migrate_of, port_of, serve_of, service_of, store_of, with_plain_words, IsServed};
 ghost use Rattle.command_words.specs.Seen.{AreBounded, choices_of};
 
-use crate::action::{Action, Asked, Command, Job};
+use crate::action::{Action, Asked, Command, Job, Service, Wants};
 use crate::choices::choices_in;
 use crate::chosen::Chosen;
 use crate::number::number_within;
@@ -21,6 +21,10 @@ fn action_of(name: &[u8]) -> Option<Action>
         Some(Action::Trace)
     } else if name == b"demo".as_slice() {
         Some(Action::Demo)
+    } else if name == b"serve".as_slice() {
+        Some(Action::Serve)
+    } else if name == b"migrate".as_slice() {
+        Some(Action::Migrate)
     } else {
         None
     }
@@ -38,25 +42,89 @@ fn job_of(
     ensures is { IfOk result (λ j. j ≡ job_of asked «module».now set.now (choices_of choices.now)) }
     ensures bounded { IfOk result HasBounds }
 {
+    let store = match &choices.store {
+        None => None,
+        Some(file) => Some(Text::copy(alloc, file.bytes())?),
+    };
     Ok(Job {
         asked,
         module: Text::copy(alloc, module.bytes())?,
         set: Text::copy(alloc, set.bytes())?,
         budget: choices.budget.unwrap_or(20_000),
         workers: choices.workers.unwrap_or(4),
+        store,
     })
 }
 
 // A generated check, which takes no options.
 fn demo_of(choices: &Chosen, stages: &Text) -> Option<Command>
-    ensures is { result ≡ demo_of choices.now.budget choices.now.workers stages.now }
+    ensures is { result ≡ demo_of (choices_of choices.now) stages.now }
     ensures bounded { IfSome result IsBounded }
 {
-    if choices.budget.is_some() || choices.workers.is_some() {
+    if !choices.has_no_options() {
         return None;
     }
     let stages = number_within(1, 64, stages.bytes())?;
     Some(Command::Demo(stages as u32))
+}
+
+// A move of kept proofs, which takes no options.
+fn migrate_of(alloc: Global, choices: &Chosen, file: &Text) -> Result<Option<Command>, AllocError>
+    ensures is { IfOk result (λ o. o ≡ migrate_of (choices_of choices.now) file.now) }
+    ensures bounded { IfOk result (λ o. IfSome o IsBounded) }
+{
+    if !choices.has_no_options() {
+        return Ok(None);
+    }
+    let file = Text::copy(alloc, file.bytes())?;
+    Ok(Some(Command::Migrate(file)))
+}
+
+fn service_of(
+    alloc: Global,
+    port: u16,
+    count: u32,
+    file: &Text,
+    choices: &Chosen,
+) -> Result<Service, AllocError>
+    requires bounds { AreBounded (choices_of choices.now) }
+    requires some { 1 ≤ count }
+    requires most { count ≤ 1000000 }
+    ensures is { IfOk result (λ s. s ≡ service_of port count file.now (choices_of choices.now)) }
+    ensures bounded { IfOk result IsServed }
+{
+    Ok(Service {
+        port,
+        count,
+        file: Text::copy(alloc, file.bytes())?,
+        budget: choices.budget.unwrap_or(20_000),
+        workers: choices.workers.unwrap_or(4),
+    })
+}
+
+// A desk that is served, which takes no other file of proofs than its own.
+fn serve_of(
+    alloc: Global,
+    choices: &Chosen,
+    port: &Text,
+    count: &Text,
+    file: &Text,
+) -> Result<Option<Command>, AllocError>
+    requires { AreBounded (choices_of choices.now) }
+    ensures is { IfOk result (λ o. o ≡ serve_of (choices_of choices.now) port.now count.now file.now) }
+    ensures bounded { IfOk result (λ o. IfSome o IsBounded) }
+{
+    if choices.store.is_some() {
+        return Ok(None);
+    }
+    let Some(port) = number_within(1, 65_535, port.bytes()) else {
+        return Ok(None);
+    };
+    let Some(count) = number_within(1, 1_000_000, count.bytes()) else {
+        return Ok(None);
+    };
+    let service = service_of(alloc, port as u16, count as u32, file, choices)?;
+    Ok(Some(Command::Serve(service)))
 }
 
 fn with_plain_words(
@@ -83,6 +151,8 @@ fn with_plain_words(
             Ok(Some(Command::Texts(job)))
         }
         (Action::Demo, [stages]) => Ok(demo_of(choices, stages)),
+        (Action::Serve, [port, count, file]) => serve_of(alloc, choices, port, count, file),
+        (Action::Migrate, [file]) => migrate_of(alloc, choices, file),
         _ => Ok(None),
     }
 }
@@ -102,6 +172,7 @@ pub fn command_in(alloc: Global, words: &[String]) -> Result<Option<Command>, Al
                 let nothing = Chosen {
                     budget: None,
                     workers: None,
+                    store: None,
                     plain: Vec::new(alloc),
                 };
                 match choices_in(alloc, rest, None, nothing)? {
@@ -110,5 +181,31 @@ pub fn command_in(alloc: Global, words: &[String]) -> Result<Option<Command>, Al
                 }
             }
         },
+    }
+}
+
+/// What the command that words spell wants opened: the file of proofs that the option `--store` of `ops`, `check` and `trace` names, that `migrate` moves,
+/// or that holds the desk of `serve`, and the port of `serve`. Nothing where the words are no command, or it names none. Refused only for want of memory.
+pub fn wants(alloc: Global, words: &[String]) -> Result<Wants, AllocError>
+    ensures store { IfOk result (λ w. w.store ≡ store_of (command_of (map string_bytes words.now))) }
+    ensures port { IfOk result (λ w. w.port ≡ port_of (command_of (map string_bytes words.now))) }
+{
+    match command_in(alloc, words)? {
+        None | Some(Command::Demo(_)) => Ok(Wants {
+            store: None,
+            port: None,
+        }),
+        Some(Command::Texts(job)) => Ok(Wants {
+            store: job.store,
+            port: None,
+        }),
+        Some(Command::Serve(service)) => Ok(Wants {
+            store: Some(service.file),
+            port: Some(service.port),
+        }),
+        Some(Command::Migrate(file)) => Ok(Wants {
+            store: Some(file),
+            port: None,
+        }),
     }
 }

@@ -1,8 +1,8 @@
-//! What the desk is asked, what it answers, and the desk as a connection sees it.
+//! What the desk is asked, and what it answers.
 #![tactic(auto)]
 
 mod command;
-mod desk;
+mod fault;
 
 pub use command::{Answer, Command, Names, Signs};
-pub use desk::{Desk, DeskFault};
+pub use fault::DeskFault;

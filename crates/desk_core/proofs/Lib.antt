@@ -1,1 +1,9 @@
+mod Carrying
+mod Checked
+mod Meaning
 mod Reporting
+mod Numbering
+mod Standing
+mod Telling
+mod Traces
+mod Refusing

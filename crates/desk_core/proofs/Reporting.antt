@@ -1,17 +1,21 @@
 -- The report of texts whose set is bound, and refusals.
-use Rattle.std.proofs.Common.{◌≡◌, ℕ, List, map, sym, ◌∙◌}
+use Rattle.std.proofs.Common.{◌≡◌, ℕ, List, map, sym, ◌∙◌, Option, inl, inr, ⊎_elim}
+use Rattle.std.specs.Prelude.{Result, Ok, Err, IfOk, IfErr}
+use Rattle.outside.specs.Tables.{Tables}
 use Rattle.set_tree.specs.declared.set.Set.{Set}
 use Rattle.binding.specs.Binding.{Pair}
 use Rattle.check_faults.specs.declared.fault.CheckFault.{CheckFault}
 use Rattle.check_faults.specs.declared.fault.CheckFault.TheVariants as f
 use Rattle.check_stages.specs.Stages.{IsBoundOf, Refuses as StageRefuses}
+use Rattle.reports.specs.declared.book.Book.{Book}
 use Rattle.reports.specs.declared.book.Line.{Line as Told}
 use Rattle.reports.specs.declared.report.Report.{Report}
 use Rattle.reports.specs.declared.which.Which.{Which}
 use Rattle.reports.specs.Reports.{is_complete, report_text}
 use Rattle.asked_lines.specs.Decided.{AreDecided}
+use Rattle.asked_lines.specs.Settled.{AddsProofsOf, AreObsOf}
 use Rattle.asked_lines.proofs.Promising.{decided_of_modules, proved_lines_promise}
-use Rattle.desk_core.specs.Checks.{IsReport, LacksAsked, Refuses}
+use Rattle.desk_core.specs.Checks.{AreDecidedOf, AreObsOfTexts, IsReport, RefusesAsked, Refuses}
 
 pub is_report : (text set_text : List ℕ) (b : Pair) (which : Which) (budget : ℕ) (ds : List Told) (r : Report) → IsBoundOf text set_text b → AreDecided budget b which ds
     → r.text ≡ report_text which ds → r.verdicts.items ≡ map (λ d. d.verdict) ds → r.complete ≡ is_complete which ds → IsReport text set_text which budget ds r
@@ -34,14 +38,30 @@ is_report text set_text b which budget ds r bound decided told verdicts complete
 
 pub stage_refuses : (text set_text : List ℕ) (which : Which) (fault : CheckFault) → StageRefuses text set_text fault → Refuses text set_text which fault
 stage_refuses text set_text which f.NoLine h = absurd h
+stage_refuses text set_text which f.Keeper h = absurd h
 stage_refuses text set_text which f.Memory h = h
 stage_refuses text set_text which (f.Module fault) h = h
 stage_refuses text set_text which (f.Set stop) h = h
 stage_refuses text set_text which (f.Bind fault) h = h
 
-pub lacks_asked : (text set_text : List ℕ) (b : Pair) (which : Which) (fault : CheckFault) → IsBoundOf text set_text b → LacksAsked b.set which fault → Refuses text set_text which fault
-lacks_asked text set_text b which f.NoLine bound h = (b, bound, h)
-lacks_asked text set_text b which f.Memory bound h = tt
-lacks_asked text set_text b which (f.Module fault) bound h = absurd h
-lacks_asked text set_text b which (f.Set stop) bound h = absurd h
-lacks_asked text set_text b which (f.Bind fault) bound h = absurd h
+pub asked_refuses : (text set_text : List ℕ) (b : Pair) (which : Which) (fault : CheckFault) → IsBoundOf text set_text b → RefusesAsked b.set which fault → Refuses text set_text which fault
+asked_refuses text set_text b which f.NoLine bound h = (b, bound, h)
+asked_refuses text set_text b which f.Keeper bound h = (b, bound, h)
+asked_refuses text set_text b which f.Memory bound h = tt
+asked_refuses text set_text b which (f.Module fault) bound h = absurd h
+asked_refuses text set_text b which (f.Set stop) bound h = absurd h
+asked_refuses text set_text b which (f.Bind fault) bound h = absurd h
+
+-- what is decided of a set that is bound is of the two texts
+pub decided_of_texts : {E : Type 0} (text set_text : List ℕ) (b : Pair) (which : Which) (budget : ℕ) → IsBoundOf text set_text b → (r : Result Book E) → IfOk r (λ book. AreDecided budget b which book.lines.items)
+    → IfOk r (λ book. AreDecidedOf text set_text which budget book.lines.items)
+decided_of_texts text set_text b which budget bound (Ok book) h = (b, bound, h)
+decided_of_texts text set_text b which budget bound (Err fault) h = tt
+
+pub refused_of_texts : {T : Type 0} (text set_text : List ℕ) (b : Pair) (which : Which) → IsBoundOf text set_text b → (r : Result T CheckFault) → IfErr r (RefusesAsked b.set which) → IfErr r (Refuses text set_text which)
+refused_of_texts text set_text b which bound (Ok t) h = tt
+refused_of_texts text set_text b which bound (Err fault) h = asked_refuses text set_text b which fault bound h
+
+pub adds_of_texts : (text set_text : List ℕ) (b : Pair) (which : Which) → IsBoundOf text set_text b → (before after : Option Tables) → AddsProofsOf (AreObsOf b which) before after
+    → AddsProofsOf (AreObsOfTexts text set_text which) before after
+adds_of_texts text set_text b which bound before after h = (h.0, ⊎_elim (λ none. inl none) (λ of_lines. inr (b, bound, of_lines)) h.1, h.2)

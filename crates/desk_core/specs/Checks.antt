@@ -4,6 +4,7 @@ use Rattle.std.specs.List.{AllZip}
 use Rattle.set_tree.specs.declared.line.Line.{Line}
 use Rattle.set_tree.specs.declared.set.Set.{Set}
 use Rattle.line_designs.specs.Promises.{HoldsInRuns, SignsOff}
+use Rattle.word_dag.specs.Nodes.{Parts}
 use Rattle.binding.specs.Binding.{Pair}
 use Rattle.check_faults.specs.declared.fault.CheckFault.{CheckFault}
 use Rattle.check_faults.specs.declared.fault.CheckFault.TheVariants as f
@@ -15,8 +16,9 @@ use Rattle.reports.specs.declared.which.Which.TheVariants as w
 use Rattle.reports.specs.Lines.{all_proved}
 use Rattle.reports.specs.Reports.{is_complete, report_text}
 use Rattle.asked_lines.specs.declared.fault.LineFault.TheVariants as l
-use Rattle.asked_lines.specs.Asked.{LacksLine}
-use Rattle.asked_lines.specs.Decided.{AreAsked, IsLineOf}
+use Rattle.asked_lines.specs.Asked.{RefusesLines}
+use Rattle.asked_lines.specs.Settled.{AreObsOf}
+use Rattle.asked_lines.specs.Decided.{AreAsked, AreDecided, IsLineOf}
 
 -- The report of two texts: its lines are those asked for, each decided rightly, and its text tells them.
 pub record IsReport (module_text set_text : List ℕ) (which : Which) (budget : ℕ) (decided : List Told) (r : Report) : Type 0 where
@@ -32,18 +34,28 @@ pub record IsReport (module_text set_text : List ℕ) (which : Which) (budget : 
   pub satisfied : which ≡ w.Ops → all_proved decided ≡ true → HoldsInRuns from.modules bound.set.block bound.set
   pub signed_off : r.complete ≡ true → SignsOff from.modules bound.set.block bound.set
 
--- no line has the name that was asked for
-abbrev pub LacksAsked : Set → Which → CheckFault → Type 0
-LacksAsked set which f.NoLine = LacksLine set which l.NoLine
-LacksAsked set which f.Memory = Unit {0}
-LacksAsked set which (f.Module fault) = ⊥
-LacksAsked set which (f.Set stop) = ⊥
-LacksAsked set which (f.Bind fault) = ⊥
+-- no line has the name that was asked for; or the keeper of the proofs of those that were failed, or memory ran out
+abbrev pub RefusesAsked : Set → Which → CheckFault → Type 0
+RefusesAsked set which f.NoLine = RefusesLines set which l.NoLine
+RefusesAsked set which f.Keeper = RefusesLines set which l.Keeper
+RefusesAsked set which f.Memory = RefusesLines set which l.Memory
+RefusesAsked set which (f.Module fault) = ⊥
+RefusesAsked set which (f.Set stop) = ⊥
+RefusesAsked set which (f.Bind fault) = ⊥
 
--- a stage refuses the texts, or no line has the name
+-- a stage refuses the texts; or none does, and no line has the name, or the keeper failed
 abbrev pub Refuses : List ℕ → List ℕ → Which → CheckFault → Type 0
-Refuses text set_text which f.NoLine = (b : Pair) × IsBoundOf text set_text b × LacksAsked b.set which f.NoLine
+Refuses text set_text which f.NoLine = (b : Pair) × IsBoundOf text set_text b × RefusesAsked b.set which f.NoLine
+Refuses text set_text which f.Keeper = (b : Pair) × IsBoundOf text set_text b × RefusesAsked b.set which f.Keeper
 Refuses text set_text which f.Memory = StageRefuses text set_text f.Memory
 Refuses text set_text which (f.Module fault) = StageRefuses text set_text (f.Module fault)
 Refuses text set_text which (f.Set stop) = StageRefuses text set_text (f.Set stop)
 Refuses text set_text which (f.Bind fault) = StageRefuses text set_text (f.Bind fault)
+
+-- obligations of the lines that are asked for of the set that two texts spell
+abbrev pub AreObsOfTexts : List ℕ → List ℕ → Which → List Parts → Type 0
+AreObsOfTexts text set_text which obs = (b : Pair) × IsBoundOf text set_text b × AreObsOf b which obs
+
+-- lines that are asked for of the set that two texts spell, decided
+abbrev pub AreDecidedOf : List ℕ → List ℕ → Which → ℕ → List Told → Type 0
+AreDecidedOf text set_text which budget lines = (b : Pair) × IsBoundOf text set_text b × AreDecided budget b which lines

@@ -1,1 +1,6 @@
 pub mod Checks
+pub mod Blocks
+pub mod Steps
+pub mod States
+pub mod Quiet
+pub mod Signed

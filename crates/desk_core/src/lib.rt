@@ -1,7 +1,17 @@
-//! The check of a module text with a set's text: which lines its report has, how each was decided, and what the report says of the modules.
+//! The check of a module text with a set's text: which lines its report has, how each was decided, and what the report says of the modules. And the desk
+//! that holds such texts, their reports and sign-offs.
 #![tactic(auto)]
 
+mod acting;
+mod blocks;
 mod checking;
+mod keeping;
+mod law;
+mod listing;
+mod signing;
 
+pub use acting::act;
 pub use checking::check;
-pub use reports::{Book, Line, Report, Settings, Verdict, Which};
+pub use law::sign_offs_mean;
+pub use proof_store::Settings;
+pub use reports::{Book, Line, Report, Verdict, Which};

@@ -1,5 +1,3 @@
-pub mod Joined
-pub mod Rests
-pub mod Sent
-pub mod Settled
-pub mod Unique
+mod Acting
+mod Keeping
+mod Stopping

@@ -1,5 +1,1 @@
-pub mod Request
-pub mod Serve
-pub mod Body
-pub mod Rest
-pub mod OneRequest
+pub mod Serving

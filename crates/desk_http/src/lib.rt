@@ -1,11 +1,6 @@
-//! Serves one connection: a request, the desk's answer, a reply.
+//! Serves the desk that a keeper holds to connections, one after another.
 #![tactic(auto)]
 
-mod body;
-mod laws;
-mod request;
-mod serve;
+mod serving;
 
-pub use laws::one_request;
-pub use request::{Request, Take, read_request};
-pub use serve::{ServeFault, Served, serve_one};
+pub use serving::{serve, serve_one};

@@ -1,8 +1,8 @@
 // Connections in memory, and a desk that answers by a block's name.
-ghost use Rattle.std.specs.Prelude.{⊤};
-
-use desk_commands::{Answer, Command, Desk, DeskFault, Names, Signs};
-use desk_http::{Request, ServeFault, Served, Take, one_request, read_request, serve_one};
+use desk_commands::{Answer, Command, DeskFault, Names, Signs};
+use http_connection::{
+    Incoming, Request, ServeFault, Served, Take, one_request, read_request, receive, reply_to,
+};
 use outside::{MemPort, Port, Text};
 use std::alloc::{AllocError, Global};
 use std::test::Fail;
@@ -15,13 +15,7 @@ struct NamedAnswers {
     line: u32,
 }
 
-impl Desk for NamedAnswers {
-    ghost Steps = { λ c a d e. ⊤ };
-
-    ghost FailsAt = { λ c d e. ⊤ };
-
-    ghost StarvesAt = { λ c d e. ⊤ };
-
+impl NamedAnswers {
     fn act(&mut self, alloc: Global, command: &Command) -> Result<Answer, DeskFault> {
         self.acts = self.acts.saturating_add(1);
         match self.answer(alloc, command) {
@@ -29,9 +23,7 @@ impl Desk for NamedAnswers {
             Err(AllocError) => Err(DeskFault::Memory),
         }
     }
-}
 
-impl NamedAnswers {
     fn answer(
         &mut self,
         alloc: Global,
@@ -82,6 +74,21 @@ fn desk(alloc: Global) -> NamedAnswers {
         acts: 0,
         text: Text::new(Vec::new(alloc)),
         line: 9,
+    }
+}
+
+/// Serves one connection by this desk.
+fn serve_one(
+    alloc: Global,
+    port: &mut MemPort,
+    desk: &mut NamedAnswers,
+) -> Result<Served, ServeFault> {
+    match receive(alloc, port)? {
+        Incoming::Done(served) => Ok(served),
+        Incoming::Act(command) => {
+            let outcome = desk.act(alloc, &command);
+            Ok(reply_to(alloc, port, &outcome))
+        }
     }
 }
 
@@ -213,6 +220,15 @@ fn a_head_is_refused_by_its_first_cause(rt: HostRuntime) -> Result<(), Fail> {
         );
     }
     assert_eq!(rt; desk.acts, 0);
+    Ok(())
+}
+
+#[test]
+fn a_target_that_is_no_utf_8_is_no_head(rt: HostRuntime) -> Result<(), Fail> {
+    let alloc = rt.alloc();
+    let mut desk = desk(alloc);
+    let sent = b"GET /blocks/\xff/report HTTP/1.1\r\n\r\n";
+    assert!(rt; gives(alloc, &mut desk, sent, 400, "{\"error\":\"head\"}")?);
     Ok(())
 }
 

@@ -118,6 +118,7 @@ fault_line (c.Module fault) = codes "module: " ++ module_text fault
 fault_line (c.Set stop) = codes "set: " ++ stop_text stop
 fault_line (c.Bind fault) = codes "bind: " ++ bind_text fault
 fault_line c.NoLine = codes "usage"
+fault_line c.Keeper = codes "keeper"
 fault_line c.Memory = codes "memory"
 
 abbrev pub status_of : CheckFault → ℕ
@@ -125,4 +126,5 @@ status_of (c.Module fault) = 3
 status_of (c.Set stop) = 4
 status_of (c.Bind fault) = 5
 status_of c.NoLine = 2
+status_of c.Keeper = 8
 status_of c.Memory = 70

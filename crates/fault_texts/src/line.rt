@@ -34,6 +34,7 @@ pub fn fault_line(alloc: Global, fault: &CheckFault) -> Result<Text, AllocError>
             behind(alloc, b"bind: ", &text)
         }
         CheckFault::NoLine => Text::copy(alloc, b"usage"),
+        CheckFault::Keeper => Text::copy(alloc, b"keeper"),
         CheckFault::Memory => Text::copy(alloc, b"memory"),
     }
 }
@@ -47,6 +48,7 @@ pub fn status_of(fault: &CheckFault) -> u8
         CheckFault::Set(_) => 4,
         CheckFault::Bind(_) => 5,
         CheckFault::NoLine => 2,
+        CheckFault::Keeper => 8,
         CheckFault::Memory => 70,
     }
 }

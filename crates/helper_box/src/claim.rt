@@ -28,3 +28,15 @@ pub trait Helper: Drop {
     fn offers(&self) -> u64
         ensures { result ≡ asked self.now };
 }
+
+impl Helper for Box<dyn Helper> {
+    ghost asked = { λ b. (Helper-box b).asked b.value };
+
+    fn offer(&mut self, alloc: Global, ob: &Ob, cnf: &Cnf) -> Result<Claim, AllocError> {
+        (**self).offer(alloc, ob, cnf)
+    }
+
+    fn offers(&self) -> u64 {
+        (**self).offers()
+    }
+}

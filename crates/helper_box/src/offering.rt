@@ -9,8 +9,8 @@ use std::alloc::{AllocError, Global};
 use word_dag::Ob;
 
 /// Asks one helper. A claim that doesn't pass is none, and so is the helper's want of memory.
-fn ask(helper: &mut Box<dyn Helper>, alloc: Global, ob: &Ob, cnf: &Cnf) -> Result<Claim, AllocError>
-    ensures asked { asked helper.new ≡ one_more (asked helper.old) }
+fn ask<H: Helper>(helper: &mut H, alloc: Global, ob: &Ob, cnf: &Cnf) -> Result<Claim, AllocError>
+    ensures asked { H.asked helper.new ≡ one_more (H.asked helper.old) }
     ensures passes { IfOk result (Passes ob.now cnf.now) }
 {
     let Ok(claim) = helper.offer(alloc, ob, cnf) else {
@@ -23,14 +23,14 @@ fn ask(helper: &mut Box<dyn Helper>, alloc: Global, ob: &Ob, cnf: &Cnf) -> Resul
     }
 }
 
-fn ask_each(
-    helpers: &mut [Box<dyn Helper>],
+fn ask_each<H: Helper>(
+    helpers: &mut [H],
     alloc: Global,
     ob: &Ob,
     cnf: &Cnf,
 ) -> Result<Claim, AllocError>
-    ensures asked { AsksSome (map asked helpers.old) (map asked helpers.new) }
-    ensures nothing { result ≡ Ok Claim.Nothing → map asked helpers.new ≡ map one_more (map asked helpers.old) }
+    ensures asked { AsksSome (map H.asked helpers.old) (map H.asked helpers.new) }
+    ensures nothing { result ≡ Ok Claim.Nothing → map H.asked helpers.new ≡ map one_more (map H.asked helpers.old) }
     ensures passes { IfOk result (Passes ob.now cnf.now) }
 {
     for helper in helpers.iter_mut() {
@@ -44,14 +44,14 @@ fn ask_each(
 
 /// Asks the helpers in order about an obligation, of which these are the clauses, and gives the first claim that passes; the helpers after
 /// that one aren't asked. It is refused only where a check of a claim wants memory; a helper that wants memory has claimed nothing.
-pub fn offer_all(
-    helpers: &mut Vec<Box<dyn Helper>>,
+pub fn offer_all<H: Helper>(
+    helpers: &mut Vec<H>,
     alloc: Global,
     ob: &Ob,
     cnf: &Cnf,
 ) -> Result<Claim, AllocError>
-    ensures asked { AsksSome (map asked helpers.old.items) (map asked helpers.new.items) }
-    ensures nothing { result ≡ Ok Claim.Nothing → map asked helpers.new.items ≡ map one_more (map asked helpers.old.items) }
+    ensures asked { AsksSome (map H.asked helpers.old.items) (map H.asked helpers.new.items) }
+    ensures nothing { result ≡ Ok Claim.Nothing → map H.asked helpers.new.items ≡ map one_more (map H.asked helpers.old.items) }
     ensures passes { IfOk result (Passes ob.now cnf.now) }
 {
     ask_each(helpers.as_mut_slice(), alloc, ob, cnf)

@@ -79,17 +79,17 @@ fn kept_proof<K: Keeper>(
 }
 
 // Asks the helpers about an obligation, of which these are the clauses.
-fn offered(
+fn offered<H: Helper>(
     alloc: Global,
     named: &Named,
     built: &Built,
-    helpers: &mut Vec<Box<dyn Helper>>,
+    helpers: &mut Vec<H>,
 ) -> Result<Place, AllocError>
     requires { IsBuilt named.now.ob built.now.cnf built.now.bits.items }
     ensures shows { IfOk result (Shows named.now) }
     ensures not_kept { IfOk result (λ place. is_kept place ≡ false) }
-    ensures helpers { NoneFalls (map asked helpers.old.items) (map asked helpers.new.items) }
-    ensures first { FirstRose 1 (map asked helpers.old.items) (map asked helpers.new.items) }
+    ensures helpers { NoneFalls (map H.asked helpers.old.items) (map H.asked helpers.new.items) }
+    ensures first { FirstRose 1 (map H.asked helpers.old.items) (map H.asked helpers.new.items) }
 {
     let claim = offer_all(helpers, alloc, &named.ob, &built.cnf)?;
     let Some(evidence) = evidence_of(claim) else {
@@ -101,18 +101,18 @@ fn offered(
 
 // Asks the keeper for a proof of an obligation, and the helpers where there is none.
 #[tactic(auto, using(crate::proofs::Asking::none_falls_same))]
-fn place_one<K: Keeper>(
+fn place_one<K: Keeper, H: Helper>(
     alloc: Global,
     named: &Named,
     keeper: &mut K,
-    helpers: &mut Vec<Box<dyn Helper>>,
+    helpers: &mut Vec<H>,
 ) -> Result<Place, StoreFault>
     ensures placed { IfOk result (IsPlaced (K.tables keeper.old) named.now) }
     ensures same { K.tables keeper.new ≡ K.tables keeper.old }
     ensures later { K.faults keeper.old ≤ K.faults keeper.new }
     ensures keeper { result ≡ Err StoreFault.Keeper → Rose (K.faults keeper.old) (K.faults keeper.new) }
-    ensures helpers { NoneFalls (map asked helpers.old.items) (map asked helpers.new.items) }
-    ensures first { IfOk result (λ place. FirstRose (asked_for place) (map asked helpers.old.items) (map asked helpers.new.items)) }
+    ensures helpers { NoneFalls (map H.asked helpers.old.items) (map H.asked helpers.new.items) }
+    ensures first { IfOk result (λ place. FirstRose (asked_for place) (map H.asked helpers.old.items) (map H.asked helpers.new.items)) }
 {
     let built = build(alloc, &named.ob)?;
     let found = kept_proof(alloc, &named.ob, keeper, &built.cnf)?;
@@ -125,18 +125,18 @@ fn place_one<K: Keeper>(
 }
 
 /// The place of each obligation, in order.
-pub(crate) fn place_all<K: Keeper>(
+pub(crate) fn place_all<K: Keeper, H: Helper>(
     alloc: Global,
     named: &[Named],
     keeper: &mut K,
-    helpers: &mut Vec<Box<dyn Helper>>,
+    helpers: &mut Vec<H>,
 ) -> Result<Vec<Place>, StoreFault>
     ensures placed { IfOk result (λ places. AllZip (IsPlaced (K.tables keeper.old)) named.now places.items) }
     ensures same { K.tables keeper.new ≡ K.tables keeper.old }
     ensures later { K.faults keeper.old ≤ K.faults keeper.new }
     ensures keeper { result ≡ Err StoreFault.Keeper → Rose (K.faults keeper.old) (K.faults keeper.new) }
-    ensures helpers { NoneFalls (map asked helpers.old.items) (map asked helpers.new.items) }
-    ensures first { IfOk result (λ places. FirstRose (sum_by asked_for places.items) (map asked helpers.old.items) (map asked helpers.new.items)) }
+    ensures helpers { NoneFalls (map H.asked helpers.old.items) (map H.asked helpers.new.items) }
+    ensures first { IfOk result (λ places. FirstRose (sum_by asked_for places.items) (map H.asked helpers.old.items) (map H.asked helpers.new.items)) }
 {
     let mut places = Vec::new(alloc);
     for one in named {

@@ -108,12 +108,12 @@ fn count_true(flags: &[bool]) -> u64
 ///
 /// It is refused with `Keeper` only where the keeper's count of faults rose in this call, or stands at its last value, and with `Memory` for want
 /// of memory alone. Then each row of the proofs that differs from before is a proof of one of these obligations under its text.
-pub fn settle<R: Threads + Sync, K: Keeper, G: Gate + Sync>(
+pub fn settle<R: Threads + Sync, K: Keeper, H: Helper, G: Gate + Sync>(
     rt: &R,
     alloc: Global,
     named: &[Named],
     keeper: &mut K,
-    helpers: &mut Vec<Box<dyn Helper>>,
+    helpers: &mut Vec<H>,
     settings: &Settings,
     gate: &G,
 ) -> Result<Settled, StoreFault>
@@ -134,8 +134,8 @@ pub fn settle<R: Threads + Sync, K: Keeper, G: Gate + Sync>(
     ensures keeper { result ≡ Err StoreFault.Keeper → Rose (K.faults keeper.old) (K.faults keeper.new) }
 
     // How often helpers are asked: the first one once for each obligation that isn't kept.
-    ensures helpers { NoneFalls (map asked helpers.old.items) (map asked helpers.new.items) }
-    ensures first { IfOk result (λ s. FirstRose (s.helped + s.solved) (map asked helpers.old.items) (map asked helpers.new.items)) }
+    ensures helpers { NoneFalls (map H.asked helpers.old.items) (map H.asked helpers.new.items) }
+    ensures first { IfOk result (λ s. FirstRose (s.helped + s.solved) (map H.asked helpers.old.items) (map H.asked helpers.new.items)) }
 {
     let places = place_all(alloc, named, keeper, helpers)?;
     let flags = kept_flags(alloc, places.as_slice())?;

@@ -30,10 +30,17 @@ pub struct Line {
     pub trace: Option<Shown>,
 }
 
-/// The lines that a call decided, in the order of its report, and the numbers that the workers drew, in ascending order.
+/// The lines that a call decided, in the order of its report, and where their evidence comes from.
 #[derive(Drop)]
 pub struct Book {
     pub lines: Vec<Line>,
+    /// How many lines had a proof that was kept.
+    pub kept: u64,
+    /// How many were shown by a helper's claim.
+    pub helped: u64,
+    /// How many were handed to the workers.
+    pub solved: u64,
+    /// The numbers that the workers drew, in ascending order.
     pub draws: Vec<u64>,
 }
 
@@ -45,6 +52,9 @@ impl Book {
     {
         Book {
             lines: Vec::new(alloc),
+            kept: 0,
+            helped: 0,
+            solved: 0,
             draws: Vec::new(alloc),
         }
     }

@@ -7,4 +7,4 @@ mod which;
 
 pub use book::{Book, Line, Verdict, verdict_of};
 pub use report::{Report, all_proved, report_of};
-pub use which::{Settings, Which};
+pub use which::Which;

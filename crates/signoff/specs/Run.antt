@@ -1,5 +1,5 @@
 -- What a run answers to the words and to what was read, and what goes out.
-use Rattle.std.specs.Prelude.{◌≡◌, ◌≢◌, ℕ, ◌⊎◌, ◌+◌, Bool, true, false, List, [], ◌∷◌, ◌++◌, length, take, count_by, Option, Some, None, IfSome, IsSomeAnd, codes, if◌then◌else◌}
+use Rattle.std.specs.Prelude.{◌≡◌, ◌≢◌, ℕ, ◌⊎◌, ◌+◌, ◌^◌, ◌≤◌, Bool, true, false, List, [], ◌∷◌, ◌++◌, length, take, count_by, Option, Some, None, IfSome, IsSomeAnd, codes, if◌then◌else◌}
 use Rattle.std.specs.Fmt.{decimal}
 use Rattle.std.specs.List.{list_any}
 use Rattle.std.specs.Io.KnownBytes.{Appends}
@@ -10,13 +10,20 @@ use Rattle.check_faults.specs.declared.fault.CheckFault.TheVariants as f
 use Rattle.fault_texts.specs.Texts.{fault_line, status_of}
 use Rattle.replay.specs.declared.shown.Shown.{Shown}
 use Rattle.replay.specs.Texts.{trace_text}
+use Rattle.reports.specs.declared.book.Book.{Book}
 use Rattle.reports.specs.declared.book.Line.{Line}
 use Rattle.reports.specs.declared.book.Verdict.{Verdict}
 use Rattle.reports.specs.declared.book.Verdict.TheVariants as v
 use Rattle.reports.specs.declared.report.Report.{Report}
 use Rattle.reports.specs.declared.which.Which.{Which}
 use Rattle.reports.specs.declared.which.Which.TheVariants as w
-use Rattle.desk_core.specs.Checks.{IsReport, Refuses}
+use Rattle.outside.specs.Tables.{Tables}
+use Rattle.word_dag.specs.Nodes.{Parts}
+use Rattle.proof_store.specs.declared.moving.Moved.{Moved}
+use Rattle.proof_store.specs.Moves.{MovesRows, Walks}
+use Rattle.proof_store.specs.Stored.{AddsProofs, Told}
+use Rattle.asked_lines.specs.Settled.{AddsProofsOf, AreSettled}
+use Rattle.desk_core.specs.Checks.{AreObsOfTexts, IsReport, Refuses}
 use Rattle.reports.specs.Lines.{is_proved}
 use Rattle.reports.specs.Reports.{last_line}
 use Rattle.command_words.specs.declared.action.Asked.{Asked}
@@ -24,6 +31,9 @@ use Rattle.command_words.specs.declared.action.Asked.TheVariants as a
 use Rattle.command_words.specs.declared.action.Command.{Command}
 use Rattle.command_words.specs.declared.action.Command.TheVariants as c
 use Rattle.command_words.specs.declared.action.Job.{Job}
+use Rattle.command_words.specs.declared.action.Service.{Service}
+use Rattle.http_connection.specs.declared.serve.ServeFault.TheVariants.{Next}
+use Rattle.desk_http.specs.Serving.{Line as Wires, ServesMany, State, StopsWithin}
 use Rattle.signoff.specs.declared.answer.Answer.{Answer}
 use Rattle.signoff.specs.declared.texts.Counts.{Counts}
 use Rattle.signoff.specs.declared.files.Read.{Read}
@@ -75,6 +85,14 @@ summary n r = summary_line n r.verdicts.items ++ last_line w.All r.complete
 abbrev pub counted : List Verdict → Counts
 counted vs = record { proved = count_by is_proved vs; refuted = count_by is_refuted vs; spent = count_by is_spent vs }
 
+-- what became of the rows of kept proofs
+abbrev pub moved_line : Moved → List ℕ
+moved_line m =
+    counted_word m.moved (codes ", left ") ++ (counted_word m.left (codes "\n") ++ (if m.more then codes "more\n" else []))
+
+abbrev pub moved_text : Moved → List ℕ
+moved_text m = codes "migrated " ++ moved_line m
+
 -- ---- answers
 
 abbrev pub refusal : ℕ → List ℕ → Answer
@@ -83,37 +101,108 @@ refusal status line = record { status = status; bytes = line ++ 10 ∷ []; repor
 abbrev pub reported : List Verdict → List ℕ → Answer
 reported vs bytes = record { status = status_from vs; bytes = bytes; reports = true }
 
+-- status 0 and these bytes
+abbrev pub done : List ℕ → Answer
+done bytes = record { status = 0; bytes = bytes; reports = true }
+
 abbrev pub which_of : Asked → Which
 which_of a.Ops = w.Ops
 which_of a.Check = w.All
 which_of (a.Trace name) = w.One name
 
--- a stage refuses the two texts
-abbrev pub RefusesTexts : List ℕ → List ℕ → Which → List Line → Answer → Type 0
-RefusesTexts m s which lines answer =
-    (fault : CheckFault) × Refuses m s which fault × (fault ≢ f.Memory) × (lines ≡ []) × (answer ≡ refusal (status_of fault) (fault_line fault))
+-- what a keeper holds before and after, where it is told, and how often each helper was asked before
+pub record Stores : Type 0 where
+  pub before : Option Tables
+  pub after : Option Tables
+  pub asked : List ℕ
 
--- the answer has what is said of the report of the two texts, whose lines are those of the book
-abbrev pub ReportsTexts : List ℕ → List ℕ → Which → ℕ → (Report → List ℕ) → List Line → Answer → Type 0
-ReportsTexts m s which budget said lines answer = (r : Report) × IsReport m s which budget lines r × (answer ≡ reported r.verdicts.items (said r))
+abbrev pub stores : Option Tables → Option Tables → List ℕ → Stores
+stores before after asked = record { before = before; after = after; asked = asked }
 
-abbrev pub AnswersTexts : List ℕ → List ℕ → Which → ℕ → (Report → List ℕ) → List Line → Answer → Type 0
-AnswersTexts m s which budget said lines answer = RefusesTexts m s which lines answer ⊎ ReportsTexts m s which budget said lines answer
+-- each proof that differs is one of some obligation, under its text, and all else is as before
+abbrev pub AddsSome : Option Tables → Option Tables → Type 0
+AddsSome before after = (obs : List Parts) × Told (AddsProofs obs) before after
 
--- a refusal of what has this name, and no line in the book
-abbrev pub RefusesBy : ℕ → List ℕ → List Line → Answer → Type 0
-RefusesBy status line lines answer = (lines ≡ []) × (answer ≡ refusal status line)
+-- a stage refuses the two texts, or the keeper failed; the proofs that differ are of obligations of the lines that are asked for
+pub record RefusesTexts (m s : List ℕ) (which : Which) (book : Book) (st : Stores) (answer : Answer) : Type 0 where
+  pub fault : CheckFault
+  pub refuses : Refuses m s which fault
+  pub no_memory : fault ≢ f.Memory
+  pub empty : book.lines.items ≡ []
+  pub left : AddsProofsOf (AreObsOfTexts m s which) st.before st.after
+  pub answer_is : answer ≡ refusal (status_of fault) (fault_line fault)
 
-abbrev pub AnswersJob : Job → Read → List Line → Answer → Type 0
-AnswersJob j NoModule lines answer = RefusesBy 6 (codes "read: " ++ j.module) lines answer
-AnswersJob j NoSet lines answer = RefusesBy 6 (codes "read: " ++ j.set) lines answer
-AnswersJob j (Both m s) lines answer = AnswersTexts m s (which_of j.asked) j.budget (report_bytes j.asked lines) lines answer
+-- the answer has what is said of the report of the two texts, whose lines are those of the book, settled over the keeper
+pub record ReportsTexts (m s : List ℕ) (which : Which) (budget workers : ℕ) (said : Report → List ℕ) (book : Book) (st : Stores) (answer : Answer) : Type 0 where
+  pub report : Report
+  pub is_report : IsReport m s which budget book.lines.items report
+  pub asked : List ℕ
+  pub settled : AreSettled workers book st.before st.after st.asked asked
+  pub answer_is : answer ≡ reported report.verdicts.items (said report)
 
--- the answer to a command, or to words that are none, with the lines of the book
-abbrev pub Answers : Option Command → Read → List Line → Answer → Type 0
-Answers None read lines answer = RefusesBy 2 (codes "usage") lines answer
-Answers (Some (c.Texts job)) read lines answer = AnswersJob job read lines answer
-Answers (Some (c.Demo n)) read lines answer = AnswersTexts (module_text n) (set_text n) w.All 20000 (summary n) lines answer
+abbrev pub AnswersTexts : List ℕ → List ℕ → Which → ℕ → ℕ → (Report → List ℕ) → Book → Stores → Answer → Type 0
+AnswersTexts m s which budget workers said book st answer = RefusesTexts m s which book st answer ⊎ ReportsTexts m s which budget workers said book st answer
+
+-- a refusal of what has this name, no line in the book, and nothing new at the keeper
+pub record RefusesBy (status : ℕ) (line : List ℕ) (book : Book) (st : Stores) (answer : Answer) : Type 0 where
+  pub empty : book.lines.items ≡ []
+  pub same : st.after ≡ st.before
+  pub answer_is : answer ≡ refusal status line
+
+abbrev pub AnswersJob : Job → Read → Book → Stores → Answer → Type 0
+AnswersJob j NoModule book st answer = RefusesBy 6 (codes "read: " ++ j.module) book st answer
+AnswersJob j NoSet book st answer = RefusesBy 6 (codes "read: " ++ j.set) book st answer
+AnswersJob j (Both m s) book st answer = AnswersTexts m s (which_of j.asked) j.budget j.workers (report_bytes j.asked book.lines.items) book st answer
+
+-- the keeper failed while rows were moved, or the answer tells what became of them, no line in the book
+pub record AnswersMove (book : Book) (st : Stores) (answer : Answer) : Type 0 where
+  pub empty : book.lines.items ≡ []
+  pub is : (answer ≡ refusal 8 (codes "keeper"))
+      ⊎ ((m : Moved) × Told (Walks (2 ^ 40) m) st.before st.after × (answer ≡ done (moved_text m)))
+
+-- what a run finds around it, or leaves: the desk that the keeper holds, with the book, and the port
+pub record Around : Type 0 where
+  pub desk : State
+  pub line : Wires
+
+abbrev pub around : State → Wires → Around
+around desk line = record { desk = desk; line = line }
+
+abbrev pub stores_of : Around → Around → Stores
+stores_of a b = stores a.desk.tables b.desk.tables a.desk.asked
+
+abbrev pub served_text : ℕ → List ℕ
+served_text n = codes "served " ++ counted_word n (codes "\n")
+
+-- all connections were served, or there was no next one
+abbrev pub AnswersService : Service → Around → Around → Answer → Type 0
+AnswersService s a b answer =
+    (ServesMany s.budget s.workers a.line a.desk s.count b.line b.desk × (answer ≡ done (served_text s.count)))
+    ⊎ (StopsWithin s.budget s.workers s.count a.line a.desk Next b.line b.desk × (answer ≡ refusal 9 (codes "port")))
+
+-- the answer to a command, or to words that are none, with what it finds around it and what it leaves; only a service touches the port
+abbrev pub Answers : Option Command → Read → Around → Around → Answer → Type 0
+Answers None read a b answer = (b.line ≡ a.line) × RefusesBy 2 (codes "usage") b.desk.book (stores_of a b) answer
+Answers (Some (c.Texts job)) read a b answer = (b.line ≡ a.line) × AnswersJob job read b.desk.book (stores_of a b) answer
+Answers (Some (c.Demo n)) read a b answer =
+    (b.line ≡ a.line) × AnswersTexts (module_text n) (set_text n) w.All 20000 4 (summary n) b.desk.book (stores_of a b) answer
+Answers (Some (c.Serve service)) read a b answer = AnswersService service a b answer
+Answers (Some (c.Migrate file)) read a b answer = (b.line ≡ a.line) × AnswersMove b.desk.book (stores_of a b) answer
+
+-- what a service leaves, whatever is answered: what some of its connections did
+pub record LeavesServed (s : Service) (a b : Around) : Type 0 where
+  pub served : ℕ
+  pub most : served ≤ s.count
+  pub line : Wires
+  pub did : ServesMany s.budget s.workers a.line a.desk served line b.desk
+
+-- what a command leaves at the keeper, whatever is answered: new proofs alone, what connections did, or rows that were moved
+abbrev pub LeavesRows : Option Command → Around → Around → Type 0
+LeavesRows None a b = AddsSome a.desk.tables b.desk.tables
+LeavesRows (Some (c.Texts job)) a b = AddsSome a.desk.tables b.desk.tables
+LeavesRows (Some (c.Demo n)) a b = AddsSome a.desk.tables b.desk.tables
+LeavesRows (Some (c.Serve service)) a b = LeavesServed service a b
+LeavesRows (Some (c.Migrate file)) a b = Told MovesRows a.desk.tables b.desk.tables
 
 -- ---- files
 
@@ -132,6 +221,8 @@ abbrev pub Reads : Option (List ℕ → Option (List ℕ)) → ℕ → ℕ → O
 Reads shelf before now None read = now ≡ before
 Reads shelf before now (Some (c.Texts job)) read = IsRead shelf before now job read
 Reads shelf before now (Some (c.Demo n)) read = now ≡ before
+Reads shelf before now (Some (c.Serve service)) read = now ≡ before
+Reads shelf before now (Some (c.Migrate file)) read = now ≡ before
 
 -- ---- output
 

@@ -2,7 +2,7 @@
 ghost use Rattle.std.specs.Prelude.{◌≡◌, ◌++◌, IfOk};
 ghost use Rattle.std.specs.List.{list_any};
 ghost use Rattle.fault_texts.specs.Texts.{fault_line, status_of};
-ghost use Rattle.signoff.specs.Run.{is_refuted, is_spent, refusal as refusal_of, reported, status_from};
+ghost use Rattle.signoff.specs.Run.{done, is_refuted, is_spent, refusal as refusal_of, reported, status_from};
 
 use check_faults::CheckFault;
 use fault_texts::{fault_line, status_of};
@@ -72,6 +72,17 @@ pub fn reported(verdicts: &[Verdict], bytes: Text) -> Answer
 {
     Answer {
         status: status_from(verdicts),
+        bytes,
+        reports: true,
+    }
+}
+
+/// All was done, and this is said.
+pub fn done(bytes: Text) -> Answer
+    ensures { result ≡ done bytes }
+{
+    Answer {
+        status: 0,
         bytes,
         reports: true,
     }

@@ -5,7 +5,8 @@ use crate::examples::{
 };
 use crate::run::signoff;
 use check_stages::bound_of;
-use outside::{File, MemShelf, MemSink, QuietGate, Text};
+use helper_box::Helper;
+use outside::{File, Gate, MemKeeper, MemPort, MemShelf, MemSink, QuietGate, Text};
 use reports::{Book, Verdict};
 use std::alloc::{AllocError, Global};
 use std::process::Abort;
@@ -16,7 +17,7 @@ use unroll::design_obs;
 use verdicts::Evidence;
 use word_dag::text;
 
-const COUNTER_REPORT: &[u8] = b"proved reset
+pub const COUNTER_REPORT: &[u8] = b"proved reset
 proved op step
 proved op hold
 proved split reset
@@ -48,6 +49,13 @@ pub struct Made {
     new: &'static [u8],
 }
 
+impl Made {
+    /// The text without what is put in place of a part of it.
+    pub fn text(self) -> &'static [u8] {
+        self.text
+    }
+}
+
 /// A text as it is.
 pub fn plain(text: &'static [u8]) -> Made {
     Made {
@@ -62,7 +70,8 @@ pub fn with(text: &'static [u8], old: &'static [u8], new: &'static [u8]) -> Made
     Made { text, old, new }
 }
 
-fn text_of(alloc: Global, made: Made) -> Result<Text, AllocError> {
+/// The bytes of a text.
+pub fn text_of(alloc: Global, made: Made) -> Result<Text, AllocError> {
     let at = made
         .text
         .windows(made.old.len().max(1))
@@ -99,10 +108,111 @@ fn words(alloc: Global, texts: &[&str]) -> Result<Vec<String>, AllocError> {
 
 /// What a run over two files gives: its status, what is put, and its book.
 #[derive(Drop)]
-struct Ran {
-    status: u8,
-    out: MemSink,
-    book: Book,
+pub struct Ran {
+    pub status: u8,
+    pub out: MemSink,
+    pub book: Book,
+}
+
+/// Runs words over two files, a keeper, a port, a gate and helpers; which calls of the shelf and of the sink fail.
+fn run_over(
+    rt: &(impl Threads + Sync + AllocGlobal),
+    texts: &[&str],
+    files: (Made, Made),
+    fails: (&[u64], &[u64]),
+    keeper: &mut MemKeeper,
+    port: &mut MemPort,
+    gate: &(impl Gate + Sync),
+    helpers: Vec<Box<dyn Helper>>,
+) -> Result<Ran, Fail> {
+    let alloc = rt.alloc();
+    let mut out = MemSink::new(alloc, fails.1.to_vec(alloc)?);
+    let mut book = Book::new(alloc);
+    let status = signoff(
+        rt,
+        alloc,
+        &words(alloc, texts)?,
+        &mut shelf(alloc, files.0, files.1, fails.0)?,
+        &mut out,
+        keeper,
+        port,
+        gate,
+        helpers,
+        &mut book,
+    );
+    Ok(Ran { status, out, book })
+}
+
+// A port without connections.
+fn idle(alloc: Global) -> Result<MemPort, AllocError> {
+    MemPort::new(alloc, Vec::new(alloc), 0, Vec::new(alloc))
+}
+
+/// Runs `check` over two files, a keeper and helpers.
+pub fn checked(
+    rt: &(impl Threads + Sync + AllocGlobal),
+    module: Made,
+    set: Made,
+    keeper: &mut MemKeeper,
+    helpers: Vec<Box<dyn Helper>>,
+) -> Result<Ran, Fail> {
+    let words = ["check", "M", "S"];
+    let none: [u64; 1] = [0];
+    let fails: (&[u64], &[u64]) = (&none[..0], &none[..0]);
+    let mut port = idle(rt.alloc())?;
+    let files = (module, set);
+    run_over(
+        rt, &words, files, fails, keeper, &mut port, &QuietGate, helpers,
+    )
+}
+
+/// Runs words over two files and a gate.
+pub fn gated(
+    rt: &(impl Threads + Sync + AllocGlobal),
+    texts: &[&str],
+    files: (Made, Made),
+    gate: &(impl Gate + Sync),
+) -> Result<Ran, Fail> {
+    let alloc = rt.alloc();
+    let none: [u64; 1] = [0];
+    let fails: (&[u64], &[u64]) = (&none[..0], &none[..0]);
+    let mut keeper = MemKeeper::new(alloc, Vec::new(alloc));
+    let mut port = idle(alloc)?;
+    let helpers = Vec::new(alloc);
+    run_over(
+        rt,
+        texts,
+        files,
+        fails,
+        &mut keeper,
+        &mut port,
+        gate,
+        helpers,
+    )
+}
+
+/// Runs words over a keeper and a port, without files and helpers.
+pub fn served(
+    rt: &(impl Threads + Sync + AllocGlobal),
+    texts: &[&str],
+    keeper: &mut MemKeeper,
+    port: &mut MemPort,
+) -> Result<Ran, Fail> {
+    let none: [u64; 1] = [0];
+    let fails: (&[u64], &[u64]) = (&none[..0], &none[..0]);
+    let files = (plain(b""), plain(b""));
+    let helpers = Vec::new(rt.alloc());
+    run_over(rt, texts, files, fails, keeper, port, &QuietGate, helpers)
+}
+
+/// Runs words over a keeper alone.
+pub fn over(
+    rt: &(impl Threads + Sync + AllocGlobal),
+    texts: &[&str],
+    keeper: &mut MemKeeper,
+) -> Result<Ran, Fail> {
+    let mut port = idle(rt.alloc())?;
+    served(rt, texts, keeper, &mut port)
 }
 
 fn run(
@@ -113,18 +223,19 @@ fn run(
     fails: (&[u64], &[u64]),
 ) -> Result<Ran, Fail> {
     let alloc = rt.alloc();
-    let mut out = MemSink::new(alloc, fails.1.to_vec(alloc)?);
-    let mut book = Book::new(alloc);
-    let status = signoff(
+    let mut keeper = MemKeeper::new(alloc, Vec::new(alloc));
+    let mut port = idle(alloc)?;
+    let helpers = Vec::new(alloc);
+    run_over(
         rt,
-        alloc,
-        &words(alloc, texts)?,
-        &mut shelf(alloc, module, set, fails.0)?,
-        &mut out,
+        texts,
+        (module, set),
+        fails,
+        &mut keeper,
+        &mut port,
         &QuietGate,
-        &mut book,
-    );
-    Ok(Ran { status, out, book })
+        helpers,
+    )
 }
 
 /// Runs words over two files, and wants a status and what is put.
@@ -190,7 +301,7 @@ const FREE_HOLD: Made = Made {
     new: b"commit q@1 == q@0;",
 };
 
-const STEP_ALONE: Made = Made {
+pub const STEP_ALONE: Made = Made {
     text: b"block counter; clock clk; reset rst high 1;
 input en; output [1:0] q;
 property reset { length 0; commit q@0 == 2'd0; cover q from 0 to 1; next step; }
@@ -417,7 +528,7 @@ fn spent(rt: HostRuntime) -> Result<(), Fail> {
 // A module's text, a set's, and the line of the fault.
 type Refusal = (Made, Made, &'static [u8]);
 
-const SET: Made = Made {
+pub const SET: Made = Made {
     text: COUNTER_SET,
     old: b"",
     new: b"",

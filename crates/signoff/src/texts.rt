@@ -1,10 +1,11 @@
 // What is answered to two texts.
-ghost use Rattle.std.specs.Prelude.{◌≡◌, ◌≢◌, ◌≤◌, ◌++◌, [], IfOk, OnOk};
+ghost use Rattle.std.specs.Prelude.{◌≡◌, ◌≢◌, ◌≤◌, ◌++◌, [], map, IfOk, OnOk};
 ghost use Rattle.std.specs.Fmt.{decimal};
 ghost use Rattle.command_words.specs.Commands.{HasBounds};
 ghost use Rattle.check_faults.specs.declared.fault.CheckFault.TheVariants.{Memory};
 ghost use Rattle.fault_texts.specs.Texts.{fault_line, status_of};
-ghost use Rattle.signoff.specs.Run.{AnswersTexts, counted, first_traced, refusal, report_bytes, summary, summary_line, which_of};
+ghost use Rattle.outside.specs.Faults.{Rose};
+ghost use Rattle.signoff.specs.Run.{AddsSome, AnswersTexts, counted, first_traced, refusal, report_bytes, stores, summary, summary_line, which_of};
 ghost use Rattle.reports.specs.Reports.{last_line};
 ghost use Rattle.demo_gen.specs.Texts.{module_text, set_text};
 ghost use Rattle.reports.specs.declared.which.Which.TheVariants as w;
@@ -14,9 +15,11 @@ use check_faults::CheckFault;
 use command_words::{Asked, Job};
 use demo_gen::{module_text, set_text};
 use desk_core::check;
-use outside::{Gate, Text};
+use helper_box::Helper;
+use outside::{Gate, Keeper, Text};
+use proof_store::Settings;
 use replay::trace_text;
-use reports::{Book, Line, Report, Settings, Verdict, Which};
+use reports::{Book, Line, Report, Verdict, Which};
 use std::alloc::{AllocError, Global};
 use std::thread::Threads;
 
@@ -72,18 +75,23 @@ fn turned_down(alloc: Global, fault: CheckFault) -> Result<Answer, AllocError>
 }
 
 /// The answer to two texts.
-pub fn judged<R: Threads + Sync, G: Gate + Sync>(
+pub fn judged<R: Threads + Sync, K: Keeper, H: Helper, G: Gate + Sync>(
     rt: &R,
     alloc: Global,
     job: &Job,
     module: &Text,
     set: &Text,
+    keeper: &mut K,
+    helpers: &mut Vec<H>,
     gate: &G,
     book: &mut Book,
 ) -> Result<Answer, AllocError>
     requires bounds { HasBounds job.now }
     requires empty { book.old.lines.items ≡ [] }
-    ensures { IfOk result (AnswersTexts «module».now set.now (which_of job.now.asked) job.now.budget (report_bytes job.now.asked book.new.lines.items) book.new.lines.items) }
+    ensures answer { IfOk result (AnswersTexts «module».now set.now (which_of job.now.asked) job.now.budget job.now.workers (report_bytes job.now.asked book.new.lines.items) book.new
+        (stores (K.tables keeper.old) (K.tables keeper.new) (map H.asked helpers.old.items))) }
+    ensures left { AddsSome (K.tables keeper.old) (K.tables keeper.new) }
+    ensures keeper { IfOk result (λ a. a.status ≡ 8 → Rose (K.faults keeper.old) (K.faults keeper.new)) }
 {
     let which = which_of(alloc, &job.asked)?;
     let settings = Settings {
@@ -96,7 +104,9 @@ pub fn judged<R: Threads + Sync, G: Gate + Sync>(
         module.bytes(),
         set.bytes(),
         &which,
-        settings,
+        &settings,
+        keeper,
+        helpers,
         gate,
         book,
     ) {
@@ -180,16 +190,21 @@ fn summary(alloc: Global, stages: u32, report: &Report) -> Result<Text, AllocErr
 }
 
 /// The answer to the generated texts of so many stages.
-pub fn demonstrated<R: Threads + Sync, G: Gate + Sync>(
+pub fn demonstrated<R: Threads + Sync, K: Keeper, H: Helper, G: Gate + Sync>(
     rt: &R,
     alloc: Global,
     stages: u32,
+    keeper: &mut K,
+    helpers: &mut Vec<H>,
     gate: &G,
     book: &mut Book,
 ) -> Result<Answer, AllocError>
     requires stages { (1 ≤ stages) × (stages ≤ 64) }
     requires empty { book.old.lines.items ≡ [] }
-    ensures { IfOk result (AnswersTexts (module_text stages) (set_text stages) w.All 20000 (summary stages) book.new.lines.items) }
+    ensures answer { IfOk result (AnswersTexts (module_text stages) (set_text stages) w.All 20000 4 (summary stages) book.new
+        (stores (K.tables keeper.old) (K.tables keeper.new) (map H.asked helpers.old.items))) }
+    ensures left { AddsSome (K.tables keeper.old) (K.tables keeper.new) }
+    ensures keeper { IfOk result (λ a. a.status ≡ 8 → Rose (K.faults keeper.old) (K.faults keeper.new)) }
 {
     let module = module_text(alloc, stages)?;
     let set = set_text(alloc, stages)?;
@@ -203,7 +218,9 @@ pub fn demonstrated<R: Threads + Sync, G: Gate + Sync>(
         module.bytes(),
         set.bytes(),
         &Which::All,
-        settings,
+        &settings,
+        keeper,
+        helpers,
         gate,
         book,
     ) {

@@ -2,18 +2,8 @@ use Rattle.std.proofs.Common.{◌≡◌, List, map, subst}
 use Rattle.std.proofs.lemmas.Result.{err_from_is_err_and}
 use Rattle.reports.specs.declared.book.Line.{Line as Told}
 use Rattle.reports.specs.Reports.{is_complete, report_text}
-use Rattle.desk_core.proofs.Reporting.{is_report, lacks_asked, stage_refuses}
+use Rattle.desk_core.proofs.Reporting.{is_report}
 use Rattle.desk_core.proofs.checking.check.Goals as goal
-
-pub returns-in_err-bound-clause-refuses : goal.returns-in_err-bound-clause-refuses
-returns-in_err-bound-clause-refuses g c =
-    let p = err_from_is_err_and c.from_residual.result c.from_residual.ensures.1 in
-    rw (p.1, p.2) (stage_refuses c.args.module.now c.args.set.now c.args.which.now c.in_err-bound.field-0.0 c.in_err-bound.ensures.err)
-
-pub returns-in_err-decided-clause-refuses : goal.returns-in_err-decided-clause-refuses
-returns-in_err-decided-clause-refuses g c =
-    let p = err_from_is_err_and c.from_residual-in_err-decided.result c.from_residual-in_err-decided.ensures.1 in
-    rw (p.1, p.2) (lacks_asked c.args.module.now c.args.set.now c.in_ok-bound.bound c.args.which.now c.in_err-decided.field-0.0 c.in_ok-bound.ensures.ok c.in_err-decided.ensures.err)
 
 pub returns-in_err-report-clause-refuses : goal.returns-in_err-report-clause-refuses
 returns-in_err-report-clause-refuses g c =
@@ -29,4 +19,5 @@ returns-clause-report g c =
     let text = subst (λ (z : List Told). r.text ≡ report_text which z) same c.in_ok-report.ensures.text in
     let verdicts = subst (λ (z : List Told). r.verdicts.items ≡ map (λ (d : Told). d.verdict) z) same c.in_ok-report.ensures.verdicts in
     let complete = subst (λ (z : List Told). r.complete ≡ is_complete which z) same c.in_ok-report.ensures.complete in
-    is_report c.args.module.now c.args.set.now c.in_ok-bound.bound which c.args.settings.budget ds r c.in_ok-bound.ensures.ok c.in_ok-decided.ensures.lines text verdicts complete
+    let of_texts = c.in_ok-decided.ensures.lines in
+    is_report c.args.module.now c.args.set.now of_texts.0 which c.args.settings.now.budget ds r of_texts.1 of_texts.2 text verdicts complete

@@ -3,6 +3,4 @@ use Rattle.helper_box.proofs.Turns.{after}
 use Rattle.helper_box.proofs.offering.ask_each.Given as goal
 
 abbrev pub invariant-loop-helper : goal.invariant-loop-helper
-invariant-loop-helper g l =
-    map (λ b. (goal.Helper-dyn g (b.vtable, b.value)).asked b.value) l.helpers
-    ≡ after l.helper-index (map (λ b. (goal.Helper-dyn g (b.vtable, b.value)).asked b.value) l.fn.helpers)
+invariant-loop-helper g l = map g.H.Helper.asked l.helpers ≡ after l.helper-index (map g.H.Helper.asked l.fn.helpers)

@@ -11,7 +11,5 @@ invariant-loop-one g l = record {
   placed : AllZip (IsPlaced (g.K.Keeper.tables l.fn.keeper)) (take l.one-index l.named) l.places.items;
   same : g.K.Keeper.tables l.keeper ≡ g.K.Keeper.tables l.fn.keeper;
   later : g.K.Keeper.faults l.fn.keeper ≤ g.K.Keeper.faults l.keeper;
-  rose : FirstRose (sum_by asked_for l.places.items)
-      (map (λ b. (goal.Helper-dyn g (b.vtable, b.value)).asked b.value) l.fn.helpers.items)
-      (map (λ b. (goal.Helper-dyn g (b.vtable, b.value)).asked b.value) l.helpers.items);
+  rose : FirstRose (sum_by asked_for l.places.items) (map g.H.Helper.asked l.fn.helpers.items) (map g.H.Helper.asked l.helpers.items);
 }

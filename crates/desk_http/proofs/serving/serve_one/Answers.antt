@@ -1,0 +1,20 @@
+use Rattle.http_connection.proofs.Sent.{serves_asked, serves_idly}
+use Rattle.desk_http.specs.Serving.{Acts}
+use Rattle.desk_http.proofs.Keeping.{keeps_same}
+use Rattle.desk_http.proofs.serving.serve_one.Goals as goal
+
+pub returns-in_err-served-clause-keeps : goal.returns-in_err-served-clause-keeps
+returns-in_err-served-clause-keeps g c = keeps_same _
+
+pub returns-in-Done-clause-keeps : goal.returns-in-Done-clause-keeps
+returns-in-Done-clause-keeps g c = keeps_same _
+
+pub returns-in-Done-clause-serves : goal.returns-in-Done-clause-serves
+returns-in-Done-clause-serves g c =
+    let h = rw c.in-Done.is at c.in_ok-served.ensures.receives in
+    serves_idly (Acts c.args.settings.now.budget c.args.settings.now.workers) _ _ _ _ _ _ h
+
+pub returns-in-Act-clause-serves : goal.returns-in-Act-clause-serves
+returns-in-Act-clause-serves g c =
+    let h = rw c.in-Act.is at c.in_ok-served.ensures.receives in
+    serves_asked (Acts c.args.settings.now.budget c.args.settings.now.workers) _ _ _ _ _ _ _ _ c.in-Act.command _ _ h.0 h.1 h.2 c.carry_out-outcome.ensures.acts c.reply_to.ensures.sends

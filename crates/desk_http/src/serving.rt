@@ -1,0 +1,87 @@
+// Connections served one after another.
+ghost use Rattle.std.specs.Prelude.{◌≡◌, IfErr, OnErr, OnOk, map};
+ghost use Rattle.outside.specs.Faults.{Rose};
+ghost use Rattle.desk_http.specs.Serving.{Acts, Keeps, ServesMany, ServesOne, StopsWithin, line, state};
+
+use desk_commands::{Answer, Command, DeskFault};
+use desk_core::act;
+use helper_box::Helper;
+use http_connection::{Incoming, ServeFault, Served, receive, reply_to};
+use outside::{Gate, Keeper, Port};
+use proof_store::Settings;
+use reports::Book;
+use std::alloc::Global;
+use std::thread::Threads;
+
+// Carries out a command.
+fn carry_out<R: Threads + Sync, K: Keeper, H: Helper, G: Gate + Sync>(
+    rt: &R,
+    alloc: Global,
+    command: &Command,
+    settings: &Settings,
+    keeper: &mut K,
+    helpers: &mut Vec<H>,
+    gate: &G,
+    book: &mut Book,
+) -> Result<Answer, DeskFault>
+    ensures acts { Acts settings.now.budget settings.now.workers command.now result (state (K.tables keeper.old) (K.faults keeper.old) (map H.asked helpers.old.items) book.old) (state (K.tables keeper.new) (K.faults keeper.new) (map H.asked helpers.new.items) book.new) }
+    ensures keeps { Keeps (state (K.tables keeper.old) (K.faults keeper.old) (map H.asked helpers.old.items) book.old) (state (K.tables keeper.new) (K.faults keeper.new) (map H.asked helpers.new.items) book.new) }
+{
+    act(rt, alloc, command, settings, keeper, helpers, gate, book)
+}
+
+/// Takes one connection, reads one request, carries out its command at the desk that the keeper holds, writes one reply and finishes. Where memory runs
+/// out once the request began, the reply is the fixed text with the status 507.
+///
+/// It is refused with `Next` where the port gave no next connection: its count of faults for that rose in this call, or stands at its last value. It is
+/// refused with `Memory` for want of memory before the request began.
+pub fn serve_one<R: Threads + Sync, P: Port, K: Keeper, H: Helper, G: Gate + Sync>(
+    rt: &R,
+    alloc: Global,
+    port: &mut P,
+    settings: &Settings,
+    keeper: &mut K,
+    helpers: &mut Vec<H>,
+    gate: &G,
+    book: &mut Book,
+) -> Result<Served, ServeFault>
+    ensures serves { ServesOne settings.now.budget settings.now.workers (line (P.wire port.old) (P.faults port.old)) (state (K.tables keeper.old) (K.faults keeper.old) (map H.asked helpers.old.items) book.old) result (line (P.wire port.new) (P.faults port.new)) (state (K.tables keeper.new) (K.faults keeper.new) (map H.asked helpers.new.items) book.new) }
+    ensures keeps { Keeps (state (K.tables keeper.old) (K.faults keeper.old) (map H.asked helpers.old.items) book.old) (state (K.tables keeper.new) (K.faults keeper.new) (map H.asked helpers.new.items) book.new) }
+    ensures next_ok { OnOk result (P.next_faults port.new ≡ P.next_faults port.old) }
+    ensures next_err { OnErr result (Rose (P.next_faults port.old) (P.next_faults port.new)) }
+{
+    match receive(alloc, port)? {
+        Incoming::Done(served) => Ok(served),
+        Incoming::Act(command) => {
+            let outcome = carry_out(rt, alloc, &command, settings, keeper, helpers, gate, book);
+            Ok(reply_to(alloc, port, &outcome))
+        }
+    }
+}
+
+/// Serves so many connections, one after another, by the desk that the keeper holds: each finds the tables and the book as the one before left them. A
+/// connection that the peer broke off or that failed counts as one. Whoever begins with a desk whose reports are of its texts ends with one.
+///
+/// It stops at the first connection that can't be taken, and is refused as `serve_one` is.
+pub fn serve<R: Threads + Sync, P: Port, K: Keeper, H: Helper, G: Gate + Sync>(
+    rt: &R,
+    alloc: Global,
+    count: u32,
+    port: &mut P,
+    settings: &Settings,
+    keeper: &mut K,
+    helpers: &mut Vec<H>,
+    gate: &G,
+    book: &mut Book,
+) -> Result<(), ServeFault>
+    ensures ok { OnOk result (ServesMany settings.now.budget settings.now.workers (line (P.wire port.old) (P.faults port.old)) (state (K.tables keeper.old) (K.faults keeper.old) (map H.asked helpers.old.items) book.old) count (line (P.wire port.new) (P.faults port.new)) (state (K.tables keeper.new) (K.faults keeper.new) (map H.asked helpers.new.items) book.new)) }
+    ensures err { IfErr result (λ fault. StopsWithin settings.now.budget settings.now.workers count (line (P.wire port.old) (P.faults port.old)) (state (K.tables keeper.old) (K.faults keeper.old) (map H.asked helpers.old.items) book.old) fault (line (P.wire port.new) (P.faults port.new)) (state (K.tables keeper.new) (K.faults keeper.new) (map H.asked helpers.new.items) book.new)) }
+    ensures keeps { Keeps (state (K.tables keeper.old) (K.faults keeper.old) (map H.asked helpers.old.items) book.old) (state (K.tables keeper.new) (K.faults keeper.new) (map H.asked helpers.new.items) book.new) }
+    ensures next_ok { OnOk result (P.next_faults port.new ≡ P.next_faults port.old) }
+    ensures next_err { OnErr result (Rose (P.next_faults port.old) (P.next_faults port.new)) }
+{
+    for _served in 0..count {
+        serve_one(rt, alloc, port, settings, keeper, helpers, gate, book)?;
+    }
+    Ok(())
+}

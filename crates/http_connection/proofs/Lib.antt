@@ -1,0 +1,5 @@
+pub mod Joined
+pub mod Rests
+pub mod Sent
+pub mod Settled
+pub mod Unique

@@ -1,0 +1,5 @@
+pub mod Request
+pub mod Serve
+pub mod Body
+pub mod Rest
+pub mod OneRequest
