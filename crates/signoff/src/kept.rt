@@ -1,21 +1,17 @@
 // Checks over a keeper of proofs, and with helpers.
 use crate::examples::{COUNTER, COUNTER_SET};
-use crate::rows::{COUNTER_REPORT, Ran, SET, STEP_ALONE, checked, over, plain, with};
-use check_stages::bound_of;
+use crate::rows::{COUNTER_REPORT, Ran, SET, STEP_ALONE, checked, plain, with};
 use clause_check::{Clause, Cnf, Step};
 use desk_core::check;
 use helper_box::{Claim, Helper, Table};
-use line_obs::obs_of_all;
-use outside::{Keeper, MemKeeper, QuietGate};
-use proof_store::{Settings, migrate};
+use outside::{MemKeeper, QuietGate};
+use proof_store::Settings;
 use reports::{Book, Which};
 use std::alloc::{AllocError, Global};
 use std::process::Abort;
 use std::test::Fail;
 use std::thread::Threads;
-use step_records::{fits_version_1, read_steps, write_steps_1};
-use unroll::design_obs;
-use word_dag::{Ob, text};
+use word_dag::Ob;
 
 // Claims that one empty clause without hints refutes each obligation.
 #[derive(Drop)]
@@ -78,34 +74,6 @@ fn proofs_are_kept(rt: HostRuntime) -> Result<(), Fail> {
     assert_eq!(rt; ran.book.kept, 12);
     assert_eq!(rt; ran.book.solved, 9);
     Ok(())
-}
-
-// The text of the obligation of the counter's step.
-fn step_key(alloc: Global) -> Result<Vec<u8>, Fail> {
-    let bound = bound_of(alloc, COUNTER, COUNTER_SET).ok().ok_or("refused")?;
-    let obs = design_obs(alloc, &bound)?;
-    let step = obs.as_slice().get(1).ok_or("no line")?;
-    Ok(text(alloc, &step.ob)?)
-}
-
-// Changes the first byte of what is kept for the counter's step.
-fn damage(alloc: Global, keeper: &mut MemKeeper) -> Result<(), Fail> {
-    let key = step_key(alloc)?;
-    let mut bytes = keeper.proof(alloc, &key)?.ok_or("not kept")?;
-    if let Some(first) = bytes.first_mut() {
-        *first = 0x45;
-    }
-    keeper.put_proof(alloc, &key, &bytes)?;
-    Ok(())
-}
-
-#[test]
-fn damaged_proofs_are_found_anew(rt: HostRuntime) -> Result<(), Fail> {
-    let alloc = rt.alloc();
-    let mut keeper = empty(alloc);
-    counted(&rt, &mut keeper, (0, 21))?;
-    damage(alloc, &mut keeper)?;
-    counted(&rt, &mut keeper, (20, 1))
 }
 
 #[test]
@@ -179,85 +147,4 @@ fn a_false_helper_is_asked_for_each_line(rt: HostRuntime) -> Result<(), Fail> {
     };
     assert_eq!(rt; helper.offers(), 10);
     Ok(())
-}
-
-// Puts the record of an obligation's proof again as one of version 1.
-fn put_first(alloc: Global, keeper: &mut MemKeeper, ob: &Ob) -> Result<(), Fail> {
-    let key = text(alloc, ob)?;
-    let bytes = keeper.proof(alloc, &key)?.ok_or("not kept")?;
-    let steps = read_steps(alloc, &bytes)?.ok_or("no record")?;
-    if fits_version_1(&steps) {
-        let first = write_steps_1(alloc, &steps)?;
-        keeper.put_proof(alloc, &key, &first)?;
-    }
-    Ok(())
-}
-
-// Checks the counter, and puts the records of its proofs again as records of version 1.
-fn first_records(
-    rt: &(impl Threads + Sync + Abort + AllocGlobal),
-    keeper: &mut MemKeeper,
-) -> Result<(), Fail> {
-    let alloc = rt.alloc();
-    counted(rt, keeper, (0, 21))?;
-    let bound = bound_of(alloc, COUNTER, COUNTER_SET).ok().ok_or("refused")?;
-    for named in &obs_of_all(alloc, &bound)? {
-        put_first(alloc, keeper, &named.ob)?;
-    }
-    Ok(())
-}
-
-// Moves the rows of a keeper, and wants a status and what is put.
-fn migrated(
-    rt: &(impl Threads + Sync + Abort + AllocGlobal),
-    keeper: &mut MemKeeper,
-    want: (u8, &[u8]),
-) -> Result<(), Fail> {
-    let ran = over(rt, &["migrate", "desk.db"], keeper)?;
-    assert_eq!(rt; ran.out.bytes(), want.1);
-    assert_eq!(rt; ran.status, want.0);
-    Ok(())
-}
-
-#[test]
-fn rows_are_moved(rt: HostRuntime) -> Result<(), Fail> {
-    let alloc = rt.alloc();
-    let mut keeper = empty(alloc);
-    first_records(&rt, &mut keeper)?;
-    migrated(&rt, &mut keeper, (0, b"migrated 21, left 0\n"))?;
-    migrated(&rt, &mut keeper, (0, b"migrated 0, left 21\n"))?;
-    counted(&rt, &mut keeper, (21, 0))
-}
-
-#[test]
-fn damaged_rows_stay(rt: HostRuntime) -> Result<(), Fail> {
-    let alloc = rt.alloc();
-    let mut keeper = empty(alloc);
-    first_records(&rt, &mut keeper)?;
-    damage(alloc, &mut keeper)?;
-    migrated(&rt, &mut keeper, (0, b"migrated 20, left 1\n"))
-}
-
-#[test]
-fn a_move_stops_at_so_many_rows(rt: HostRuntime) -> Result<(), Fail> {
-    let alloc = rt.alloc();
-    let mut keeper = empty(alloc);
-    first_records(&rt, &mut keeper)?;
-    let ended = migrate(alloc, &mut keeper, 20).ok().ok_or("refused")?;
-    assert_eq!(rt; (ended.moved, ended.left), (20, 0));
-    assert!(rt; ended.more);
-    migrated(&rt, &mut keeper, (0, b"migrated 1, left 20\n"))
-}
-
-#[test]
-fn a_failed_move_goes_on(rt: HostRuntime) -> Result<(), Fail> {
-    let alloc = rt.alloc();
-    let mut keeper = empty(alloc);
-    first_records(&rt, &mut keeper)?;
-    // the third row is put by the ninth call
-    let ninth: [u64; 1] = [9];
-    keeper.set_fails(ninth.to_vec(alloc)?);
-    migrated(&rt, &mut keeper, (8, b"keeper\n"))?;
-    migrated(&rt, &mut keeper, (0, b"migrated 19, left 2\n"))?;
-    counted(&rt, &mut keeper, (21, 0))
 }

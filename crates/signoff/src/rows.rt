@@ -205,16 +205,6 @@ pub fn served(
     run_over(rt, texts, files, fails, keeper, port, &QuietGate, helpers)
 }
 
-/// Runs words over a keeper alone.
-pub fn over(
-    rt: &(impl Threads + Sync + AllocGlobal),
-    texts: &[&str],
-    keeper: &mut MemKeeper,
-) -> Result<Ran, Fail> {
-    let mut port = idle(rt.alloc())?;
-    served(rt, texts, keeper, &mut port)
-}
-
 fn run(
     rt: &(impl Threads + Sync + AllocGlobal),
     texts: &[&str],
