@@ -1,5 +1,5 @@
 -- The parts of left sides, as targets.
-use Rattle.std.proofs.Common.{arith, ◌≡◌, ℕ, zero, suc, ◌+◌, ◌-◌, ◌<◌, ◌≤◌, Bool, true, false, List, [], ◌∷◌, ◌++◌, ◌&&◌, length, get_or, drop, map, refl, sym, ap, ◌∙◌, subst, Some, ℤ, pos, negsuc, ◌+ℤ◌, ◌-ℤ◌, ◌≤ℤ◌, ◌<ℤ◌, ◌^◌}
+use Rattle.std.proofs.Common.{arith, ◌≡◌, ℕ, zero, suc, ◌+◌, ◌-◌, ◌<◌, ◌≤◌, Bool, true, false, List, [], ◌∷◌, ◌++◌, ◌&&◌, length, get_or, map, refl, sym, ap, ◌∙◌, subst, Some, None, ℤ, pos, negsuc, ◌+ℤ◌, ◌-ℤ◌, ◌≤ℤ◌, ◌<ℤ◌, ◌^◌}
 use Rattle.std.specs.Prelude.{nat_eq, if◌then◌else◌}
 use Rattle.std.specs.List.{flat_map}
 use Rattle.std.specs.Str.{bytes_eq}
@@ -12,7 +12,7 @@ use Rattle.word_dag.specs.Adding.{Keeps}
 use Rattle.vlog_tree.specs.declared.expr.Constant.{Constant}
 use Rattle.vlog_tree.specs.declared.expr.Expr.{Expr}
 use Rattle.vlog_tree.specs.declared.valuation.Entry.{Entry}
-use Rattle.vlog_tree.specs.Valuation.{IsLength, named, depth_of}
+use Rattle.vlog_tree.specs.Valuation.{IsLength, named, depth_of, place_at}
 use Rattle.vlog_tree.specs.declared.expr.Span.{Span}
 use Rattle.vlog_tree.specs.declared.expr.Span.TheVariants as w
 use Rattle.vlog_tree.specs.declared.stmt.Lval.{Lval, Row_of-Lval, end_of-Lval, more_of-Lval, items-the_row-Lval, items_hidden-the_row-Lval-0}
@@ -27,6 +27,7 @@ use Rattle.elab_node.specs.Leaves.{declared, valued, leaf_at, AreReady, AreWide}
 use Rattle.elab_node.specs.Leaves as ls
 use Rattle.elab_node.specs.Nodes.{number_at, words}
 use Rattle.elab_node.specs.Terms.{nothing, HasNode, IsTaken, IsAlone}
+use Rattle.elab_node.proofs.Placed.{leaf_placed, leaf_absent}
 use Rattle.elab_node.proofs.Kept.{valued_kept, number_kept}
 use Rattle.elab_node.proofs.Read.{named_leaf, depth_is, stands_leaf}
 use Rattle.elab_node.proofs.Shaped.{shape_valued, alone_taken}
@@ -167,14 +168,24 @@ same_leaf (y ∷ es) (suc i) k l lt p q = same_leaf es i k l (omega arith) p q
 abbrev pub leaf_read : (es : List Leaf) (x : Name) (i : ℕ) (l : Leaf) → l ≡ get_or es i l → IsLeafAt es x i → IsLeafAt es x i
 leaf_read es x i l e h = record { leaf = l; within = h.within; at = e; found = h.found ∙ ap Some (same_leaf es i h.leaf l h.within h.at e) }
 
-pub leaf_none : (es : List Leaf) (x : Name) (i : ℕ) → Stands (declared es) (read x) → length es ≤ i → leaf_at es x 0 ≡ leaf_at (drop i es) x 0 → ⊥
-leaf_none es x i h le is = stands_leaf es (read x) h (is ∙ ap (λ z. leaf_at z x 0) (gone es i le))
+-- the place of a name is the number of its leaf
+pub leaf_there : (es : List Leaf) (x : Name) (i : ℕ) → place_at (declared es) x 0 ≡ Some i → IsLeafAt es x i
+leaf_there es x i e =
+    let r = leaf_placed es x 0 i e in
+    let d = some es r.0 in
+    record { leaf = get_or es i d; within = r.0; at = again es i d r.0; found = r.1 d }
   where
-    gone : (es : List Leaf) (i : ℕ) → length es ≤ i → drop i es ≡ []
-    gone [] zero le = refl
-    gone [] (suc i) le = refl
-    gone (l ∷ es) zero le = absurd (omega arith)
-    gone (l ∷ es) (suc i) le = gone es i (omega arith)
+    some : (ls : List Leaf) → i < length ls → Leaf
+    some [] lt = absurd (omega arith)
+    some (l ∷ ls) lt = l
+
+    again : (ls : List Leaf) (j : ℕ) (d : Leaf) → j < length ls → get_or ls j d ≡ get_or ls j (get_or ls j d)
+    again [] j d lt = absurd (omega arith)
+    again (l ∷ ls) zero d lt = refl
+    again (l ∷ ls) (suc j) d lt = again ls j d (omega arith)
+
+pub leaf_none : (es : List Leaf) (x : Name) → Stands (declared es) (read x) → place_at (declared es) x 0 ≡ None → ⊥
+leaf_none es x h e = stands_leaf es (read x) h (leaf_absent es x 0 e)
 
 pub wide_leaf : (es : List Leaf) (i : ℕ) (l : Leaf) → AreWide es → i < length es → l ≡ get_or es i l → IsLength l.width
 wide_leaf [] i l w lt e = absurd (omega arith)

@@ -30,13 +30,10 @@ fn leaf_number(name: &Text, leaves: &Leaves) -> usize
     requires { Stands (declared leaves.now) (read name.now) }
     ensures { IsLeafAt leaves.now name.now result }
 {
-    for i in 0..leaves.len() {
-        let leaf = leaves.leaf(i);
-        if leaf.offset == 0 && leaf.name.bytes() == name.bytes() {
-            return i;
-        }
+    match leaves.place(name.bytes(), 0) {
+        Some(number) => number,
+        None => unreachable!(),
     }
-    unreachable!()
 }
 
 /// The length and the sign that an expression has by itself.

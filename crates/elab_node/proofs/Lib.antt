@@ -1,4 +1,5 @@
 pub mod Leaving
+pub mod Placed
 pub mod Fits
 pub mod Kept
 pub mod Alike

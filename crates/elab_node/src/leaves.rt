@@ -24,7 +24,7 @@ pub struct Leaf {
 #[derive(Drop)]
 pub struct Leaves {
     leaves: Vec<Leaf>,
-    // The same names with the value 0.
+    // The same names with the value 0, in which they are found.
     entries: Valuation,
 }
 
@@ -42,7 +42,7 @@ impl Model for Leaves {
 
 impl Leaves {
     ghost use Rattle.elab_node.specs.Leaves.{leaf_at, declared, AreWide, with_node};
-    ghost use Rattle.vlog_tree.specs.Valuation.{IsLength};
+    ghost use Rattle.vlog_tree.specs.Valuation.{IsLength, place_at};
 
     /// No leaves. It takes no memory: the allocator is kept for what is added.
     pub fn new(alloc: Global) -> Leaves
@@ -69,18 +69,22 @@ impl Leaves {
         &self.leaves[i]
     }
 
+    /// The place of the first leaf of this name at this offset.
+    pub fn place(&self, name: &[u8], offset: u32) -> Option<usize>
+        ensures { result ≡ place_at (declared self.now) name.now offset }
+    {
+        self.entries.place(name, offset)
+    }
+
     /// The first leaf of this name at this offset.
     pub fn find(&self, name: &[u8], offset: u32) -> Option<&Leaf>
         ensures found { IfSome result (λ l. leaf_at self.now name.now offset ≡ Some l.now) }
         ensures none { IfNone result (leaf_at self.now name.now offset ≡ None) }
     {
-        let leaves = self.leaves.as_slice();
-        for leaf in leaves {
-            if leaf.offset == offset && leaf.name.bytes() == name {
-                return Some(leaf);
-            }
+        match self.place(name, offset) {
+            Some(place) => Some(&self.leaves[place]),
+            None => None,
         }
-        None
     }
 
     /// The names as they are declared, each with the value 0.

@@ -5,6 +5,7 @@ pub mod Drivers
 pub mod Elaborating
 pub mod Texts
 pub mod Boards
+pub mod Alone
 pub mod Runs
 pub mod Edges
 pub mod Solutions

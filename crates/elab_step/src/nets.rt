@@ -1,22 +1,24 @@
 // Nets, solved one after another.
-ghost use Rattle.std.specs.Prelude.{◌≡◌, ◌<◌, ◌≤◌, ◌+◌, true, length, IfOk, [], ℕ};
+ghost use Rattle.std.specs.Prelude.{◌≡◌, ◌<◌, ◌≤◌, ◌+◌, true, length, IfOk, IfSome, [], ◌∷◌, ℕ};
 ghost use Rattle.word_dag.specs.Adding.{Keeps};
-ghost use Rattle.vlog_runs.specs.Blocks.{run};
+ghost use Rattle.vlog_runs.specs.Blocks.{run, left_names};
 ghost use Rattle.vlog_runs.specs.Places.{Among};
 ghost use Rattle.vlog_runs.specs.Cycles.{flat_place};
 ghost use Rattle.elab_node.specs.Leaves.{declared, with_node};
 ghost use Rattle.elab_node.specs.Nodes.{IsNode};
 ghost use Rattle.elab_block.specs.Standing.{nodes_of, with_nodes};
-ghost use Rattle.elab_step.specs.Solving.{taking, driven, settled, solved, processes};
+ghost use Rattle.elab_step.specs.Solving.{assigned_by, taking, driven, settled, solved, processes};
 ghost use Rattle.elab_step.specs.Asked.{CanElaborate};
 ghost use Rattle.elab_step.specs.Boards.{IsBoard, Shows, statements, statement_at, picked, node_at, name_of, names_of, list_at, ArePlacesOf};
 
 use crate::nodes::zero;
 use elab_block::{assign, run};
 use elab_node::Leaves;
+use flow_laws::bits_stay;
+use outside::Text;
 use std::alloc::{AllocError, Global};
 use vlog_runs::{Always, Flat};
-use vlog_tree::Assign;
+use vlog_tree::{Assign, Lval};
 use word_dag::Dag;
 
 // Runs a continuous assignment on the leaves.
@@ -112,8 +114,36 @@ fn restore(state: &mut Leaves, nodes: &[u64], kept: usize)
     state.set_node(kept, node);
 }
 
-// Gives the leaf of a net what a statement makes of it, and leaves the others as they are.
-fn drive(
+// The name that a left side assigns, where it is no concatenation.
+fn single_name(left: &Lval) -> Option<&Text>
+    ensures { IfSome result (λ x. left_names left.now ≡ x.now ∷ []) }
+{
+    match left {
+        Lval::Name(name) => Some(name),
+        Lval::Select(name, _) => Some(name),
+        Lval::Part(name, _, _, _) => Some(name),
+        Lval::Concat(_) => None,
+    }
+}
+
+// Whether a statement is seen to assign nothing but a net: it is a continuous assignment to the net, to a bit or to a part of it.
+fn assigns_alone(flat: &Flat, place: usize, net: usize) -> bool
+    requires { net < length flat.now.signals }
+    ensures { result ≡ true → assigned_by (statement_at (statements flat.now) place) ≡ name_of flat.now.signals net ∷ [] }
+{
+    if place >= flat.assigns.len() {
+        return false;
+    }
+    let text = &flat.assigns.as_slice()[place];
+    let signal = &flat.signals.as_slice()[net];
+    match single_name(&text.left) {
+        Some(name) => name.bytes() == signal.name.bytes(),
+        None => false,
+    }
+}
+
+// Gives the leaf of a net what a statement makes of it, and the others the nodes that they had.
+fn drive_shared(
     alloc: Global,
     dag: &mut Dag,
     flat: &Flat,
@@ -133,6 +163,58 @@ fn drive(
     let before = nodes_of(alloc, state)?;
     run_one(alloc, dag, flat, place, state)?;
     restore(state, &before, net);
+    Ok(())
+}
+
+// Gives the leaf of a net what a statement makes of it that assigns nothing else.
+fn drive_alone(
+    alloc: Global,
+    dag: &mut Dag,
+    flat: &Flat,
+    place: usize,
+    net: usize,
+    state: &mut Leaves,
+) -> Result<(), AllocError>
+    requires can { CanElaborate flat.now }
+    requires board { IsBoard flat.now.signals state.old dag.old }
+    requires within { place < length flat.now.assigns + length flat.now.blocks }
+    requires net { net < length state.old }
+    requires alone { assigned_by (statement_at (statements flat.now) place) ≡ name_of flat.now.signals net ∷ [] }
+    ensures keeps { Keeps dag.old dag.new }
+    ensures long { IfOk result (λ u. length state.new ≡ length state.old) }
+    ensures board { IfOk result (λ u. IsBoard flat.now.signals state.new dag.new) }
+    ensures shows { IfOk result (λ u. Shows (λ c. taking (name_of flat.now.signals net) (run true (flat_place flat.now) (statement_at (statements flat.now) place) c c) c) state.old dag.old state.new dag.new) }
+{
+    // what a statement doesn't assign stays
+    bits_stay();
+    let _net = net;
+    run_one(alloc, dag, flat, place, state)?;
+    Ok(())
+}
+
+// Gives the leaf of a net what a statement makes of it, and leaves the others as they are.
+fn drive(
+    alloc: Global,
+    dag: &mut Dag,
+    flat: &Flat,
+    place: usize,
+    net: usize,
+    state: &mut Leaves,
+) -> Result<(), AllocError>
+    requires can { CanElaborate flat.now }
+    requires board { IsBoard flat.now.signals state.old dag.old }
+    requires within { place < length flat.now.assigns + length flat.now.blocks }
+    requires net { net < length state.old }
+    ensures keeps { Keeps dag.old dag.new }
+    ensures long { IfOk result (λ u. length state.new ≡ length state.old) }
+    ensures board { IfOk result (λ u. IsBoard flat.now.signals state.new dag.new) }
+    ensures shows { IfOk result (λ u. Shows (λ c. taking (name_of flat.now.signals net) (run true (flat_place flat.now) (statement_at (statements flat.now) place) c c) c) state.old dag.old state.new dag.new) }
+{
+    if assigns_alone(flat, place, net) {
+        drive_alone(alloc, dag, flat, place, net, state)?;
+        return Ok(());
+    }
+    drive_shared(alloc, dag, flat, place, net, state)?;
     Ok(())
 }
 

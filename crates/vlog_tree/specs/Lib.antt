@@ -4,4 +4,5 @@ pub mod Spelling
 pub mod Statements
 pub mod Modules
 pub mod Valuation
+pub mod Fingerprints
 pub mod Value

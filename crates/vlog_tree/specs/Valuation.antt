@@ -1,5 +1,6 @@
 -- What names stand for.
-use Rattle.std.specs.Prelude.{ℕ, ◌^◌, ◌<◌, ◌≤◌, ◌&&◌, ◌++◌, nat_eq, List, [], ◌∷◌, Option, Some, None, false, unwrap_or, codes, decimal, if◌then◌else◌}
+use Rattle.std.specs.Prelude.{ℕ, ◌^◌, ◌<◌, ◌≤◌, ◌&&◌, ◌++◌, Bool, nat_eq, List, [], ◌∷◌, Option, Some, None, false, unwrap_or, codes, decimal, if◌then◌else◌}
+use Rattle.std.specs.List.{position_from}
 use Rattle.std.specs.Option.{option_map}
 use Rattle.std.specs.Str.{bytes_eq}
 use Rattle.vlog_tree.specs.declared.expr.Constant.{Constant}
@@ -22,6 +23,14 @@ AllFit (e ∷ es) = EntryFits e × AllFit es
 abbrev pub entry_at : List Entry → List ℕ → ℕ → Option Entry
 entry_at [] x j = None
 entry_at (e ∷ es) x j = if nat_eq e.offset j && bytes_eq e.name x then Some e else entry_at es x j
+
+-- has an entry this name and this offset?
+abbrev pub is_named : List ℕ → ℕ → Entry → Bool
+is_named x j e = nat_eq e.offset j && bytes_eq e.name x
+
+-- the place of the first entry of a name at an offset
+abbrev pub place_at : List Entry → List ℕ → ℕ → Option ℕ
+place_at es x j = position_from (is_named x j) 0 es
 
 -- the entries with these values in place of those of the first
 abbrev pub written : List Entry → List ℕ → List Entry

@@ -1,9 +1,16 @@
 // What names stand for.
 
-ghost use Rattle.std.specs.Prelude.{◌≡◌, ◌<◌, ◌++◌, ◌≤◌, [], ◌∷◌, OnOk, OnErr, IfSome, IfNone, Some, None, length};
+ghost use Rattle.std.specs.Prelude.{◌≡◌, ℕ, ◌<◌, ◌++◌, ◌≤◌, [], ◌∷◌, drop, nat_eq, OnOk, OnErr, IfSome, IfNone, Some, None, length, if◌then◌else◌};
+ghost use Rattle.std.specs.HashMap.{get};
+ghost use Rattle.std.specs.List.{position_from};
+ghost use Rattle.std.specs.Option.{option_or};
+ghost use Rattle.vlog_tree.specs.Fingerprints.{fingerprint as print_of};
+ghost use Rattle.vlog_tree.specs.Valuation.{is_named};
 
 use outside::Text;
 use std::alloc::{AllocError, Global};
+use std::collections::HashMap;
+use std::hash::{FoldHasher, Hasher};
 use std::marker::Model;
 
 /// What a name stands for at an offset: its length in bits, the number of its lowest bit, its sign and its value.
@@ -21,26 +28,65 @@ pub struct Entry {
     pub value: u64,
 }
 
-/// A list of entries, each with a length from 1 to 64 and a value of that length.
+/// A list of entries, each with a length from 1 to 64 and a value of that length. Entries are found by fingerprints
+/// of their names and offsets.
 #[derive(Drop)]
 pub struct Valuation {
     entries: Vec<Entry>,
+    // for each fingerprint the place of the first entry that has it
+    first: HashMap<u64, usize>,
 }
 
 impl Model for Valuation {
-    ghost use Rattle.std.specs.Prelude.{List};
+    ghost use Rattle.std.specs.Prelude.{List, nat_eq};
+    ghost use Rattle.std.specs.HashMap.{get};
     ghost use Rattle.vlog_tree.specs.declared.valuation.Entry.{Entry};
     ghost use Rattle.vlog_tree.specs.Valuation.{AllFit};
+    ghost use Rattle.vlog_tree.specs.Fingerprints.{IsIndex};
 
     ghost Value = { List Entry };
 
     ghost view = { λ v. v.entries.items };
 
-    ghost invariant = { λ v. AllFit v.entries.items };
+    ghost invariant = { λ v. AllFit v.entries.items × IsIndex v.entries.items (get nat_eq v.first) };
+}
+
+// A number that tells most names at offsets apart. Where two share it, the search goes on from the first.
+fn fingerprint(name: &[u8], offset: u32) -> u64
+    ensures { result ≡ print_of name.now offset }
+{
+    let mut state = FoldHasher::default();
+    state.write(name);
+    state.write_u32(offset);
+    state.finish()
+}
+
+// Puts in the place of a fingerprint that has none yet. It is refused for want of memory alone, and then nothing changes.
+fn note(first: &mut HashMap<u64, usize>, print: u64, place: usize) -> Result<(), AllocError>
+    ensures ok { OnOk result ((p : ℕ) → get nat_eq first.new p ≡ option_or (get nat_eq first.old p) (if nat_eq print p then Some place else None)) }
+    ensures err { OnErr result ((p : ℕ) → get nat_eq first.new p ≡ get nat_eq first.old p) }
+{
+    if !first.contains_key(&print) {
+        first.insert(print, place)?;
+    }
+    Ok(())
+}
+
+// The place of the first entry of this name and offset, from a place on.
+fn place_from(entries: &[Entry], start: usize, name: &[u8], offset: u32) -> Option<usize>
+    ensures { result ≡ position_from (is_named name.now offset) start (drop start entries.now) }
+{
+    for place in start..entries.len() {
+        let entry = &entries[place];
+        if entry.offset == offset && entry.name.bytes() == name {
+            return Some(place);
+        }
+    }
+    None
 }
 
 impl Valuation {
-    ghost use Rattle.vlog_tree.specs.Valuation.{entry_at, written, AllFit, EntryFits};
+    ghost use Rattle.vlog_tree.specs.Valuation.{entry_at, place_at, written, AllFit, EntryFits};
 
     /// A valuation of no names.
     pub fn new(alloc: Global) -> Valuation
@@ -48,17 +94,32 @@ impl Valuation {
     {
         Valuation {
             entries: Vec::new(alloc),
+            first: HashMap::new(alloc),
         }
     }
 
-    /// Adds an entry at the end.
+    /// Adds an entry at the end. It is refused for want of memory alone, and then nothing changes.
     pub fn push(&mut self, entry: Entry) -> Result<(), AllocError>
         requires { EntryFits entry }
         ensures ok { OnOk result (self.new ≡ self.old ++ entry ∷ []) }
         ensures err { OnErr result (self.new ≡ self.old) }
     {
+        let print = fingerprint(entry.name.bytes(), entry.offset);
+        self.entries.reserve(1)?;
+        note(&mut self.first, print, self.entries.len())?;
         self.entries.push(entry)?;
         Ok(())
+    }
+
+    /// The place of the first entry of this name and offset.
+    pub fn place(&self, name: &[u8], offset: u32) -> Option<usize>
+        ensures { result ≡ place_at self.now name.now offset }
+    {
+        let print = fingerprint(name, offset);
+        match self.first.get(&print).copied() {
+            Some(start) => place_from(&self.entries, start, name, offset),
+            None => None,
+        }
     }
 
     /// The first entry of this name and offset.
@@ -67,13 +128,10 @@ impl Valuation {
         ensures none { IfNone result (entry_at self.now name.now offset ≡ None) }
         ensures fits { IfSome result (λ e. EntryFits e.now) }
     {
-        let entries = self.entries.as_slice();
-        for entry in entries {
-            if entry.offset == offset && entry.name.bytes() == name {
-                return Some(entry);
-            }
+        match self.place(name, offset) {
+            Some(place) => Some(&self.entries[place]),
+            None => None,
         }
-        None
     }
 
     /// The entries, in order.

@@ -1,8 +1,17 @@
-use Rattle.std.proofs.Common.{◌≤◌, length, arith}
-use Rattle.elab_block.proofs.Sides.{leaf_none}
+use Rattle.std.proofs.Common.{◌≡◌, List, Some, None, ℕ, sym, ap, ◌∙◌}
+use Rattle.vlog_tree.specs.Valuation.{place_at}
+use Rattle.elab_node.specs.Leaves.{declared}
+use Rattle.elab_block.proofs.Sides.{leaf_there, leaf_none}
 use Rattle.elab_block.proofs.left.leaf_number.Goals as goal
 
 pub unreachable-requires : goal.unreachable-requires
 unreachable-requires c =
-    let le : length c.args.leaves.now ≤ c.loop-i.i = omega (arith, c.loop-i-test.false, c.len-i-end.ensures) in
-    leaf_none c.args.leaves.now c.args.name.now c.loop-i.i c.requires le c.loop-i.invariant
+    let at = ap (λ (x : List ℕ). place_at (declared c.args.leaves.now) x 0) (sym c.bytes.ensures) in
+    let none : place_at (declared c.args.leaves.now) c.args.name.now 0 ≡ None = at ∙ (sym c.place.ensures ∙ c.in-None.is) in
+    leaf_none c.args.leaves.now c.args.name.now c.requires none
+
+pub returns : goal.returns
+returns c =
+    let at = ap (λ (x : List ℕ). place_at (declared c.args.leaves.now) x 0) (sym c.bytes.ensures) in
+    let there : place_at (declared c.args.leaves.now) c.args.name.now 0 ≡ Some c.in-Some.number = at ∙ (sym c.place.ensures ∙ c.in-Some.is) in
+    leaf_there c.args.leaves.now c.args.name.now c.in-Some.number there
