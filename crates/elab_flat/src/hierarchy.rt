@@ -101,7 +101,7 @@ fn flat_of<'a>(
 /// itself. `Instances`: more than 4,096 scopes. `Constant`: what must be constant isn't, a range isn't `[m:l]` with m >= l >= 0, or a divisor is 0.
 /// `Width`: a length isn't from 1 to 64 bits, a part-select leaves its vector, or a memory has more than 64 words. `Clock`: an edge, a clock or a reset
 /// isn't one of the accepted forms. `Memory`: want of memory. Every other fault of a refusal stands, and none stands where there is an answer. The time is
-/// linear in the texts of the modules and of all instances, but that a name in an expression is searched for among those of its instance one after another.
+/// linear in the texts of the modules and of all instances, for expressions of bounded height.
 pub fn flatten(alloc: Global, modules: &[Module], top: &[u8]) -> Result<Flat, FlatFault>
     requires { ArePlainTexts modules.now }
     ensures runs { IfOk result (λ f. KeepsRuns modules.now top.now f) }
