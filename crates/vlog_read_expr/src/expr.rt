@@ -13,6 +13,9 @@ use std::alloc::Global;
 use vlog_lex::ReadFault;
 use vlog_tree::{Binary, Cast, Expr, Infix, Kind, Name, Number, Span, Token, Unary, is};
 
+// Where a reading fails, the trees that were read before are dropped by a call: dropped in place, each would be proved anew at
+// each such exit.
+
 /// How tightly a choice binds, and a unary operator.
 const CHOICE: u8 = 1;
 
@@ -107,28 +110,25 @@ fn binary(
     requires low { depth ≤ 500 }
     ensures { Extends set tokens.now level at depth left.end result }
 {
-    let right = expr_at(
-        alloc,
-        set,
-        tokens,
-        after(tokens, left.end),
-        op.level() + 1,
-        depth - 1,
-    )?;
+    let next = after(tokens, left.end);
+    let right = match expr_at(alloc, set, tokens, next, op.level() + 1, depth - 1) {
+        Ok(right) => right,
+        Err(fault) => {
+            drop(left);
+            return Err(fault);
+        }
+    };
     let height = left.height.max(right.height) + 1;
     if height > depth {
+        drop(left);
+        drop(right);
         return Err(ReadFault::Deep);
     }
-    let tree = Expr::Binary(
-        op,
-        Boxed::new(alloc, left.tree)?,
-        Boxed::new(alloc, right.tree)?,
-    );
-    Ok(Parsed {
-        tree,
-        height,
-        end: right.end,
-    })
+    let end = right.end;
+    let left = Boxed::new(alloc, left.tree);
+    let right = Boxed::new(alloc, right.tree);
+    let tree = Expr::Binary(op, left?, right?);
+    Ok(Parsed { tree, height, end })
 }
 
 #[cycle(expr)]
@@ -147,25 +147,29 @@ fn choice(
     requires low { depth ≤ 500 }
     ensures { Extends set tokens.now level at depth left.end result }
 {
-    let yes = expr_at(
-        alloc,
-        set,
-        tokens,
-        after(tokens, left.end),
-        CHOICE,
-        depth - 1,
-    )?;
+    let next = after(tokens, left.end);
+    let yes = match expr_at(alloc, set, tokens, next, CHOICE, depth - 1) {
+        Ok(yes) => yes,
+        Err(fault) => {
+            drop(left);
+            return Err(fault);
+        }
+    };
     if !is_sign(tokens, yes.end, b":") {
-        return Err(ReadFault::Syntax(yes.end));
+        let place = yes.end;
+        drop(left);
+        drop(yes);
+        return Err(ReadFault::Syntax(place));
     }
-    let no = expr_at(
-        alloc,
-        set,
-        tokens,
-        after(tokens, yes.end),
-        CHOICE,
-        depth - 1,
-    )?;
+    let last = after(tokens, yes.end);
+    let no = match expr_at(alloc, set, tokens, last, CHOICE, depth - 1) {
+        Ok(no) => no,
+        Err(fault) => {
+            drop(left);
+            drop(yes);
+            return Err(fault);
+        }
+    };
     chosen(alloc, set, tokens, at, level, left, yes, no, depth)
 }
 
@@ -192,18 +196,17 @@ fn chosen(
 {
     let height = left.height.max(yes.height.max(no.height)) + 1;
     if height > depth {
+        drop(left);
+        drop(yes);
+        drop(no);
         return Err(ReadFault::Deep);
     }
-    let tree = Expr::Choice(
-        Boxed::new(alloc, left.tree)?,
-        Boxed::new(alloc, yes.tree)?,
-        Boxed::new(alloc, no.tree)?,
-    );
-    Ok(Parsed {
-        tree,
-        height,
-        end: no.end,
-    })
+    let end = no.end;
+    let left = Boxed::new(alloc, left.tree);
+    let yes = Boxed::new(alloc, yes.tree);
+    let no = Boxed::new(alloc, no.tree);
+    let tree = Expr::Choice(left?, yes?, no?);
+    Ok(Parsed { tree, height, end })
 }
 
 /// A unary operator with its operand, or a form that needs none.
@@ -376,10 +379,13 @@ fn selected(
     ensures { Answers set tokens.now 12 at depth result }
 {
     if !is_sign(tokens, index.end, b"]") {
-        return Err(ReadFault::Syntax(index.end));
+        let place = index.end;
+        drop(index);
+        return Err(ReadFault::Syntax(place));
     }
     let end = after(tokens, index.end);
     if !is_alone(tokens, end) {
+        drop(index);
         return Err(ReadFault::Syntax(end));
     }
     let tree = Expr::Select(name, Boxed::new(alloc, index.tree)?);
@@ -411,26 +417,20 @@ fn part(
     requires low { depth ≤ 500 }
     ensures { Answers set tokens.now 12 at depth result }
 {
-    let other = enclosed(
-        alloc,
-        set,
-        tokens,
-        after(tokens, index.end),
-        b"]",
-        depth - 1,
-    )?;
+    let next = after(tokens, index.end);
+    let other = match enclosed(alloc, set, tokens, next, b"]", depth - 1) {
+        Ok(other) => other,
+        Err(fault) => {
+            drop(index);
+            return Err(fault);
+        }
+    };
     let height = index.height.max(other.height) + 1;
-    let tree = Expr::Part(
-        name,
-        span,
-        Boxed::new(alloc, index.tree)?,
-        Boxed::new(alloc, other.tree)?,
-    );
-    Ok(Parsed {
-        tree,
-        height,
-        end: other.end,
-    })
+    let end = other.end;
+    let index = Boxed::new(alloc, index.tree);
+    let other = Boxed::new(alloc, other.tree);
+    let tree = Expr::Part(name, span, index?, other?);
+    Ok(Parsed { tree, height, end })
 }
 
 /// What begins with a sign.
@@ -521,10 +521,13 @@ fn enclosed(
 {
     let part = expr_at(alloc, set, tokens, at, CHOICE, depth)?;
     if !is_sign(tokens, part.end, close) {
-        return Err(ReadFault::Syntax(part.end));
+        let place = part.end;
+        drop(part);
+        return Err(ReadFault::Syntax(place));
     }
     let end = after(tokens, part.end);
     if !is_alone(tokens, end) {
+        drop(part);
         return Err(ReadFault::Syntax(end));
     }
     Ok(Parsed {
@@ -603,16 +606,25 @@ fn repeat(
     requires low { depth ≤ 500 }
     ensures { Answers set tokens.now 12 at depth result }
 {
-    let parts = list(alloc, set, tokens, after(tokens, count.end), depth - 1)?;
+    let parts = match list(alloc, set, tokens, after(tokens, count.end), depth - 1) {
+        Ok(parts) => parts,
+        Err(fault) => {
+            drop(count);
+            return Err(fault);
+        }
+    };
     if !is_sign(tokens, parts.end, b"}") {
+        drop(count);
         return Err(ReadFault::Syntax(parts.end));
     }
     let second = after(tokens, parts.end);
     if !is_sign(tokens, second, b"}") {
+        drop(count);
         return Err(ReadFault::Syntax(second));
     }
     let end = after(tokens, second);
     if !is_alone(tokens, end) {
+        drop(count);
         return Err(ReadFault::Syntax(end));
     }
     let height = count.height.max(parts.height) + 1;

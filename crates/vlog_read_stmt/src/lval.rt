@@ -12,6 +12,9 @@ use vlog_lex::ReadFault;
 use vlog_read_expr::{Parsed, after, identifier, is_sign, read_tree, span_at};
 use vlog_tree::{Lval, Span, Token};
 
+// Where a reading fails, the trees that were read before are dropped by a call: dropped in place, each would be proved anew at
+// each such exit.
+
 /// A left side, its height, and the place after it.
 #[derive(Drop)]
 pub struct ParsedLval {
@@ -53,11 +56,10 @@ pub fn read_lval(
     } else {
         named(alloc, tokens, at, depth)?
     };
-    if tokens.len() <= read.end {
-        return Err(ReadFault::Syntax(read.end));
-    }
-    if is_sign(tokens, read.end, b"[") {
-        return Err(ReadFault::Syntax(read.end));
+    let end = read.end;
+    if tokens.len() <= end || is_sign(tokens, end, b"[") {
+        drop(read);
+        return Err(ReadFault::Syntax(end));
     }
     Ok(read)
 }
@@ -101,7 +103,9 @@ fn bracket(
         return part(alloc, tokens, at, name, index, span, depth);
     }
     if !is_sign(tokens, index.end, b"]") {
-        return Err(ReadFault::Syntax(index.end));
+        let place = index.end;
+        drop(index);
+        return Err(ReadFault::Syntax(place));
     }
     Ok(ParsedLval {
         tree: Lval::Select(name, index.tree),
@@ -128,9 +132,18 @@ fn part(
     requires low { depth ≤ 500 }
     ensures { BeginsLval tokens.now at depth result }
 {
-    let other = read_tree(alloc, false, tokens, after(tokens, index.end), depth - 1)?;
+    let other = match read_tree(alloc, false, tokens, after(tokens, index.end), depth - 1) {
+        Ok(other) => other,
+        Err(fault) => {
+            drop(index);
+            return Err(fault);
+        }
+    };
     if !is_sign(tokens, other.end, b"]") {
-        return Err(ReadFault::Syntax(other.end));
+        let place = other.end;
+        drop(index);
+        drop(other);
+        return Err(ReadFault::Syntax(place));
     }
     Ok(ParsedLval {
         tree: Lval::Part(name, span, index.tree, other.tree),

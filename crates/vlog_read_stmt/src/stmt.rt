@@ -13,6 +13,9 @@ use vlog_lex::ReadFault;
 use vlog_read_expr::{Parsed, after, identifier, is_sign, is_word, read_tree};
 use vlog_tree::{CaseItem, CaseKind, Stmt, Token};
 
+// Where a reading fails, the trees that were read before are dropped by a call: dropped in place, each would be proved anew at
+// each such exit.
+
 /// A statement, its height, and the place after it.
 #[derive(Drop)]
 pub struct ParsedStmt {
@@ -146,7 +149,13 @@ fn block(alloc: Global, tokens: &[Token], at: usize, depth: usize) -> Result<Par
     ensures { AnswersStmt tokens.now at depth result }
 {
     let label = block_name(alloc, tokens, after(tokens, at))?;
-    let parts = sequence(alloc, tokens, label.end, depth - 1)?;
+    let parts = match sequence(alloc, tokens, label.end, depth - 1) {
+        Ok(parts) => parts,
+        Err(fault) => {
+            drop(label);
+            return Err(fault);
+        }
+    };
     Ok(ParsedStmt {
         tree: Stmt::Block(label.name, parts.items),
         height: parts.height + 1,
@@ -189,7 +198,9 @@ fn header(alloc: Global, tokens: &[Token], at: usize, depth: usize) -> Result<Pa
     }
     let inner = read_tree(alloc, false, tokens, after(tokens, open), depth)?;
     if !is_sign(tokens, inner.end, b")") {
-        return Err(ReadFault::Syntax(inner.end));
+        let place = inner.end;
+        drop(inner);
+        return Err(ReadFault::Syntax(place));
     }
     Ok(Parsed {
         tree: inner.tree,
@@ -211,15 +222,29 @@ fn conditional(
     ensures { AnswersStmt tokens.now at depth result }
 {
     let condition = header(alloc, tokens, at, depth - 1)?;
-    let yes = read_stmt(alloc, tokens, condition.end, depth - 1)?;
+    let yes = match read_stmt(alloc, tokens, condition.end, depth - 1) {
+        Ok(yes) => yes,
+        Err(fault) => {
+            drop(condition);
+            return Err(fault);
+        }
+    };
     if is_word(tokens, yes.end, b"else") {
         return with_else(alloc, tokens, at, condition, yes, depth);
     }
-    Ok(ParsedStmt {
-        tree: Stmt::If(condition.tree, Boxed::new(alloc, yes.tree)?),
-        height: condition.height.max(yes.height) + 1,
-        end: yes.end,
-    })
+    let height = condition.height.max(yes.height) + 1;
+    let end = yes.end;
+    match Boxed::new(alloc, yes.tree) {
+        Ok(yes) => Ok(ParsedStmt {
+            tree: Stmt::If(condition.tree, yes),
+            height,
+            end,
+        }),
+        Err(fault) => {
+            drop(condition);
+            Err(fault.into())
+        }
+    }
 }
 
 /// The `else` of an `if` whose first part is read.
@@ -240,18 +265,27 @@ fn with_else(
     requires low { depth ≤ 500 }
     ensures { AnswersStmt tokens.now at depth result }
 {
-    let no = read_stmt(alloc, tokens, after(tokens, yes.end), depth - 1)?;
+    let no = match read_stmt(alloc, tokens, after(tokens, yes.end), depth - 1) {
+        Ok(no) => no,
+        Err(fault) => {
+            drop(condition);
+            drop(yes);
+            return Err(fault);
+        }
+    };
     let height = condition.height.max(yes.height.max(no.height)) + 1;
-    let tree = Stmt::IfElse(
-        condition.tree,
-        Boxed::new(alloc, yes.tree)?,
-        Boxed::new(alloc, no.tree)?,
-    );
-    Ok(ParsedStmt {
-        tree,
-        height,
-        end: no.end,
-    })
+    let end = no.end;
+    match (Boxed::new(alloc, yes.tree), Boxed::new(alloc, no.tree)) {
+        (Ok(yes), Ok(no)) => Ok(ParsedStmt {
+            tree: Stmt::IfElse(condition.tree, yes, no),
+            height,
+            end,
+        }),
+        _ => {
+            drop(condition);
+            Err(ReadFault::Memory)
+        }
+    }
 }
 
 #[cycle(stmt)]
@@ -268,7 +302,13 @@ fn choice(
     ensures { AnswersStmt tokens.now at depth result }
 {
     let value = header(alloc, tokens, at, depth - 1)?;
-    let cases = case_items(alloc, kind, tokens, value.end, depth - 1)?;
+    let cases = match case_items(alloc, kind, tokens, value.end, depth - 1) {
+        Ok(cases) => cases,
+        Err(fault) => {
+            drop(value);
+            return Err(fault);
+        }
+    };
     Ok(ParsedStmt {
         tree: Stmt::Case(kind, value.tree, cases.items),
         height: value.height.max(cases.height) + 1,
@@ -296,6 +336,7 @@ fn case_items(
         let item = case_item(alloc, kind, tokens, end, depth)?;
         defaults += item.defaults;
         if defaults > 1 {
+            drop(item);
             return Err(ReadFault::Syntax(end));
         }
         items.push(item.item)?;
@@ -320,7 +361,13 @@ fn case_item(
     ensures { AnswersItem kind tokens.now at depth result }
 {
     let labels = labels(alloc, kind, tokens, at, depth)?;
-    let body = read_stmt(alloc, tokens, labels.end, depth)?;
+    let body = match read_stmt(alloc, tokens, labels.end, depth) {
+        Ok(body) => body,
+        Err(fault) => {
+            drop(labels);
+            return Err(fault);
+        }
+    };
     Ok(ParsedItem {
         item: CaseItem {
             labels: labels.labels,
@@ -339,7 +386,9 @@ fn value(alloc: Global, tokens: &[Token], at: usize, depth: usize) -> Result<Par
 {
     let value = read_tree(alloc, false, tokens, at, depth)?;
     if !is_sign(tokens, value.end, b";") {
-        return Err(ReadFault::Syntax(value.end));
+        let place = value.end;
+        drop(value);
+        return Err(ReadFault::Syntax(place));
     }
     Ok(Parsed {
         tree: value.tree,
@@ -365,7 +414,9 @@ fn assignment(
     } else if is_sign(tokens, left.end, b"=") {
         blocking(alloc, tokens, at, left, depth)
     } else {
-        Err(ReadFault::Syntax(left.end))
+        let place = left.end;
+        drop(left);
+        Err(ReadFault::Syntax(place))
     }
 }
 
@@ -383,7 +434,13 @@ fn nonblocking(
     requires low { depth ≤ 500 }
     ensures { AnswersStmt tokens.now at depth result }
 {
-    let right = value(alloc, tokens, after(tokens, left.end), depth - 1)?;
+    let right = match value(alloc, tokens, after(tokens, left.end), depth - 1) {
+        Ok(right) => right,
+        Err(fault) => {
+            drop(left);
+            return Err(fault);
+        }
+    };
     Ok(ParsedStmt {
         tree: Stmt::Nonblocking(left.tree, right.tree),
         height: left.height.max(right.height) + 1,
@@ -405,7 +462,13 @@ fn blocking(
     requires low { depth ≤ 500 }
     ensures { AnswersStmt tokens.now at depth result }
 {
-    let right = value(alloc, tokens, after(tokens, left.end), depth - 1)?;
+    let right = match value(alloc, tokens, after(tokens, left.end), depth - 1) {
+        Ok(right) => right,
+        Err(fault) => {
+            drop(left);
+            return Err(fault);
+        }
+    };
     Ok(ParsedStmt {
         tree: Stmt::Blocking(left.tree, right.tree),
         height: left.height.max(right.height) + 1,

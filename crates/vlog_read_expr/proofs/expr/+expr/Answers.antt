@@ -22,8 +22,8 @@ expr_at-loop-op-smaller t c =
     omega (arith, c.in_ok-left-2.ensures.1, within c.args.set c.args.tokens.now c.args.at c.in_ok-left-2.left.tree c.in_ok-left-2.left.end c.in_ok-left-2.ensures.0.spelt)
 
 -- a binary operator
-pub binary-after-requires : goal.binary-after-requires
-binary-after-requires t c = sign_within _ _ _ _ c.requires.sign
+pub binary-after-next-requires : goal.binary-after-next-requires
+binary-after-next-requires t c = sign_within _ _ _ _ c.requires.sign
 
 pub binary-overflow_sub-depth : goal.binary-overflow_sub-depth
 binary-overflow_sub-depth t c = omega (arith, low_depth _ _ _ _ _ _ c.requires.grown)
@@ -33,24 +33,23 @@ binary-expr_at-requires t c =
     let l = low_depth _ _ _ _ _ _ c.requires.grown in let b = binary_low c.args.op in
     (search rules, (omega (arith, c.level.ensures), omega arith))
 
-pub binary-returns-in_err-right : goal.binary-returns-in_err-right
-binary-returns-in_err-right t c =
-    let p = err_from_is_err_and c.from_residual.result c.from_residual.ensures.1 in
-    rw (p.1, p.2) (binary_refuses _ _ _ _ _ _ c.requires.grown _ c.requires.sign c.requires.high _ c.level.ensures _ (rw c.after.ensures at c.in_err-right.ensures))
+pub binary-returns-in-Err : goal.binary-returns-in-Err
+binary-returns-in-Err t c =
+    binary_refuses _ _ _ _ _ _ c.requires.grown _ c.requires.sign c.requires.high _ c.level.ensures _ (rw c.after-next.ensures at c.in-Err.ensures)
 
 pub binary-returns-then-height-depth : goal.binary-returns-then-height-depth
 binary-returns-then-height-depth t c =
-    binary_deep _ _ _ _ _ _ c.requires.grown _ c.requires.sign c.requires.high _ c.level.ensures _ (rw c.after.ensures at c.in_ok-right.ensures)
+    binary_deep _ _ _ _ _ _ c.requires.grown _ c.requires.sign c.requires.high _ c.level.ensures _ (rw c.after-next.ensures at c.in-Ok.ensures)
     (omega (arith, c.max-height.ensures, c.if-height-depth.true))
 
 pub binary-returns : goal.binary-returns
 binary-returns t c =
-    binary_grown _ _ _ _ _ _ c.requires.grown _ c.requires.sign c.requires.high _ c.level.ensures _ (rw c.after.ensures at c.in_ok-right.ensures) _
-    (binary_made _ _ _ _ _ c.in_ok-new.ensures c.in_ok-new-2.ensures) refl (omega (arith, c.max-height.ensures)) (omega (arith, c.if-height-depth.false))
+    binary_grown _ _ _ _ _ _ c.requires.grown _ c.requires.sign c.requires.high _ c.level.ensures _ (rw c.after-next.ensures at c.in-Ok.ensures) _
+    (binary_made _ _ _ _ _ c.in_ok-left.ensures c.in_ok-right.ensures) refl (omega (arith, c.max-height.ensures)) (omega (arith, c.if-height-depth.false))
 
 -- a choice
-pub choice-after-requires : goal.choice-after-requires
-choice-after-requires t c = sign_within _ _ _ _ c.requires.sign
+pub choice-after-next-requires : goal.choice-after-next-requires
+choice-after-next-requires t c = sign_within _ _ _ _ c.requires.sign
 
 pub choice-overflow_sub-depth : goal.choice-overflow_sub-depth
 choice-overflow_sub-depth t c = omega (arith, low_depth _ _ _ _ _ _ c.requires.grown)
@@ -58,18 +57,17 @@ choice-overflow_sub-depth t c = omega (arith, low_depth _ _ _ _ _ _ c.requires.g
 pub choice-expr_at-requires : goal.choice-expr_at-requires
 choice-expr_at-requires t c = let l = low_depth _ _ _ _ _ _ c.requires.grown in (search rules, (omega arith, omega arith))
 
-pub choice-returns-in_err-yes : goal.choice-returns-in_err-yes
-choice-returns-in_err-yes t c =
-    let p = err_from_is_err_and c.from_residual.result c.from_residual.ensures.1 in
-    rw (p.1, p.2) (choice_refuses_yes _ _ _ _ _ _ c.requires.grown c.requires.sign c.requires.high _ (rw c.after.ensures at c.in_err-yes.ensures))
+pub choice-returns-in-Err : goal.choice-returns-in-Err
+choice-returns-in-Err t c =
+    choice_refuses_yes _ _ _ _ _ _ c.requires.grown c.requires.sign c.requires.high _ (rw c.after-next.ensures at c.in-Err.ensures)
 
 pub choice-returns-then-not-is_sign : goal.choice-returns-then-not-is_sign
 choice-returns-then-not-is_sign t c =
-    choice_no_colon _ _ _ _ _ _ c.requires.grown c.requires.sign c.requires.high _ (rw c.after.ensures at c.in_ok-yes.ensures)
+    choice_no_colon _ _ _ _ _ _ c.requires.grown c.requires.sign c.requires.high _ (rw c.after-next.ensures at c.in-Ok.ensures)
     (no_by _ c.is_sign.ensures c.if-not-is_sign.true)
 
-pub choice-after-requires-2 : goal.choice-after-requires-2
-choice-after-requires-2 t c = kind_within _ _ _ (yes_by _ c.is_sign.ensures c.if-not-is_sign.false)
+pub choice-after-last-requires : goal.choice-after-last-requires
+choice-after-last-requires t c = kind_within _ _ _ (yes_by _ c.is_sign.ensures c.if-not-is_sign.false)
 
 pub choice-overflow_sub-depth-2 : goal.choice-overflow_sub-depth-2
 choice-overflow_sub-depth-2 t c = omega (arith, low_depth _ _ _ _ _ _ c.requires.grown)
@@ -77,19 +75,18 @@ choice-overflow_sub-depth-2 t c = omega (arith, low_depth _ _ _ _ _ _ c.requires
 pub choice-expr_at-requires-2 : goal.choice-expr_at-requires-2
 choice-expr_at-requires-2 t c = let l = low_depth _ _ _ _ _ _ c.requires.grown in (search rules, (omega arith, omega arith))
 
-pub choice-returns-in_err-no : goal.choice-returns-in_err-no
-choice-returns-in_err-no t c =
-    let p = err_from_is_err_and c.from_residual-in_err-no.result c.from_residual-in_err-no.ensures.1 in
-    rw (p.1, p.2) (choice_refuses_no _ _ _ _ _ _ c.requires.grown c.requires.sign c.requires.high _ (rw c.after.ensures at c.in_ok-yes.ensures) _ (rw c.after-2.ensures at c.in_err-no.ensures))
+pub choice-returns-in-Err-expr_at : goal.choice-returns-in-Err-expr_at
+choice-returns-in-Err-expr_at t c =
+    choice_refuses_no _ _ _ _ _ _ c.requires.grown c.requires.sign c.requires.high _ (rw c.after-next.ensures at c.in-Ok.ensures) _ (rw c.after-last.ensures at c.in-Err-expr_at.ensures)
 
 pub choice-chosen-requires : goal.choice-chosen-requires
 choice-chosen-requires t c = record {
   grown = c.requires.grown;
   sign = c.requires.sign;
   high = c.requires.high;
-  read_yes = rw c.after.ensures at c.in_ok-yes.ensures;
+  read_yes = rw c.after-next.ensures at c.in-Ok.ensures;
   colon = yes_by _ c.is_sign.ensures c.if-not-is_sign.false;
-  read_no = rw c.after-2.ensures at c.in_ok-no.ensures;
+  read_no = rw c.after-last.ensures at c.in-Ok-expr_at.ensures;
   low = c.requires.low;
 }
 
@@ -162,18 +159,17 @@ bracket-selected-requires t c = record {
   low = c.requires.low;
 }
 
-pub part-after-requires : goal.part-after-requires
-part-after-requires t c = span_within _ _ _ c.requires.sign
+pub part-after-next-requires : goal.part-after-next-requires
+part-after-next-requires t c = span_within _ _ _ c.requires.sign
 
-pub part-returns-in_err-other : goal.part-returns-in_err-other
-part-returns-in_err-other t c =
-    let p = err_from_is_err_and c.from_residual.result c.from_residual.ensures.1 in
-    rw (p.1, p.2) (part_refuses _ _ _ _ c.requires.positive _ _ c.requires.here c.requires.open _ c.requires.read _ c.requires.sign _ (rw c.after.ensures at c.in_err-other.ensures))
+pub part-returns-in-Err : goal.part-returns-in-Err
+part-returns-in-Err t c =
+    part_refuses _ _ _ _ c.requires.positive _ _ c.requires.here c.requires.open _ c.requires.read _ c.requires.sign _ (rw c.after-next.ensures at c.in-Err.ensures)
 
 pub part-returns : goal.part-returns
 part-returns t c =
-    part_read _ _ _ _ c.requires.positive _ _ c.requires.here c.requires.open _ c.requires.read _ c.requires.sign _ (rw c.after.ensures at c.in_ok-other.ensures) _
-    (part_made _ _ _ _ _ _ c.in_ok-new.ensures c.in_ok-new-2.ensures) refl (omega (arith, c.max-height.ensures))
+    part_read _ _ _ _ c.requires.positive _ _ c.requires.here c.requires.open _ c.requires.read _ c.requires.sign _ (rw c.after-next.ensures at c.in-Ok.ensures) _
+    (part_made _ _ _ _ _ _ c.in_ok-index.ensures c.in_ok-other.ensures) refl (omega (arith, c.max-height.ensures))
 
 -- a sign
 pub signed-unary-requires : goal.signed-unary-requires
@@ -236,14 +232,13 @@ brace-concat-requires t c =
 pub repeat-after-requires : goal.repeat-after-requires
 repeat-after-requires t c = kind_within _ _ _ c.requires.open
 
-pub repeat-returns-in_err-parts : goal.repeat-returns-in_err-parts
-repeat-returns-in_err-parts t c =
-    let p = err_from_is_err_and c.from_residual.result c.from_residual.ensures.1 in
-    rw (p.1, p.2) (repeat_refuses _ _ _ _ c.requires.positive c.requires.here _ c.requires.read c.requires.open _ (rw c.after.ensures at c.in_err-parts.ensures))
+pub repeat-returns-in-Err : goal.repeat-returns-in-Err
+repeat-returns-in-Err t c =
+    repeat_refuses _ _ _ _ c.requires.positive c.requires.here _ c.requires.read c.requires.open _ (rw c.after.ensures at c.in-Err.ensures)
 
 pub repeat-returns-then-not-is_sign : goal.repeat-returns-then-not-is_sign
 repeat-returns-then-not-is_sign t c =
-    repeat_open _ _ _ _ c.requires.positive c.requires.here _ c.requires.read c.requires.open _ (rw c.after.ensures at c.in_ok-parts.ensures)
+    repeat_open _ _ _ _ c.requires.positive c.requires.here _ c.requires.read c.requires.open _ (rw c.after.ensures at c.in-Ok.ensures)
     (no_by _ c.is_sign.ensures c.if-not-is_sign.true)
 
 pub repeat-after-second-requires : goal.repeat-after-second-requires
@@ -251,7 +246,7 @@ repeat-after-second-requires t c = kind_within _ _ _ (yes_by _ c.is_sign.ensures
 
 pub repeat-returns-then-not-is_sign-2 : goal.repeat-returns-then-not-is_sign-2
 repeat-returns-then-not-is_sign-2 t c =
-    repeat_open_2 _ _ _ _ c.requires.positive c.requires.here _ c.requires.read c.requires.open _ (rw c.after.ensures at c.in_ok-parts.ensures)
+    repeat_open_2 _ _ _ _ c.requires.positive c.requires.here _ c.requires.read c.requires.open _ (rw c.after.ensures at c.in-Ok.ensures)
     (rw c.after-second.ensures at (no_by _ c.is_sign-2.ensures c.if-not-is_sign-2.true))
 
 pub repeat-after-end-requires : goal.repeat-after-end-requires
@@ -259,14 +254,14 @@ repeat-after-end-requires t c = kind_within _ _ _ (yes_by _ c.is_sign-2.ensures 
 
 pub repeat-returns-then-not-is_alone : goal.repeat-returns-then-not-is_alone
 repeat-returns-then-not-is_alone t c =
-    let q : c.after-end.result ≡ c.in_ok-parts.parts.end + 2 = omega (arith, c.after-end.ensures, c.after-second.ensures) in
-    repeat_followed _ _ _ _ c.requires.positive c.requires.here _ c.requires.read c.requires.open _ (rw c.after.ensures at c.in_ok-parts.ensures)
+    let q : c.after-end.result ≡ c.in-Ok.parts.end + 2 = omega (arith, c.after-end.ensures, c.after-second.ensures) in
+    repeat_followed _ _ _ _ c.requires.positive c.requires.here _ c.requires.read c.requires.open _ (rw c.after.ensures at c.in-Ok.ensures)
     (rw q at (no_by _ c.is_alone.ensures c.if-not-is_alone.true))
 
 pub repeat-returns : goal.repeat-returns
 repeat-returns t c =
-    let q : c.after-end.result ≡ c.in_ok-parts.parts.end + 2 = omega (arith, c.after-end.ensures, c.after-second.ensures) in
-    repeat_read _ _ _ _ c.requires.positive c.requires.here _ c.requires.read c.requires.open _ (rw c.after.ensures at c.in_ok-parts.ensures)
+    let q : c.after-end.result ≡ c.in-Ok.parts.end + 2 = omega (arith, c.after-end.ensures, c.after-second.ensures) in
+    repeat_read _ _ _ _ c.requires.positive c.requires.here _ c.requires.read c.requires.open _ (rw c.after.ensures at c.in-Ok.ensures)
     (yes_by _ c.is_sign.ensures c.if-not-is_sign.false) (rw c.after-second.ensures at (yes_by _ c.is_sign-2.ensures c.if-not-is_sign-2.false))
     (rw q at (yes_by _ c.is_alone.ensures c.if-not-is_alone.false)) _ _ c.in_ok-new.ensures refl q (omega (arith, c.max-height.ensures))
 

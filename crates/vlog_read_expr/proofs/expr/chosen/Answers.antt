@@ -11,5 +11,5 @@ returns-then-height-depth c =
 pub returns : goal.returns
 returns c =
     choice_grown _ _ _ _ _ _ c.requires.grown c.requires.sign c.requires.high _ c.requires.read_yes c.requires.colon _ c.requires.read_no _
-    (choice_made _ _ _ _ _ _ c.in_ok-new.ensures c.in_ok-new-2.ensures c.in_ok-new-3.ensures) refl
+    (choice_made _ _ _ _ _ _ c.in_ok-left.ensures c.in_ok-yes.ensures c.in_ok-no.ensures) refl
     (omega (arith, c.max.ensures, c.max-height.ensures)) (omega (arith, c.if-height-depth.false))

@@ -1,7 +1,6 @@
 use Rattle.std.proofs.Common.{arith, refl}
 use Rattle.vlog_spell.proofs.Tokens.{kind_within}
 use Rattle.vlog_spell.proofs.Forms.{span_within}
-use Rattle.std.proofs.lemmas.Result.{err_from_is_err_and}
 use Rattle.vlog_read_expr.proofs.SignTests.{yes_by, no_by}
 use Rattle.vlog_read_stmt.proofs.LvalSteps.{part_spelt, part_refuses, part_open}
 use Rattle.vlog_read_stmt.proofs.lval.part.Goals as goal
@@ -14,13 +13,12 @@ after-requires-2 c = kind_within _ _ _ (yes_by _ c.is_sign.ensures c.if-not-is_s
 
 pub returns : goal.returns
 returns c =
-    part_spelt _ _ _ c.requires.positive _ c.requires.here c.requires.open _ c.requires.read _ c.requires.sign _ (rw c.after.ensures at c.in_ok-other.ensures)
+    part_spelt _ _ _ c.requires.positive _ c.requires.here c.requires.open _ c.requires.read _ c.requires.sign _ (rw c.after.ensures at c.in-Ok.ensures)
     (yes_by _ c.is_sign.ensures c.if-not-is_sign.false) _ refl c.after-2.ensures (omega (arith, c.max.ensures))
 
-pub returns-in_err-other : goal.returns-in_err-other
-returns-in_err-other c =
-    let p = err_from_is_err_and c.from_residual.result c.from_residual.ensures.1 in
-    rw (p.1, p.2) (part_refuses _ _ _ c.requires.positive _ c.requires.here c.requires.open _ c.requires.read _ c.requires.sign _ (rw c.after.ensures at c.in_err-other.ensures))
+pub returns-in-Err : goal.returns-in-Err
+returns-in-Err c =
+    part_refuses _ _ _ c.requires.positive _ c.requires.here c.requires.open _ c.requires.read _ c.requires.sign _ (rw c.after.ensures at c.in-Err.ensures)
 
 pub returns-then-not-is_sign : goal.returns-then-not-is_sign
-returns-then-not-is_sign c = part_open _ _ _ c.requires.positive _ c.requires.here c.requires.open _ c.requires.read _ c.requires.sign _ (rw c.after.ensures at c.in_ok-other.ensures) (no_by _ c.is_sign.ensures c.if-not-is_sign.true)
+returns-then-not-is_sign c = part_open _ _ _ c.requires.positive _ c.requires.here c.requires.open _ c.requires.read _ c.requires.sign _ (rw c.after.ensures at c.in-Ok.ensures) (no_by _ c.is_sign.ensures c.if-not-is_sign.true)

@@ -16,11 +16,11 @@ pub block-after-requires : goal.block-after-requires
 block-after-requires t c = kind_within _ _ _ c.requires.here
 
 pub block-after-requires-2 : goal.block-after-requires-2
-block-after-requires-2 t c = kind_within _ _ _ c.in_ok-parts.ensures.reads.1
+block-after-requires-2 t c = kind_within _ _ _ c.in-Ok.ensures.reads.1
 
 pub block-returns : goal.block-returns
 block-returns t c =
-    block_read _ _ _ c.requires.positive c.requires.here _ (rw c.after.ensures at c.in_ok-label.ensures) _ c.in_ok-parts.ensures _ refl c.after-2.ensures refl
+    block_read _ _ _ c.requires.positive c.requires.here _ (rw c.after.ensures at c.in_ok-label.ensures) _ c.in-Ok.ensures _ refl c.after-2.ensures refl
 
 -- statements up to an end
 pub sequence-loop-alloc-init : goal.sequence-loop-alloc-init
@@ -43,30 +43,29 @@ conditional-header-requires t c = record { within = kind_within _ _ _ c.requires
 
 pub conditional-with_else-requires : goal.conditional-with_else-requires
 conditional-with_else-requires t c =
-    (search rules, (c.requires.here, (c.in_ok-condition.ensures, (c.in_ok-yes.ensures, (yes_by _ c.is_word.ensures c.if-is_word.true, (c.requires.positive, c.requires.low))))))
+    (search rules, (c.requires.here, (c.in_ok-condition.ensures, (c.in-Ok.ensures, (yes_by _ c.is_word.ensures c.if-is_word.true, (c.requires.positive, c.requires.low))))))
 
-pub conditional-returns : goal.conditional-returns
-conditional-returns t c =
-    if_read _ _ _ c.requires.positive c.requires.here _ c.in_ok-condition.ensures _ c.in_ok-yes.ensures (no_by _ c.is_word.ensures c.if-is_word.false) _
-    (if_made _ _ _ c.in_ok-new.ensures) refl (omega (arith, c.max.ensures))
+pub conditional-returns-in-Ok-new : goal.conditional-returns-in-Ok-new
+conditional-returns-in-Ok-new t c =
+    if_read _ _ _ c.requires.positive c.requires.here _ c.in_ok-condition.ensures _ c.in-Ok.ensures (no_by _ c.is_word.ensures c.if-is_word.false) _
+    (if_made _ _ _ c.in-Ok-new.ensures) refl (omega (arith, c.max-height.ensures))
 
 pub with_else-after-requires : goal.with_else-after-requires
 with_else-after-requires t c = kind_within _ _ _ c.requires.word
 
-pub with_else-returns : goal.with_else-returns
-with_else-returns t c =
-    if_else_read _ _ _ c.requires.positive c.requires.here _ c.requires.condition _ c.requires.yes c.requires.word _ (rw c.after.ensures at c.in_ok-no.ensures) _
-    (if_else_made _ _ _ _ _ c.in_ok-new.ensures c.in_ok-new-2.ensures) refl (omega (arith, c.max.ensures, c.max-height.ensures))
+pub with_else-returns-in-Ok-Ok : goal.with_else-returns-in-Ok-Ok
+with_else-returns-in-Ok-Ok t c =
+    if_else_read _ _ _ c.requires.positive c.requires.here _ c.requires.condition _ c.requires.yes c.requires.word _ (rw c.after.ensures at c.in-Ok.ensures) _
+    (if_else_made _ _ _ _ _ c.in-Ok-Ok.ensures c.in-Ok-Ok.ensures') refl (omega (arith, c.max.ensures, c.max-height.ensures))
 
 pub block-returns-in_err-label : goal.block-returns-in_err-label
 block-returns-in_err-label t c =
     let p = err_from_is_err_and c.from_residual.result c.from_residual.ensures.1 in
     rw (p.1, p.2) (label_refuses _ _ _ c.requires.positive c.requires.here _ (rw c.after.ensures at c.in_err-label.ensures))
 
-pub block-returns-in_err-parts : goal.block-returns-in_err-parts
-block-returns-in_err-parts t c =
-    let p = err_from_is_err_and c.from_residual-in_err-parts.result c.from_residual-in_err-parts.ensures.1 in
-    rw (p.1, p.2) (block_refuses _ _ _ c.requires.positive c.requires.here _ (rw c.after.ensures at c.in_ok-label.ensures) _ c.in_err-parts.ensures)
+pub block-returns-in-Err : goal.block-returns-in-Err
+block-returns-in-Err t c =
+    block_refuses _ _ _ c.requires.positive c.requires.here _ (rw c.after.ensures at c.in_ok-label.ensures) _ c.in-Err.ensures
 
 pub sequence-returns-in_err-item : goal.sequence-returns-in_err-item
 sequence-returns-in_err-item t c =
@@ -78,47 +77,43 @@ conditional-returns-in_err-condition t c =
     let p = err_from_is_err_and c.from_residual.result c.from_residual.ensures.1 in
     rw (p.1, p.2) (condition_refuses _ _ _ c.requires.positive c.requires.here _ c.in_err-condition.ensures)
 
-pub conditional-returns-in_err-yes : goal.conditional-returns-in_err-yes
-conditional-returns-in_err-yes t c =
-    let p = err_from_is_err_and c.from_residual-in_err-yes.result c.from_residual-in_err-yes.ensures.1 in
-    rw (p.1, p.2) (part_refuses _ _ _ c.requires.positive c.requires.here _ c.in_ok-condition.ensures _ c.in_err-yes.ensures)
+pub conditional-returns-in-Err : goal.conditional-returns-in-Err
+conditional-returns-in-Err t c =
+    part_refuses _ _ _ c.requires.positive c.requires.here _ c.in_ok-condition.ensures _ c.in-Err.ensures
 
-pub with_else-returns-in_err-no : goal.with_else-returns-in_err-no
-with_else-returns-in_err-no t c =
-    let p = err_from_is_err_and c.from_residual.result c.from_residual.ensures.1 in
-    rw (p.1, p.2) (else_refuses _ _ _ c.requires.positive c.requires.here _ c.requires.condition _ c.requires.yes c.requires.word _ (rw c.after.ensures at c.in_err-no.ensures))
+pub with_else-returns-in-Err : goal.with_else-returns-in-Err
+with_else-returns-in-Err t c =
+    else_refuses _ _ _ c.requires.positive c.requires.here _ c.requires.condition _ c.requires.yes c.requires.word _ (rw c.after.ensures at c.in-Err.ensures)
 
 pub choice-returns-in_err-value : goal.choice-returns-in_err-value
 choice-returns-in_err-value t c =
     let p = err_from_is_err_and c.from_residual.result c.from_residual.ensures.1 in
     rw (p.1, p.2) (value_refuses _ _ _ _ c.requires.positive c.requires.here _ c.in_err-value.ensures)
 
-pub choice-returns-in_err-cases : goal.choice-returns-in_err-cases
-choice-returns-in_err-cases t c =
-    let p = err_from_is_err_and c.from_residual-in_err-cases.result c.from_residual-in_err-cases.ensures.1 in
-    rw (p.1, p.2) (cases_refuse _ _ _ _ c.requires.positive c.requires.here _ c.in_ok-value.ensures _ c.in_err-cases.ensures)
+pub choice-returns-in-Err : goal.choice-returns-in-Err
+choice-returns-in-Err t c =
+    cases_refuse _ _ _ _ c.requires.positive c.requires.here _ c.in_ok-value.ensures _ c.in-Err.ensures
 
 pub choice-header-requires : goal.choice-header-requires
 choice-header-requires t c = record { within = kind_within _ _ _ c.requires.here; low = omega (arith, c.requires.low) }
 
 pub choice-after-requires : goal.choice-after-requires
-choice-after-requires t c = kind_within _ _ _ c.in_ok-cases.ensures.reads.ends
+choice-after-requires t c = kind_within _ _ _ c.in-Ok.ensures.reads.ends
 
 pub choice-returns : goal.choice-returns
-choice-returns t c = case_read _ _ _ _ c.requires.positive c.requires.here _ c.in_ok-value.ensures _ c.in_ok-cases.ensures _ refl c.after.ensures (omega (arith, c.max.ensures))
+choice-returns t c = case_read _ _ _ _ c.requires.positive c.requires.here _ c.in_ok-value.ensures _ c.in-Ok.ensures _ refl c.after.ensures (omega (arith, c.max.ensures))
 
 pub case_item-returns-in_err-labels : goal.case_item-returns-in_err-labels
 case_item-returns-in_err-labels t c =
     let p = err_from_is_err_and c.from_residual.result c.from_residual.ensures.1 in
     rw (p.1, p.2) (labels_refuse _ _ _ _ _ c.in_err-labels.ensures)
 
-pub case_item-returns-in_err-body : goal.case_item-returns-in_err-body
-case_item-returns-in_err-body t c =
-    let p = err_from_is_err_and c.from_residual-in_err-body.result c.from_residual-in_err-body.ensures.1 in
-    rw (p.1, p.2) (body_refuses _ _ _ _ _ c.in_ok-labels.ensures _ c.in_err-body.ensures)
+pub case_item-returns-in-Err : goal.case_item-returns-in-Err
+case_item-returns-in-Err t c =
+    body_refuses _ _ _ _ _ c.in_ok-labels.ensures _ c.in-Err.ensures
 
 pub case_item-returns : goal.case_item-returns
-case_item-returns t c = item_read _ _ _ _ _ c.in_ok-labels.ensures _ c.in_ok-body.ensures _ refl refl c.max.ensures refl
+case_item-returns t c = item_read _ _ _ _ _ c.in_ok-labels.ensures _ c.in-Ok.ensures _ refl refl c.max.ensures refl
 
 pub case_items-loop-alloc-init : goal.case_items-loop-alloc-init
 case_items-loop-alloc-init t c = subst (λ z. Begun_cases c.args.kind c.args.tokens.now c.args.at c.args.depth z 0 c.args.at 0) (sym c.new-items.ensures) (cases_begin _ _ _ _)
