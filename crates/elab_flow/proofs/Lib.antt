@@ -13,3 +13,9 @@ pub mod Starting
 pub mod Finding
 pub mod Edging
 pub mod Depending
+pub mod Naming
+pub mod Forming
+pub mod Agreeing
+pub mod Choosing
+pub mod Owning
+pub mod Keeping

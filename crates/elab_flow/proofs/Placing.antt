@@ -82,7 +82,7 @@ module _ (gs : List Signal) where
       back : (i j : ℕ) → i ≡ 0 + j → j ≡ i
       back i j e = omega arith
 
-  shape_of : (x : Name) (i : ℕ) (g : Signal) → place_in (map signal_name gs) x ≡ Some i → IsSignalAt gs i g → signal_at gs x ≡ Some g
+  pub shape_of : (x : Name) (i : ℕ) (g : Signal) → place_in (map signal_name gs) x ≡ Some i → IsSignalAt gs i g → signal_at gs x ≡ Some g
   shape_of x i g e a = first_signal 0 gs x i i g e (omega arith) a
 
   module _ (d : AreDistinct gs) where

@@ -1,5 +1,5 @@
 -- Dependences of signals as edges of a graph of their places (IEEE 1364-2005, sections 6.1 and 9.4).
-use Rattle.std.specs.Prelude.{ℕ, ◌≡◌, ◌+◌, ◌*◌, ◌<◌, ◌↔◌, ◌++◌, Bool, false, List, map}
+use Rattle.std.specs.Prelude.{ℕ, ◌≡◌, ◌+◌, ◌*◌, ◌<◌, ◌↔◌, ◌++◌, Bool, false, List, map, slice_index}
 use Rattle.std.specs.List.{flat_map}
 use Rattle.std.specs.Option.{option_to_list}
 use Rattle.vlog_tree.specs.declared.item.Assign.{Assign}
@@ -21,6 +21,10 @@ use Rattle.elab_flow.specs.Shows.{IsAt}
 
 abbrev pub edge : ℕ → ℕ → Edge
 edge i j = record { from = i; to = j }
+
+-- an edge of places in a list of places, as one of the places that stand there
+abbrev pub moved_edge : List ℕ → Edge → Edge
+moved_edge places e = edge (slice_index places e.from) (slice_index places e.to)
 
 -- the place of a part's signal; none where no signal has its name
 abbrev pub part_place : List Name → Lval → List ℕ

@@ -7,3 +7,4 @@ pub mod Marks
 pub mod Words
 pub mod Asked
 pub mod Edges
+pub mod Own

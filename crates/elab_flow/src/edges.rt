@@ -8,11 +8,12 @@ ghost use Rattle.flat_scopes.specs.Finding.{place_in};
 ghost use Rattle.elab_drive.specs.Parts.{part_meant};
 ghost use Rattle.elab_drive.specs.Claims.{part_name};
 ghost use Rattle.elab_flow.specs.Asked.{AreVectors, IsPassable, ArePassable};
-ghost use Rattle.elab_flow.specs.Edges.{edge, part_place, part_places, pairs, assign_edges, IsCell, IsCellBelow, IsBlockEdge, AnyBlockEdge};
+ghost use Rattle.elab_flow.specs.Edges.{edge, moved_edge, part_place, part_places, pairs, assign_edges, IsCell, IsCellBelow, IsBlockEdge, AnyBlockEdge};
 ghost use Rattle.elab_flow.specs.declared.edges.Edge.{Edge as Arrow};
 ghost use Rattle.elab_flow.specs.Sets.{tables, IsSized};
 
 use crate::block::flow_of;
+use crate::own::{own_signals, whole_place};
 use crate::scope::Scope;
 use elab_drive::{Part, add_store_reads, name_of, parts_of};
 use flat_scopes::Names;
@@ -145,6 +146,41 @@ fn add_block_edges(
     Ok(())
 }
 
+// Adds edges of places in a list of places, as edges of the places that stand there.
+fn add_moved(all: &mut Vec<Edge>, edges: &[Edge], places: &[usize]) -> Result<(), AllocError>
+    requires { (e : Arrow) → Among edges.now e → (e.from < length places.now) × (e.to < length places.now) }
+    ensures { OnOk result (all.new.items ≡ all.old.items ++ map (moved_edge places.now) edges.now) }
+{
+    for edge in edges {
+        all.push(Edge {
+            from: whole_place(places, edge.from),
+            to: whole_place(places, edge.to),
+        })?;
+    }
+    Ok(())
+}
+
+// The same edges of a block, found among the signals that it names.
+fn add_own_edges(
+    all: &mut Vec<Edge>,
+    alloc: Global,
+    scope: &Scope<'_>,
+    block: &Always,
+) -> Result<(), AllocError>
+    requires signals { AreVectors scope.now }
+    requires body { block.now.clocked ≡ false → IsPassable scope.now block.now.body }
+    ensures { OnOk result ((e : Arrow) → Among all.new.items e ↔ (Among all.old.items e ⊎ IsBlockEdge scope.now block.now e)) }
+{
+    if !block.clocked {
+        let own = own_signals(alloc, scope, &block.body)?;
+        let inner = Scope::of(alloc, &own.signals)?;
+        let mut edges = Vec::new(alloc);
+        add_block_edges(&mut edges, alloc, &inner, block)?;
+        add_moved(all, &edges, &own.places)?;
+    }
+    Ok(())
+}
+
 /// Adds from what combinational blocks assign to what the assignments depend on. Refused only for want of memory.
 pub fn add_blocks_edges(
     all: &mut Vec<Edge>,
@@ -157,7 +193,7 @@ pub fn add_blocks_edges(
     ensures { OnOk result ((e : Arrow) → Among all.new.items e ↔ (Among all.old.items e ⊎ AnyBlockEdge scope.now blocks.now e)) }
 {
     for block in blocks {
-        add_block_edges(all, alloc, scope, block)?;
+        add_own_edges(all, alloc, scope, block)?;
     }
     Ok(())
 }

@@ -9,6 +9,7 @@ ghost use Rattle.elab_flow.specs.Asked.{AreVectors, IsPassable, ArePassable, Can
 ghost use Rattle.elab_flow.specs.Shows.{IsAt};
 
 use crate::block::flow_of;
+use crate::own::{own_signals, whole_place};
 use crate::scope::Scope;
 use elab_drive::{Declared, Driver, clash, driver_claims};
 use outside::Text;
@@ -37,14 +38,28 @@ fn missed_in(
     }
 }
 
-// The same for a block; none if it waits for edges.
-fn missed_by(
+// The same, found among the signals that the statement names.
+fn missed_among_own(
     alloc: Global,
     scope: &Scope<'_>,
-    signals: &Declared<'_>,
-    block: &Always,
+    body: &Stmt,
 ) -> Result<Option<usize>, AllocError>
-    requires same { signals.now ≡ scope.now }
+    requires vectors { AreVectors scope.now }
+    requires body { IsPassable scope.now body.now }
+    ensures some { IfOk result (λ o. IfSome o (λ i. OfSignal scope.now i (Misses (place_over scope.now) body.now))) }
+    ensures none { IfOk result (λ o. IfNone o ((x : Name) → Misses (place_over scope.now) body.now x → ⊥)) }
+{
+    let own = own_signals(alloc, scope, body)?;
+    let inner = Scope::of(alloc, &own.signals)?;
+    let signals = Declared::of(alloc, &own.signals)?;
+    match missed_in(alloc, &inner, &signals, body)? {
+        Some(place) => Ok(Some(whole_place(&own.places, place))),
+        None => Ok(None),
+    }
+}
+
+// The same for a block; none if it waits for edges.
+fn missed_by(alloc: Global, scope: &Scope<'_>, block: &Always) -> Result<Option<usize>, AllocError>
     requires vectors { AreVectors scope.now }
     requires body { block.now.clocked ≡ false → IsPassable scope.now block.now.body }
     ensures some { IfOk result (λ o. IfSome o (λ i. OfSignal scope.now i (BlockMisses scope.now block.now))) }
@@ -53,7 +68,7 @@ fn missed_by(
     if block.clocked {
         return Ok(None);
     }
-    let place = missed_in(alloc, scope, signals, &block.body)?;
+    let place = missed_among_own(alloc, scope, &block.body)?;
     Ok(place)
 }
 
@@ -61,17 +76,15 @@ fn missed_by(
 fn missed_of(
     alloc: Global,
     scope: &Scope<'_>,
-    signals: &Declared<'_>,
     blocks: &[Always],
 ) -> Result<Option<usize>, AllocError>
-    requires same { signals.now ≡ scope.now }
     requires vectors { AreVectors scope.now }
     requires blocks { ArePassable scope.now blocks.now }
     ensures some { IfOk result (λ o. IfSome o (λ i. OfSignal scope.now i (AnyMisses scope.now blocks.now))) }
     ensures none { IfOk result (λ o. IfNone o ((x : Name) → AnyMisses scope.now blocks.now x → ⊥)) }
 {
     for block in blocks {
-        if let Some(place) = missed_by(alloc, scope, signals, block)? {
+        if let Some(place) = missed_by(alloc, scope, block)? {
             return Ok(Some(place));
         }
     }
@@ -95,8 +108,7 @@ pub fn latch_of(alloc: Global, flat: &Flat) -> Result<Option<Text>, AllocError>
 {
     let list = flat.signals.as_slice();
     let scope = Scope::of(alloc, list)?;
-    let signals = Declared::of(alloc, list)?;
-    match missed_of(alloc, &scope, &signals, flat.blocks.as_slice())? {
+    match missed_of(alloc, &scope, flat.blocks.as_slice())? {
         Some(place) => {
             let name = name_at(alloc, list, place)?;
             Ok(Some(name))

@@ -9,6 +9,7 @@ mod graph;
 mod latch;
 mod listed;
 mod marks;
+mod own;
 mod pass;
 mod places;
 mod scope;

@@ -13,6 +13,7 @@ ghost use Rattle.elab_flow.specs.Shows.{IsAt};
 
 use crate::block::flow_of;
 use crate::latch::name_at;
+use crate::own::{own_signals, whole_place};
 use crate::scope::Scope;
 use flat_scopes::Names;
 use outside::Text;
@@ -62,6 +63,26 @@ fn unlisted_by(
     Ok(place)
 }
 
+// The same, found among the signals that the statement names.
+fn unlisted_among_own(
+    alloc: Global,
+    scope: &Scope<'_>,
+    body: &Stmt,
+    listed: &[Text],
+) -> Result<Option<usize>, AllocError>
+    requires signals { AreVectors scope.now }
+    requires body { IsPassable scope.now body.now }
+    ensures some { IfOk result (λ o. IfSome o (λ i. OfSignal scope.now i (ReadsBesides (place_over scope.now) body.now listed.now))) }
+    ensures none { IfOk result (λ o. IfNone o ((x : Name) → ReadsBesides (place_over scope.now) body.now listed.now x → ⊥)) }
+{
+    let own = own_signals(alloc, scope, body)?;
+    let inner = Scope::of(alloc, &own.signals)?;
+    match unlisted_by(alloc, &inner, body, listed)? {
+        Some(place) => Ok(Some(whole_place(&own.places, place))),
+        None => Ok(None),
+    }
+}
+
 // The same for a block; none if it waits for edges or has no list.
 fn unlisted_at(
     alloc: Global,
@@ -78,7 +99,7 @@ fn unlisted_at(
     }
     match &block.names {
         Some(listed) => {
-            let place = unlisted_by(alloc, scope, &block.body, listed.as_slice())?;
+            let place = unlisted_among_own(alloc, scope, &block.body, listed.as_slice())?;
             Ok(place)
         }
         None => Ok(None),
