@@ -1,24 +1,22 @@
 -- The tests of a case statement's items.
 use Rattle.std.proofs.Common.{arith, ◌≡◌, ℕ, zero, suc, ◌+◌, ◌<◌, ◌≤◌, max, Bool, true, false, ◌&&◌, List, [], ◌∷◌, ◌++◌, length, get_or, drop, take, refl, sym, ap, ◌∙◌, subst}
 use Rattle.word_dag.specs.declared.node.Node.{Node}
-use Rattle.word_dag.specs.Nodes.{Naming, word_at}
+use Rattle.word_dag.specs.Nodes.{Naming}
 use Rattle.word_dag.specs.Adding.{Keeps}
-use Rattle.word_core.specs.Words.{Bits}
 use Rattle.vlog_tree.specs.declared.expr.Expr.{Expr}
 use Rattle.vlog_tree.specs.declared.stmt.CaseItem.{CaseItem}
 use Rattle.vlog_tree.specs.declared.stmt.CaseKind.{CaseKind}
-use Rattle.vlog_tree.specs.declared.stmt.Labels.{Labels}
 use Rattle.vlog_tree.specs.declared.valuation.Entry.{Entry}
-use Rattle.vlog_tree.specs.Value.{IsFormed, width_of, sign_of, value_of, bit}
+use Rattle.vlog_tree.specs.Value.{value_of, bit}
 use Rattle.vlog_value.specs.Shapes.{each_formed}
 use Rattle.vlog_runs.specs.Blocks.{widest, all_signed, exprs_in, any_matches}
 use Rattle.elab_node.specs.declared.leaves.Leaf.{Leaf}
-use Rattle.elab_node.specs.Leaves.{declared, valued, AreReady}
+use Rattle.elab_node.specs.Leaves.{valued, AreReady}
 use Rattle.elab_node.specs.Nodes.{number_at, words, Makes, IsNode}
 use Rattle.elab_node.specs.Terms.{HasNode}
 use Rattle.elab_node.proofs.Kept.{node_kept, number_kept, made_node, made_number, valued_kept, ready_kept, keeps_then}
 use Rattle.elab_node.proofs.Shaped.{value_made}
-use Rattle.elab_block.specs.Ready.{IsPlaced, ArePlaced}
+use Rattle.elab_block.specs.Ready.{ArePlaced}
 use Rattle.elab_block.specs.Cases.{each_labels, is_chosen, AreMatches}
 use Rattle.elab_block.proofs.Joins.{take_next, take_all}
 use Rattle.elab_block.proofs.Labelling.{drop_at, drop_all, widest_append, signed_append, Longest, longest_end}

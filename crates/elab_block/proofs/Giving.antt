@@ -49,7 +49,7 @@ put_low q t c x = ap (λ k. if bytes_eq q.name x then k else c x) (sym (write_lo
 same_name : (x : Name) → bytes_eq x x ≡ true
 same_name x = (bytes_eq-Decides x x).1 refl
 
-other_name : (x y : Name) → x ≢ y → bytes_eq x y ≡ false
+pub other_name : (x y : Name) → x ≢ y → bytes_eq x y ≡ false
 other_name x y n = ⊎_elim (λ (h : bytes_eq x y ≡ true). absurd (n ((bytes_eq-Decides x y).0 h))) (λ h. h) (bool_cases (bytes_eq x y))
 
 module _ (e : Naming) (size : ℕ) (from : ℤ) (count v : ℕ) (d : Cycle) where
@@ -114,14 +114,14 @@ bit_kept e a b (s.Indexed x from) k h = ap (λ n. bit_at' n) (number_kept e a b 
     bit_at' : ℕ → ℤ
     bit_at' n = integer x.signed x.wire.width n -ℤ from
 
-name_same : (ls ms : List Leaf) (i : ℕ) → declared ms ≡ declared ls → name_at ms i ≡ name_at ls i
+pub name_same : (ls ms : List Leaf) (i : ℕ) → declared ms ≡ declared ls → name_at ms i ≡ name_at ls i
 name_same [] [] i h = refl
 name_same [] (m ∷ ms) i h = cc
 name_same (l ∷ ls) [] i h = cc
 name_same (l ∷ ls) (m ∷ ms) zero h = let e : entry_of m 0 ≡ entry_of l 0 = cc in ap (λ (k : Entry). k.name) e
 name_same (l ∷ ls) (m ∷ ms) (suc i) h = let t : declared ms ≡ declared ls = cc in name_same ls ms i t
 
-width_same : (ls ms : List Leaf) (i : ℕ) → declared ms ≡ declared ls → width_at ms i ≡ width_at ls i
+pub width_same : (ls ms : List Leaf) (i : ℕ) → declared ms ≡ declared ls → width_at ms i ≡ width_at ls i
 width_same [] [] i h = refl
 width_same [] (m ∷ ms) i h = cc
 width_same (l ∷ ls) [] i h = cc

@@ -3,9 +3,11 @@ mod Writing
 mod Trying
 mod Joins
 mod Giving
+mod Saving
 mod Sides
 mod Storing
 mod Matching
 mod Labelling
 mod Choosing
 mod Picking
+mod Sparing

@@ -1,5 +1,5 @@
 -- Case statements that are run on nodes.
-use Rattle.std.proofs.Common.{arith, ◌≡◌, ℕ, zero, suc, ◌+◌, ◌<◌, ◌≤◌, max, Bool, true, false, ◌&&◌, List, [], ◌∷◌, ◌++◌, length, get_or, drop, map, refl, sym, ap, ◌∙◌, subst, Option, Some, None}
+use Rattle.std.proofs.Common.{arith, ◌≡◌, ℕ, zero, suc, ◌+◌, ◌<◌, ◌≤◌, max, Bool, true, false, ◌&&◌, List, [], ◌∷◌, ◌++◌, length, get_or, drop, map, refl, sym, ap, ◌∙◌, subst, Option}
 use Rattle.std.specs.Prelude.{nat_eq, if◌then◌else◌}
 use Rattle.word_dag.specs.declared.node.Node.{Node}
 use Rattle.word_dag.specs.Nodes.{Naming}
@@ -13,21 +13,26 @@ use Rattle.vlog_tree.specs.declared.stmt.Stmt.{Stmt, Row_of-CaseItem, end_of-Cas
 use Rattle.vlog_tree.specs.declared.stmt.Stmt.TheVariants as s
 use Rattle.vlog_tree.specs.declared.stmt.Stmt.TheBlock.{hidden-the_row-CaseItem-2}
 use Rattle.vlog_tree.specs.declared.valuation.Entry.{Entry}
-use Rattle.vlog_tree.specs.Value.{bit, width_of, sign_of}
+use Rattle.vlog_tree.specs.Value.{bit}
 use Rattle.vlog_runs.specs.declared.flat.Signal.{Signal}
 use Rattle.vlog_runs.specs.Places.{Name, Cycle, Place, valuation}
 use Rattle.vlog_runs.specs.Blocks.{seen, widest, all_signed, exprs_in, is_default, labels_in, case_width, case_sign, any_matches, run, run_items, run_default}
 use Rattle.elab_node.specs.declared.leaves.Leaf.{Leaf}
-use Rattle.elab_node.specs.Leaves.{declared, valued, AreReady}
+use Rattle.elab_node.specs.Leaves.{declared, valued}
 use Rattle.elab_node.specs.Nodes.{number_at, words, IsNode}
 use Rattle.elab_node.proofs.Alike.{same_operand}
-use Rattle.elab_node.proofs.Kept.{ready_kept, keeps_then, number_kept, node_kept}
+use Rattle.elab_node.proofs.Kept.{keeps_then, number_kept, node_kept}
 use Rattle.elab_node.proofs.Read.{alike_valued}
-use Rattle.elab_block.specs.Standing.{flat, AreLeavesOf, AreShown, nodes_of, with_nodes, AreNodes, chosen}
+use Rattle.elab_block.specs.Standing.{flat, AreLeavesOf, AreShown}
+use Rattle.elab_block.specs.declared.branches.Saved.{Saved}
+use Rattle.elab_block.specs.Saving.{put_back, AreSaved, IsSaved}
+use Rattle.elab_block.specs.Sparing.{Spares, ItemsSpare, Covers, EachCovered}
+use Rattle.elab_block.specs.Targets.{name_at}
 use Rattle.elab_block.specs.Ready.{ArePlaced, IsReadyStmt, AreReadyItems, EachReadyItem}
 use Rattle.elab_block.specs.Cases.{each_labels, each_items, each_default, case_test, picked, AreMatches}
 use Rattle.elab_block.specs.Runs.{seen_by, is_at_once, AreBefore, AreSet, Runs, Tests, Branches, AreBits, AreTests, Picks, IsDefaultAt}
-use Rattle.elab_block.proofs.Joins.{shown_kept, shown_same, leaves_same, with_back, nodes_kept}
+use Rattle.elab_block.proofs.Joins.{shown_kept, shown_same, leaves_same}
+use Rattle.elab_block.proofs.Saving.{saved_moved, back_ready, back_after, back_saved, away_agrees, covers_same}
 use Rattle.elab_block.proofs.Sides.{valuation_is}
 use Rattle.elab_block.proofs.Storing.{before_kept, shown_seen}
 use Rattle.elab_block.proofs.Labelling.{drop_at, drop_all}
@@ -132,6 +137,37 @@ ready_item v [] k x d h lt is = absurd (omega arith)
 ready_item v (y ∷ ys) zero x d h lt is = subst (λ (z : CaseItem). IsReadyStmt v z.body) (sym is) h.0
 ready_item v (y ∷ ys) (suc k) x d h lt is = ready_item v ys k x d h.1 (omega arith) is
 
+-- ---- what the bodies of items leave as it is
+
+pub one_of : (t : Bool) (m n k : ℕ) → m ≡ k → n ≡ k → (if t then m else n) ≡ k
+one_of true m n k h g = h
+one_of false m n k h g = g
+
+pub default_spared : (ls : List Leaf) (gs : List Signal) (o : Bool) (items : List CaseItem) (c d : Cycle) (x : Name) → AreLeavesOf gs ls → ItemsSpare ls items x → each_default o (flat gs) items c d x ≡ d x
+default_spared ls gs o [] c d x leaves h = refl
+default_spared ls gs o (i ∷ rest) c d x leaves h =
+    one_of (is_default i.labels) (run o (flat gs) i.body c d x) (each_default o (flat gs) rest c d x) (d x) (h.0 gs o c d leaves) (default_spared ls gs o rest c d x leaves h.1)
+
+pub picked_spared : (ls : List Leaf) (gs : List Signal) (o : Bool) (items : List CaseItem) (bs : List ℕ) (c d other : Cycle) (x : Name) → AreLeavesOf gs ls → ItemsSpare ls items x → other x ≡ d x → picked o (flat gs) items bs c d other x ≡ d x
+picked_spared ls gs o [] bs c d other x leaves h e = e
+picked_spared ls gs o (i ∷ rest) [] c d other x leaves h e = e
+picked_spared ls gs o (i ∷ rest) (b ∷ bs) c d other x leaves h e =
+    one_of (nat_eq b 1) (run o (flat gs) i.body c d x) (picked o (flat gs) rest bs c d other x) (d x) (h.0 gs o c d leaves) (picked_spared ls gs o rest bs c d other x leaves h.1 e)
+
+spared_drop : (ls : List Leaf) (items : List CaseItem) (k : ℕ) (x : Name) → ItemsSpare ls items x → ItemsSpare ls (drop k items) x
+spared_drop ls [] zero x h = h
+spared_drop ls [] (suc k) x h = h
+spared_drop ls (i ∷ rest) zero x h = h
+spared_drop ls (i ∷ rest) (suc k) x h = spared_drop ls rest k x h.1
+
+spared_item : (ls : List Leaf) (items : List CaseItem) (k : ℕ) (i d : CaseItem) (x : Name) → ItemsSpare ls items x → k < length items → i ≡ get_or items k d → Spares ls i.body x
+spared_item ls [] k i d x h lt is = absurd (omega arith)
+spared_item ls (y ∷ rest) zero i d x h lt is = subst (λ (z : CaseItem). Spares ls z.body x) (sym is) h.0
+spared_item ls (y ∷ rest) (suc k) i d x h lt is = spared_item ls rest k i d x h.1 (omega arith) is
+
+pub covered_item : (ls ms : List Leaf) (ss : List Saved) (items : List CaseItem) (k : ℕ) (i d : CaseItem) → declared ms ≡ declared ls → EachCovered ls ss items → k < length items → i ≡ get_or items k d → Covers ms ss i.body
+covered_item ls ms ss items k i d same h lt is = covers_same ls ms ss i.body same (λ j in' away. spared_item ls items k i d (name_at ls j) (h j in' away) lt is)
+
 -- ---- the first item whose bit is 1
 
 bit_is : (t : Bool) → nat_eq (bit t) 1 ≡ t
@@ -147,36 +183,18 @@ picked_is reads t ms a b d (i ∷ is) (z ∷ zs) gs e p q other x k n h leaves b
     let here : nat_eq (number_at e d z) 1 ≡ t gs p q i.labels = ap (λ m. nat_eq m 1) (number_kept e b d z 1 k n.0 ∙ h.0 gs e p q leaves before now) ∙ bit_is (t gs p q i.labels) in
     λ j. if here j then run (is_at_once reads) (flat gs) i.body p q x else picked_is reads t ms a b d is zs gs e p q other x k n.1 h.1 leaves before now j
 
--- leaves of the same names with the same nodes
-shown_with : (e : Naming) (ms os : List Leaf) (is : List ℕ) (a b : List Node) (q : Cycle) → declared os ≡ declared ms → Keeps a b → AreNodes ms is a → AreShown e a (with_nodes ms is) q → AreShown e b (with_nodes os is) q
-shown_with e [] [] is a b q same k n h = tt
-shown_with e [] (o ∷ os) is a b q same k n h = absurd cc
-shown_with e (m ∷ ms) [] is a b q same k n h = absurd cc
-shown_with e (m ∷ ms) (o ∷ os) [] a b q same k n h = absurd n
-shown_with e (m ∷ ms) (o ∷ os) (i ∷ is) a b q same k n h =
-    let name : o.name ≡ m.name = ap first_name same in
-    (ap q name ∙ (h.0 ∙ sym (number_kept e a b i m.width k n.0)), shown_with e ms os is a b q (ap rest same) k n.1 h.1)
-  where
-    first_name : List Entry → Name
-    first_name [] = []
-    first_name (x ∷ xs) = x.name
-
-    rest : List Entry → List Entry
-    rest [] = []
-    rest (x ∷ xs) = xs
-
 -- the items from one on, so far
-pub record Picking (reads : Option (List Leaf)) (items : List CaseItem) (tests before : List ℕ) (ms : List Leaf) (a : List Node) (os : List Leaf) (b : List Node) (k : ℕ) : Type 0 where
+pub record Picking (reads : Option (List Leaf)) (items : List CaseItem) (tests : List ℕ) (before : List Saved) (ms : List Leaf) (a : List Node) (os : List Leaf) (b : List Node) (k : ℕ) : Type 0 where
   pub keeps : Keeps a b
   pub same : declared os ≡ declared ms
   pub set : AreSet reads os b
-  pub nodes : AreNodes os before b
+  pub nodes : AreSaved os before b
   pub bits : AreBits items tests b
   pub items_ready : EachReadyItem (declared os) items
   pub within : k ≤ length items
   pub picks : Picks reads (drop k items) (drop k tests) before ms a os b
 
-pub picking_start : (reads : Option (List Leaf)) (items : List CaseItem) (tests before : List ℕ) (ms : List Leaf) (a : List Node) (k : ℕ) → k ≡ length items → Keeps a a → AreSet reads ms a → AreNodes ms before a → AreBits items tests a → EachReadyItem (declared ms) items
+pub picking_start : (reads : Option (List Leaf)) (items : List CaseItem) (tests : List ℕ) (before : List Saved) (ms : List Leaf) (a : List Node) (k : ℕ) → k ≡ length items → Keeps a a → AreSet reads ms a → AreSaved ms before a → AreBits items tests a → EachReadyItem (declared ms) items
     → Picking reads items tests before ms a ms a k
 picking_start reads items tests before ms a k is keeps set nodes bits ready = record {
   keeps = keeps;
@@ -189,13 +207,13 @@ picking_start reads items tests before ms a k is keeps set nodes bits ready = re
   picks = λ gs e p q d leaves earlier shown now. subst (λ (xs : List CaseItem). AreShown e a ms (picked (is_at_once reads) (flat gs) xs (map (number_at e a) (drop k tests)) p q d)) (sym (drop_all items k (omega (arith, is)))) now;
 }
 
-pub picking_next : (reads : Option (List Leaf)) (items : List CaseItem) (tests before held : List ℕ) (ms os ks : List Leaf) (a b c : List Node) (n k z : ℕ) (d : CaseItem) (body : Stmt) → n ≡ k + 1 → AreSet reads ms a → AreNodes ms before a → AreBits items tests a
+pub picking_next : (reads : Option (List Leaf)) (items : List CaseItem) (tests : List ℕ) (before held : List Saved) (ms os ks : List Leaf) (a b c : List Node) (n k z : ℕ) (d : CaseItem) (body : Stmt) → n ≡ k + 1 → AreSet reads ms a → AreSaved ms before a → EachCovered ms before items → AreBits items tests a
     → Picking reads items tests before ms a os b n → body ≡ (get_or items k d).body → z ≡ get_or tests k 0 → held ≡ before → Keeps b c → declared ks ≡ declared os → AreSet reads ks c → Branches reads body z held os b ks c → Picking reads items tests before ms a ks c k
-picking_next reads items tests before held ms os ks a b c n k z d body is set nodes bits h body_is z_is held_is keeps same set' branch = record {
+picking_next reads items tests before held ms os ks a b c n k z d body is set nodes covers bits h body_is z_is held_is keeps same set' branch = record {
   keeps = keeps_then a b c h.keeps keeps;
   same = same ∙ h.same;
   set = set';
-  nodes = same_nodes before os ks b c same keeps h.nodes;
+  nodes = saved_moved os ks before b c same keeps h.nodes;
   bits = bits_kept b c items tests keeps h.bits;
   items_ready = subst (λ v. EachReadyItem v items) (sym same) h.items_ready;
   within = omega (arith, is, h.within);
@@ -204,7 +222,10 @@ picking_next reads items tests before held ms os ks a b c n k z d body is set no
       let zlt : k < length tests = omega (arith, lt, bits_long items tests a bits) in
       let rest : AreShown e b os (picked (is_at_once reads) (flat gs) (drop (k + 1) items) (map (number_at e a) (drop (k + 1) tests)) p q other) =
       subst (λ m. AreShown e b os (picked (is_at_once reads) (flat gs) (drop m items) (map (number_at e a) (drop m tests)) p q other)) is (h.picks gs e p q other leaves earlier shown now) in
-      let sb : AreShown e b (with_nodes os held) q = subst (λ m. AreShown e b (with_nodes os m) q) (sym held_is) (shown_with e ms os before a b q h.same h.keeps nodes shown) in
+      let kept : AreShown e b (put_back ms before) q = shown_kept e (put_back ms before) a b q h.keeps (back_ready ms before a set.ready nodes) shown in
+      let sb : AreShown e b (put_back os held) q =
+      subst (λ (m : List Saved). AreShown e b (put_back os m) q) (sym held_is) (back_after e b ms os before q _ h.same kept rest
+      (λ j in' away. picked_spared ms gs (is_at_once reads) (drop (k + 1) items) (map (number_at e a) (drop (k + 1) tests)) p q other (name_at ms j) leaves (spared_drop ms items (k + 1) (name_at ms j) (covers j in' away)) (sym (away_agrees e a ms before q other j shown now in' away)))) in
       let f = branch gs e p q _ (leaves_same gs ms os h.same leaves) (before_kept e reads ms a b p set h.keeps earlier) sb rest in
       let number : number_at e b z ≡ number_at e a (get_or tests k 0) = ap (number_at e b) z_is ∙ number_kept e a b (get_or tests k 0) 1 h.keeps (bit_at items tests a k 0 bits lt) in
       let g : AreShown e c ks (picked (is_at_once reads) (flat gs) (get_or items k d ∷ drop (k + 1) items) (number_at e a (get_or tests k 0) ∷ map (number_at e a) (drop (k + 1) tests)) p q other) =
@@ -212,26 +233,8 @@ picking_next reads items tests before held ms os ks a b c n k z d body is set no
       subst (λ (xs : List CaseItem). AreShown e c ks (picked (is_at_once reads) (flat gs) xs (map (number_at e a) (drop k tests)) p q other)) (sym (drop_at items k d lt))
       (subst (λ (ys : List ℕ). AreShown e c ks (picked (is_at_once reads) (flat gs) (get_or items k d ∷ drop (k + 1) items) (map (number_at e a) ys) p q other)) (sym (drop_at tests k 0 zlt)) g);
 }
-  where
-    same_nodes : (is : List ℕ) (os ks : List Leaf) (b c : List Node) → declared ks ≡ declared os → Keeps b c → AreNodes os is b → AreNodes ks is c
-    same_nodes [] [] [] b c same k h = tt
-    same_nodes [] [] (y ∷ ys) b c same k h = absurd cc
-    same_nodes [] (x ∷ xs) ys b c same k h = absurd h
-    same_nodes (i ∷ is) [] ys b c same k h = absurd h
-    same_nodes (i ∷ is) (x ∷ xs) [] b c same k h = absurd cc
-    same_nodes (i ∷ is) (x ∷ xs) (y ∷ ys) b c same k h =
-        let wide : y.width ≡ x.width = ap first_width same in
-        (subst (λ n. IsNode c i n) (sym wide) (node_kept b c i x.width k h.0), same_nodes is xs ys b c (ap rest same) k h.1)
-      where
-        first_width : List Entry → ℕ
-        first_width [] = 0
-        first_width (x ∷ xs) = x.width
 
-        rest : List Entry → List Entry
-        rest [] = []
-        rest (x ∷ xs) = xs
-
-pub picking_end : (reads : Option (List Leaf)) (items : List CaseItem) (tests before : List ℕ) (ms os : List Leaf) (a b : List Node) (k : ℕ) → k ≡ 0 → Picking reads items tests before ms a os b k → Picks reads items tests before ms a os b
+pub picking_end : (reads : Option (List Leaf)) (items : List CaseItem) (tests : List ℕ) (before : List Saved) (ms os : List Leaf) (a b : List Node) (k : ℕ) → k ≡ 0 → Picking reads items tests before ms a os b k → Picks reads items tests before ms a os b
 picking_end reads items tests before ms os a b k is h = subst (λ m. Picks reads (drop m items) (drop m tests) before ms a os b) is h.picks
 
 -- ---- the default
@@ -259,15 +262,16 @@ skipped_next items k x d lt is other h o p c e y =
 
 -- ---- a case statement
 
-pub case_runs : (reads : Option (List Leaf)) (kind : CaseKind) (subject : Expr) (items : List CaseItem) (tree : Stmt) (zs before : List ℕ) (ms os ks : List Leaf) (a b d k : List Node) → tree ≡ s.Case kind subject items → AreSet reads ms a
-    → Keeps a b → Keeps b d → before ≡ nodes_of ms → declared os ≡ declared ms → AreBits items zs b → AreTests reads (λ gs. case_test (is_at_once reads) (flat gs) kind subject items) ms a b items zs
+pub case_runs : (reads : Option (List Leaf)) (kind : CaseKind) (subject : Expr) (items : List CaseItem) (tree : Stmt) (zs : List ℕ) (before : List Saved) (ms os ks : List Leaf) (a b d k : List Node) → tree ≡ s.Case kind subject items → AreSet reads ms a
+    → Keeps a b → Keeps b d → IsSaved ms before → EachCovered ms before items → declared os ≡ declared ms → AreBits items zs b → AreTests reads (λ gs. case_test (is_at_once reads) (flat gs) kind subject items) ms a b items zs
     → Runs reads (λ gs. each_default (is_at_once reads) (flat gs) items) ms b os d → Picks reads items zs before os d ks k → Runs reads (λ gs. run (is_at_once reads) (flat gs) tree) ms a ks k
-case_runs reads kind subject items tree zs before ms os ks a b d k is set ab bd held same bits tests default picks gs e p q leaves earlier now =
+case_runs reads kind subject items tree zs before ms os ks a b d k is set ab bd held covers same bits tests default picks gs e p q leaves earlier now =
     let o = is_at_once reads in
     let ad = keeps_then a b d ab bd in
-    let w : ms ≡ with_nodes os before = sym (ap (with_nodes os) held ∙ with_back ms os same) in
     let other = default gs e p q leaves (before_kept e reads ms a b p set ab earlier) (shown_kept e ms a b q ab set.ready now) in
-    let shown : AreShown e d (with_nodes os before) q = subst (λ m. AreShown e d m q) w (shown_kept e ms a d q ad set.ready now) in
+    let own : AreShown e d (put_back ms before) q = subst (λ m. AreShown e d m q) (sym (back_saved ms before held)) (shown_kept e ms a d q ad set.ready now) in
+    let shown : AreShown e d (put_back os before) q =
+    back_after e d ms os before q (each_default o (flat gs) items p q) same own other (λ j in' away. default_spared ms gs o items p q (name_at ms j) leaves (covers j in' away)) in
     let done = picks gs e p q (each_default o (flat gs) items p q) (leaves_same gs ms os same leaves) (before_kept e reads ms a d p set ad earlier) shown other in
     shown_same e ks k _ _
     (λ x. case_run o (flat gs) kind subject items tree p q x is

@@ -43,7 +43,7 @@ use Rattle.elab_block.proofs.Giving.{leaf_width, target_kept, piece_same}
 
 -- ---- what names stand for
 
-one_entry : (g : Signal) (l : Leaf) (c : Cycle) (n : ℕ) → IsLeafOf g l → c l.name ≡ n → entries_of [] c g ≡ ls.entry_of l n ∷ []
+pub one_entry : (g : Signal) (l : Leaf) (c : Cycle) (n : ℕ) → IsLeafOf g l → c l.name ≡ n → entries_of [] c g ≡ ls.entry_of l n ∷ []
 one_entry g l c n k v =
     ap (λ m. if nat_eq m 0 then held_entry [] c g ∷ [] else entry_of g 0 ∷ map (held_entry [] c) (words_from g 0 g.depth)) k.depth
     ∙ (λ r. record {
@@ -350,7 +350,7 @@ row_wide : {m : _} (v : List Entry) (row : Row_of-Lval m) → row_width v row �
 row_wide v end_of-Lval = refl
 row_wide v (more_of-Lval a rest) = ap (λ k. left_width v a + k) (row_wide v rest)
 
-row_flat : {m : _} (p : Place) (c : Cycle) (row : Row_of-Lval m) → row_pieces p c row ≡ flat_map (pieces p c) (items-the_row-Lval m row)
+pub row_flat : {m : _} (p : Place) (c : Cycle) (row : Row_of-Lval m) → row_pieces p c row ≡ flat_map (pieces p c) (items-the_row-Lval m row)
 row_flat p c end_of-Lval = refl
 row_flat p c (more_of-Lval a rest) = ap (λ k. pieces p c a ++ k) (row_flat p c rest)
 

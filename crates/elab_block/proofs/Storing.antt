@@ -1,6 +1,7 @@
 -- Statements that are run on nodes.
 use Rattle.std.proofs.Common.{arith, ◌≡◌, ℕ, zero, suc, ◌+◌, ◌<◌, ◌≤◌, Bool, true, false, List, [], ◌∷◌, length, get_or, drop, refl, sym, ap, ◌∙◌, subst, Option, Some, None}
 use Rattle.std.specs.Prelude.{nat_eq, not, if◌then◌else◌}
+use Rattle.std.specs.List.{Contains}
 use Rattle.word_dag.specs.declared.node.Node.{Node}
 use Rattle.word_dag.specs.Nodes.{Naming}
 use Rattle.word_dag.specs.Adding.{Keeps}
@@ -19,12 +20,16 @@ use Rattle.elab_node.specs.Leaves.{declared, valued, AreReady}
 use Rattle.elab_node.specs.Nodes.{number_at, words, Makes, IsNode}
 use Rattle.elab_node.proofs.Kept.{ready_kept, keeps_then, keeps_same, number_kept, made_number}
 use Rattle.elab_block.specs.declared.targets.Target.{Target}
-use Rattle.elab_block.specs.Standing.{flat, AreLeavesOf, AreShown, nodes_of, with_nodes, AreNodes, chosen}
-use Rattle.elab_block.specs.Targets.{pieces_of, bits_in, AreTargets, Gives}
+use Rattle.elab_block.specs.Standing.{flat, AreLeavesOf, AreShown, chosen}
+use Rattle.elab_block.specs.declared.branches.Saved.{Saved}
+use Rattle.elab_block.specs.Saving.{saved_at, places_of, put_back, IsSaved, IsAway}
+use Rattle.elab_block.specs.Sparing.{Covers}
+use Rattle.elab_block.specs.Targets.{name_at, pieces_of, bits_in, AreTargets, Gives}
 use Rattle.elab_block.specs.Ready.{IsSingle, IsReadyStmt, AreReadyStmts, EachReadyStmt}
 use Rattle.elab_block.specs.Lefts.{AreParts}
 use Rattle.elab_block.specs.Runs.{seen_by, is_at_once, AreBefore, AreSet, Runs, Joins, Tests, Branches, each_runs}
-use Rattle.elab_block.proofs.Joins.{shown_kept, shown_same, apart_same, leaves_same, with_back, with_declared}
+use Rattle.elab_block.proofs.Joins.{shown_kept, shown_same, apart_same, leaves_same}
+use Rattle.elab_block.proofs.Saving.{back_declared, back_own, back_saved, back_after, away_agrees, places_saved}
 use Rattle.elab_block.proofs.Giving.{target_kept, piece_same, total_bits}
 use Rattle.elab_block.proofs.Sides.{valuation_is, append_none}
 use denote.Hole.Carrier
@@ -86,26 +91,31 @@ runs_to reads f ms ks a b c r k h gs e p q leaves before now = shown_kept e ks b
 pub tests_kept : (reads : Option (List Leaf)) (t : List Signal → Cycle → Cycle → Bool) (ms : List Leaf) (a b c : List Node) (z : ℕ) → IsNode b z 1 → Keeps b c → Tests reads t ms a b z → Tests reads t ms a c z
 tests_kept reads t ms a b c z n k h gs e p q leaves before now = number_kept e b c z 1 k n ∙ h gs e p q leaves before now
 
--- a branch on what other nodes show
-pub branch_is : (reads : Option (List Leaf)) (body : Stmt) (z : ℕ) (before others : List ℕ) (ms ns os ks : List Leaf) (a c k : List Node) → AreSet reads ms a → AreNodes ms before a → IsNode a z 1
-    → ns ≡ with_nodes ms before → others ≡ nodes_of ms → Keeps a c → Runs reads (λ gs. run (is_at_once reads) (flat gs) body) ns a os c → declared os ≡ declared ms
-    → Joins z (nodes_of os) (with_nodes os others) c ks k → Branches reads body z before ms a ks k
-branch_is reads body z before others ms ns os ks a c k set nodes n is back ac runs same join gs e p q d leaves earlier shown now =
-    let w : with_nodes os others ≡ ms = ap (with_nodes os) back ∙ with_back ms os same in
-    let v : with_nodes ms (nodes_of os) ≡ os = with_back os ms (sym same) in
-    let r : AreShown e c os (run (is_at_once reads) (flat gs) body p q) =
-    runs gs e p q (leaves_same gs ms ns (ap declared is ∙ with_declared ms before) leaves) earlier (subst (λ m. AreShown e a m q) (sym is) shown) in
-    let j : Joins z (nodes_of os) ms c ks k = subst (λ m. Joins z (nodes_of os) m c ks k) w join in
-    let f = j e (run (is_at_once reads) (flat gs) body p q) d (subst (λ m. AreShown e c m (run (is_at_once reads) (flat gs) body p q)) (sym v) r) (shown_kept e ms a c d ac set.ready now) in
-    subst (λ m. AreShown e k ks (chosen m (run (is_at_once reads) (flat gs) body p q) d)) (number_kept e a c z 1 ac n) f
+-- a branch on what is shown with saved nodes put back
+pub branch_is : (reads : Option (List Leaf)) (body : Stmt) (z : ℕ) (before others : List Saved) (ms ns os ks : List Leaf) (a c k : List Node) → AreSet reads ms a → Covers ms before body → IsNode a z 1
+    → ns ≡ put_back ms before → others ≡ saved_at ms (places_of before) → Keeps a c → Runs reads (λ gs. run (is_at_once reads) (flat gs) body) ns a os c → declared os ≡ declared ms
+    → Joins z others os c ks k → Branches reads body z before ms a ks k
+branch_is reads body z before others ms ns os ks a c k set covers n is back ac runs same join gs e p q d leaves earlier shown now =
+    let o = is_at_once reads in
+    let taken = saved_at ms (places_of before) in
+    let r : AreShown e c os (run o (flat gs) body p q) = runs gs e p q (leaves_same gs ms ns (ap declared is ∙ back_declared ms before) leaves) earlier (subst (λ m. AreShown e a m q) (sym is) shown) in
+    let own : AreShown e c (put_back ms taken) d = subst (λ m. AreShown e c m d) (sym (back_own ms (places_of before))) (shown_kept e ms a c d ac set.ready now) in
+    let other : AreShown e c (put_back os taken) d =
+    back_after e c ms os taken d (run o (flat gs) body p q) same own r
+    (λ i lt away. let off : IsAway before i = subst (λ (xs : List ℕ). Contains xs i → ⊥) (places_saved ms (places_of before)) away in covers i lt off gs o p q leaves ∙ away_agrees e a ms before q d i shown now lt off) in
+    let f = join e (run o (flat gs) body p q) d r (subst (λ (x : List Saved). AreShown e c (put_back os x) d) (sym back) other) in
+    subst (λ m. AreShown e k ks (chosen m (run o (flat gs) body p q) d)) (number_kept e a c z 1 ac n) f
 
 -- a branch on the leaves before, after another run
-pub choose_runs : (reads : Option (List Leaf)) (body : Stmt) (t : List Signal → Cycle → Cycle → Bool) (f : List Signal → Cycle → Cycle → Cycle) (ms os ks : List Leaf) (before : List ℕ) (a d k : List Node) (z : ℕ) → AreSet reads ms a → Keeps a d
-    → before ≡ nodes_of ms → declared os ≡ declared ms → Tests reads t ms a d z → Runs reads f ms a os d → Branches reads body z before os d ks k
+pub choose_runs : (reads : Option (List Leaf)) (body : Stmt) (t : List Signal → Cycle → Cycle → Bool) (f : List Signal → Cycle → Cycle → Cycle) (ms os ks : List Leaf) (before : List Saved) (a d k : List Node) (z : ℕ) → AreSet reads ms a → Keeps a d
+    → IsSaved ms before → declared os ≡ declared ms → ((gs : List Signal) (p q : Cycle) (i : ℕ) → AreLeavesOf gs ms → i < length ms → IsAway before i → f gs p q (name_at ms i) ≡ q (name_at ms i))
+    → Tests reads t ms a d z → Runs reads f ms a os d → Branches reads body z before os d ks k
     → Runs reads (λ gs p q x. if t gs p q then run (is_at_once reads) (flat gs) body p q x else f gs p q x) ms a ks k
-choose_runs reads body t f ms os ks before a d k z set ad is same test others branch gs e p q leaves earlier now =
-    let w : ms ≡ with_nodes os before = sym (ap (with_nodes os) is ∙ with_back ms os same) in
-    let b = branch gs e p q (f gs p q) (leaves_same gs ms os same leaves) (before_kept e reads ms a d p set ad earlier) (subst (λ m. AreShown e d m q) w (shown_kept e ms a d q ad set.ready now)) (others gs e p q leaves earlier now) in
+choose_runs reads body t f ms os ks before a d k z set ad saved same spared test others branch gs e p q leaves earlier now =
+    let own : AreShown e d (put_back ms before) q = subst (λ m. AreShown e d m q) (sym (back_saved ms before saved)) (shown_kept e ms a d q ad set.ready now) in
+    let other = others gs e p q leaves earlier now in
+    let back : AreShown e d (put_back os before) q = back_after e d ms os before q (f gs p q) same own other (λ i lt away. spared gs p q i leaves lt away) in
+    let b = branch gs e p q (f gs p q) (leaves_same gs ms os same leaves) (before_kept e reads ms a d p set ad earlier) back other in
     let h : nat_eq (number_at e d z) 1 ≡ t gs p q = ap (λ m. nat_eq m 1) (test gs e p q leaves earlier now) ∙ bit_test (t gs p q) in
     shown_same e ks k _ _ (λ x. ap (λ m. if m then run (is_at_once reads) (flat gs) body p q x else f gs p q x) (sym h)) b
 

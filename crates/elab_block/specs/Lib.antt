@@ -1,6 +1,7 @@
 pub mod Wires
 pub mod Standing
-pub mod Joining
+pub mod Saving
+pub mod Sparing
 pub mod Targets
 pub mod Ready
 pub mod Lefts

@@ -13,7 +13,9 @@ use Rattle.elab_node.specs.declared.leaves.Leaf.{Leaf}
 use Rattle.elab_node.specs.Leaves.{declared, AreReady}
 use Rattle.elab_node.specs.Nodes.{IsNode, number_at}
 use Rattle.elab_block.specs.Cases.{picked, each_default}
-use Rattle.elab_block.specs.Standing.{flat, AreLeavesOf, AreApart, AreShown, with_nodes, chosen}
+use Rattle.elab_block.specs.declared.branches.Saved.{Saved}
+use Rattle.elab_block.specs.Saving.{put_back}
+use Rattle.elab_block.specs.Standing.{flat, AreLeavesOf, AreApart, AreShown, chosen}
 
 -- the leaves that expressions are read from: those of the cycle before the edge, and where there are none, those that stand now
 abbrev pub seen_by : Option (List Leaf) → List Leaf → List Leaf
@@ -42,10 +44,10 @@ abbrev pub Runs : Option (List Leaf) → (List Signal → Cycle → Cycle → Cy
 Runs reads f ls old ms new =
     (gs : List Signal) (e : Naming) (c d : Cycle) → AreLeavesOf gs ls → AreBefore e old reads c → AreShown e old ls d → AreShown e new ms (f gs c d)
 
--- the later leaves show the first of two cycles where a node is 1, else the second
-abbrev pub Joins : ℕ → List ℕ → List Leaf → List Node → List Leaf → List Node → Type 0
-Joins condition ones ls old ms new =
-    (e : Naming) (c d : Cycle) → AreShown e old (with_nodes ls ones) c → AreShown e old ls d → AreShown e new ms (chosen (number_at e old condition) c d)
+-- the later leaves show what was shown where a node is 1, else what is shown with saved nodes put back
+abbrev pub Joins : ℕ → List Saved → List Leaf → List Node → List Leaf → List Node → Type 0
+Joins condition others ls old ms new =
+    (e : Naming) (c d : Cycle) → AreShown e old ls c → AreShown e old (put_back ls others) d → AreShown e new ms (chosen (number_at e old condition) c d)
 
 -- statements, one after another
 abbrev pub each_runs : Bool → Place → List Stmt → Cycle → Cycle → Cycle
@@ -56,10 +58,10 @@ each_runs at_once p (a ∷ rest) c d = each_runs at_once p rest c (run at_once p
 abbrev pub Tests : Option (List Leaf) → (List Signal → Cycle → Cycle → Bool) → List Leaf → List Node → List Node → ℕ → Type 0
 Tests reads t ms old new z = (gs : List Signal) (e : Naming) (p q : Cycle) → AreLeavesOf gs ms → AreBefore e old reads p → AreShown e old ms q → number_at e new z ≡ bit (t gs p q)
 
--- the later leaves show what a statement makes of what these nodes show where a test's node is 1, else what was shown
-abbrev pub Branches : Option (List Leaf) → Stmt → ℕ → List ℕ → List Leaf → List Node → List Leaf → List Node → Type 0
+-- the later leaves show what a statement makes of what is shown with saved nodes put back where a test's node is 1, else what was shown
+abbrev pub Branches : Option (List Leaf) → Stmt → ℕ → List Saved → List Leaf → List Node → List Leaf → List Node → Type 0
 Branches reads body test before ms old ks new =
-    (gs : List Signal) (e : Naming) (p q d : Cycle) → AreLeavesOf gs ms → AreBefore e old reads p → AreShown e old (with_nodes ms before) q → AreShown e old ms d
+    (gs : List Signal) (e : Naming) (p q d : Cycle) → AreLeavesOf gs ms → AreBefore e old reads p → AreShown e old (put_back ms before) q → AreShown e old ms d
     → AreShown e new ks (chosen (number_at e old test) (run (is_at_once reads) (flat gs) body p q) d)
 
 -- each node is of one bit, one for each item
@@ -75,10 +77,11 @@ AreTests reads t ms old new [] zs = Unit {0}
 AreTests reads t ms old new (i ∷ rest) [] = Unit {0}
 AreTests reads t ms old new (i ∷ rest) (z ∷ zs) = Tests reads (λ gs p q. t gs p q i.labels) ms old new z × AreTests reads t ms old new rest zs
 
--- the later leaves show what the first item whose node is 1 makes of what these nodes show, and where there is none what was shown
-abbrev pub Picks : Option (List Leaf) → List CaseItem → List ℕ → List ℕ → List Leaf → List Node → List Leaf → List Node → Type 0
+-- the later leaves show what the first item whose node is 1 makes of what is shown with saved nodes put back, and where there is none what
+-- was shown
+abbrev pub Picks : Option (List Leaf) → List CaseItem → List ℕ → List Saved → List Leaf → List Node → List Leaf → List Node → Type 0
 Picks reads items tests before ms old ks new =
-    (gs : List Signal) (e : Naming) (p q d : Cycle) → AreLeavesOf gs ms → AreBefore e old reads p → AreShown e old (with_nodes ms before) q → AreShown e old ms d
+    (gs : List Signal) (e : Naming) (p q d : Cycle) → AreLeavesOf gs ms → AreBefore e old reads p → AreShown e old (put_back ms before) q → AreShown e old ms d
     → AreShown e new ks (picked (is_at_once reads) (flat gs) items (map (number_at e old) tests) p q d)
 
 -- the place of the first item that is the default, or the number of items

@@ -5,7 +5,7 @@ use Rattle.vlog_runs.specs.Places.{Name, Cycle, Place}
 use Rattle.word_dag.specs.declared.node.Node.{Node}
 use Rattle.word_dag.specs.Nodes.{Naming}
 use Rattle.elab_node.specs.declared.leaves.Leaf.{Leaf}
-use Rattle.elab_node.specs.Nodes.{IsNode, number_at}
+use Rattle.elab_node.specs.Nodes.{number_at}
 
 -- the place of a module without instances
 abbrev pub flat : List Signal → Place
@@ -51,13 +51,6 @@ abbrev pub with_nodes : List Leaf → List ℕ → List Leaf
 with_nodes [] is = []
 with_nodes (l ∷ ls) [] = l ∷ ls
 with_nodes (l ∷ ls) (i ∷ is) = record l { node = i } ∷ with_nodes ls is
-
--- each is a node of its leaf's length
-abbrev pub AreNodes : List Leaf → List ℕ → List Node → Type 0
-AreNodes [] [] ns = Unit {0}
-AreNodes [] (i ∷ is) ns = ⊥
-AreNodes (l ∷ ls) [] ns = ⊥
-AreNodes (l ∷ ls) (i ∷ is) ns = IsNode ns i l.width × AreNodes ls is ns
 
 -- a cycle where a number is 1, else another one
 abbrev pub chosen : ℕ → Cycle → Cycle → Cycle

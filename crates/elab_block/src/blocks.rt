@@ -5,58 +5,22 @@ ghost use Rattle.word_dag.specs.Adding.{Keeps};
 ghost use Rattle.vlog_runs.specs.Blocks.{is_default, run};
 ghost use Rattle.elab_node.specs.Leaves.{declared};
 ghost use Rattle.elab_node.specs.Nodes.{IsNode};
-ghost use Rattle.elab_block.specs.Standing.{flat, AreNodes, nodes_of, with_nodes};
+ghost use Rattle.elab_block.specs.Saving.{saved_at, places_of, put_back, AreSaved};
+ghost use Rattle.elab_block.specs.Sparing.{Covers, EachCovered};
+ghost use Rattle.elab_block.specs.Standing.{flat};
 ghost use Rattle.elab_block.specs.Ready.{IsReadyStmt, EachReadyStmt, EachReadyItem};
 ghost use Rattle.elab_block.specs.Cases.{each_default};
 ghost use Rattle.elab_block.specs.Runs.{is_at_once, AreSet, Runs, Branches, each_runs, AreBits, Picks, IsDefaultAt};
 
-use crate::branches::{nodes_of, rejoin, replaced};
+use crate::branches::{Saved, join, replaced};
+use crate::parts::{body, listed, one, part, statements};
+use crate::places::{before_items, before_one, before_two};
 use crate::stores::{assign, case_tests, condition_node};
 use elab_node::Leaves;
-use sqlite_items::{Boxed, Items};
+use sqlite_items::Items;
 use std::alloc::{AllocError, Global};
 use vlog_tree::{CaseItem, Labels, Stmt};
 use word_dag::Dag;
-
-// A part of a statement.
-fn part<'a>(boxed: &'a Boxed<Stmt>, state: &Leaves) -> &'a Stmt
-    requires { IsReadyStmt (declared state.now) boxed.now }
-    ensures same { result.now ≡ boxed.now }
-    ensures ready { IsReadyStmt (declared state.now) result.now }
-{
-    let _state = state;
-    boxed.get()
-}
-
-// A statement of a block.
-fn one<'a>(stmt: &'a Stmt, state: &Leaves) -> &'a Stmt
-    requires { IsReadyStmt (declared state.now) stmt.now }
-    ensures same { result.now ≡ stmt.now }
-    ensures ready { IsReadyStmt (declared state.now) result.now }
-{
-    let _state = state;
-    stmt
-}
-
-// The statements of a block.
-fn statements<'a>(stmts: &'a Items<Stmt>, state: &Leaves) -> &'a [Stmt]
-    requires { EachReadyStmt (declared state.now) stmts.now }
-    ensures same { result.now ≡ stmts.now }
-    ensures ready { EachReadyStmt (declared state.now) result.now }
-{
-    let _state = state;
-    stmts.as_slice()
-}
-
-// The items of a case statement.
-fn listed<'a>(items: &'a Items<CaseItem>, state: &Leaves) -> &'a [CaseItem]
-    requires { EachReadyItem (declared state.now) items.now }
-    ensures same { result.now ≡ items.now }
-    ensures ready { EachReadyItem (declared state.now) result.now }
-{
-    let _state = state;
-    items.as_slice()
-}
 
 // A bit for each item.
 fn tested<'a>(dag: &Dag, items: &Items<CaseItem>, tests: &'a Vec<u64>) -> &'a [u64]
@@ -67,16 +31,6 @@ fn tested<'a>(dag: &Dag, items: &Items<CaseItem>, tests: &'a Vec<u64>) -> &'a [u
     let _dag = dag;
     let _items = items;
     tests.as_slice()
-}
-
-// The body of an item.
-fn body<'a>(item: &'a CaseItem, state: &Leaves) -> &'a Stmt
-    requires { IsReadyStmt (declared state.now) item.now.body }
-    ensures same { result.now ≡ item.now.body }
-    ensures ready { IsReadyStmt (declared state.now) result.now }
-{
-    let _state = state;
-    &item.body
 }
 
 fn is_default(labels: &Labels) -> bool
@@ -102,21 +56,21 @@ fn default_at(items: &[CaseItem]) -> usize
     at
 }
 
-// Gives the leaves these nodes, and takes theirs.
+// Puts saved nodes back, and takes the nodes that stood in their places.
 fn swapped(
     alloc: Global,
     dag: &Dag,
-    before: &[u64],
+    before: &[Saved],
     body: &Stmt,
     reads: Option<&Leaves>,
     state: &mut Leaves,
-) -> Result<Vec<u64>, AllocError>
+) -> Result<Vec<Saved>, AllocError>
     requires set { AreSet (option_copied reads) state.old dag.now }
-    requires before { AreNodes state.old before.now dag.now }
+    requires before { AreSaved state.old before.now dag.now }
     requires stmt { IsReadyStmt (declared state.old) body.now }
     ensures stmt { IfOk result (λ r. IsReadyStmt (declared state.new) body.now) }
-    ensures taken { IfOk result (λ r. r.items ≡ nodes_of state.old) }
-    ensures given { IfOk result (λ r. state.new ≡ with_nodes state.old before.now) }
+    ensures taken { IfOk result (λ r. r.items ≡ saved_at state.old (places_of before.now)) }
+    ensures given { IfOk result (λ r. state.new ≡ put_back state.old before.now) }
     ensures same { declared state.new ≡ declared state.old }
     ensures set { IfOk result (λ r. AreSet (option_copied reads.entry) state.new dag.now) }
 {
@@ -137,15 +91,45 @@ fn bit(dag: &Dag, test: u64) -> u64
     test
 }
 
-// A node for each leaf.
-fn held<'a>(dag: &Dag, nodes: &'a Vec<u64>, state: &Leaves) -> &'a [u64]
-    requires { AreNodes state.now nodes.now.items dag.now }
+// The nodes that are saved for a statement.
+fn held<'a>(dag: &Dag, nodes: &'a Vec<Saved>, stmt: &Stmt, state: &Leaves) -> &'a [Saved]
+    requires nodes { AreSaved state.now nodes.now.items dag.now }
+    requires covers { Covers state.now nodes.now.items stmt.now }
     ensures same { result.now ≡ nodes.now.items }
-    ensures nodes { AreNodes state.now result.now dag.now }
+    ensures nodes { AreSaved state.now result.now dag.now }
+    ensures covers { Covers state.now result.now stmt.now }
 {
     let _dag = dag;
+    let _stmt = stmt;
     let _state = state;
     nodes.as_slice()
+}
+
+// The nodes that are saved for the bodies of items.
+fn held_for<'a>(dag: &Dag, nodes: &'a Vec<Saved>, items: &[CaseItem], state: &Leaves) -> &'a [Saved]
+    requires nodes { AreSaved state.now nodes.now.items dag.now }
+    requires covers { EachCovered state.now nodes.now.items items.now }
+    ensures same { result.now ≡ nodes.now.items }
+    ensures nodes { AreSaved state.now result.now dag.now }
+    ensures covers { EachCovered state.now result.now items.now }
+{
+    let _dag = dag;
+    let _items = items;
+    let _state = state;
+    nodes.as_slice()
+}
+
+// The body of an item, for which nodes are saved.
+fn covered<'a>(item: &'a CaseItem, before: &[Saved], state: &Leaves) -> &'a Stmt
+    requires ready { IsReadyStmt (declared state.now) item.now.body }
+    requires covers { Covers state.now before.now item.now.body }
+    ensures same { result.now ≡ item.now.body }
+    ensures ready { IsReadyStmt (declared state.now) result.now }
+    ensures covers { Covers state.now before.now result.now }
+{
+    let _before = before;
+    let _state = state;
+    &item.body
 }
 
 /// Runs a statement: the leaves then have the nodes of what their names hold after it, whatever the free words are. Expressions are read
@@ -176,13 +160,13 @@ pub fn run(
         Stmt::If(condition, body) => {
             let body = part(body, state);
             let test = condition_node(dag, condition, reads, state)?;
-            let before = nodes_of(alloc, state)?;
+            let before = before_one(alloc, body, state)?;
             branch(
                 alloc,
                 dag,
                 body,
                 bit(dag, test),
-                held(dag, &before, state),
+                held(dag, &before, body, state),
                 reads,
                 state,
             )?;
@@ -192,14 +176,14 @@ pub fn run(
             let body = part(body, state);
             let other = part(other, state);
             let test = condition_node(dag, condition, reads, state)?;
-            let before = nodes_of(alloc, state)?;
+            let before = before_two(alloc, body, other, state)?;
             run(alloc, dag, other, reads, state)?;
             branch(
                 alloc,
                 dag,
                 body,
                 bit(dag, test),
-                held(dag, &before, state),
+                held(dag, &before, body, state),
                 reads,
                 state,
             )?;
@@ -207,11 +191,12 @@ pub fn run(
         }
         Stmt::Case(kind, subject, items) => {
             let tests = case_tests(alloc, dag, *kind, subject, items.as_slice(), reads, state)?;
-            let before = nodes_of(alloc, state)?;
+            let before = before_items(alloc, listed(items, state), state)?;
             run_default(alloc, dag, listed(items, state), reads, state)?;
             let bits = tested(dag, items, &tests);
-            let before = held(dag, &before, state);
-            run_items(alloc, dag, listed(items, state), bits, before, reads, state)?;
+            let row = listed(items, state);
+            let before = held_for(dag, &before, row, state);
+            run_items(alloc, dag, row, bits, before, reads, state)?;
             Ok(())
         }
         Stmt::Blocking(left, right) | Stmt::Nonblocking(left, right) => {
@@ -221,7 +206,8 @@ pub fn run(
     }
 }
 
-// A branch: the statement is run on the nodes that stood before, and where a bit is 0, the leaves keep their nodes.
+// A branch: the statement is run on the nodes that stood before, and where a bit is 0, the leaves keep their nodes. Nodes are saved for all
+// leaves that it may assign, so the others are left alone.
 #[cycle(run)]
 #[tactic(auto, using(elab_node::proofs::Kept::keeps_then, elab_node::proofs::Kept::keeps_same, elab_node::proofs::Kept::node_kept))]
 fn branch(
@@ -229,12 +215,13 @@ fn branch(
     dag: &mut Dag,
     body: &Stmt,
     test: u64,
-    before: &[u64],
+    before: &[Saved],
     reads: Option<&Leaves>,
     state: &mut Leaves,
 ) -> Result<(), AllocError>
     requires set { AreSet (option_copied reads) state.old dag.old }
-    requires before { AreNodes state.old before.now dag.old }
+    requires before { AreSaved state.old before.now dag.old }
+    requires covers { Covers state.old before.now body.now }
     requires test { IsNode dag.old test 1 }
     requires stmt { IsReadyStmt (declared state.old) body.now }
     ensures keeps { Keeps dag.old dag.new }
@@ -244,7 +231,7 @@ fn branch(
 {
     let others = swapped(alloc, dag, before, body, reads, state)?;
     run(alloc, dag, body, reads, state)?;
-    rejoin(alloc, dag, test, &others, state)?;
+    join(dag, test, &others, state)?;
     Ok(())
 }
 
@@ -303,14 +290,15 @@ fn run_items(
     dag: &mut Dag,
     items: &[CaseItem],
     tests: &[u64],
-    before: &[u64],
+    before: &[Saved],
     reads: Option<&Leaves>,
     state: &mut Leaves,
 ) -> Result<(), AllocError>
     requires set { AreSet (option_copied reads) state.old dag.old }
     requires items { EachReadyItem (declared state.old) items.now }
     requires tests { AreBits items.now tests.now dag.old }
-    requires before { AreNodes state.old before.now dag.old }
+    requires before { AreSaved state.old before.now dag.old }
+    requires covers { EachCovered state.old before.now items.now }
     ensures keeps { Keeps dag.old dag.new }
     ensures same { declared state.new ≡ declared state.old }
     ensures set { IfOk result (λ u. AreSet (option_copied reads.entry) state.new dag.new) }
@@ -319,7 +307,7 @@ fn run_items(
     let mut left = items.len();
     while left > 0 {
         left -= 1;
-        let body = body(&items[left], state);
+        let body = covered(&items[left], before, state);
         branch(
             alloc,
             dag,

@@ -3,8 +3,7 @@ ghost use Rattle.std.specs.Prelude.{◌≡◌, ◌<◌, ◌≤◌, length, IfOk,
 ghost use Rattle.word_dag.specs.Adding.{Keeps};
 ghost use Rattle.elab_node.specs.Leaves.{AreReady, declared};
 ghost use Rattle.elab_node.specs.Nodes.{Makes, IsNode, number_at};
-ghost use Rattle.elab_block.specs.Standing.{AreNodes, nodes_of, with_nodes, AreShown, chosen};
-ghost use Rattle.elab_block.specs.Joining.{AreChoices};
+ghost use Rattle.elab_block.specs.Saving.{node_at, saved_at, places_of, put_back, AreWithin, AreSaved};
 ghost use Rattle.elab_block.specs.Runs.{Joins};
 
 use crate::nodes::{Wire, choice};
@@ -12,25 +11,72 @@ use elab_node::Leaves;
 use std::alloc::{AllocError, Global};
 use word_dag::Dag;
 
-/// The nodes of leaves.
-pub fn nodes_of(alloc: Global, leaves: &Leaves) -> Result<Vec<u64>, AllocError>
-    ensures { IfOk result (λ r. r.items ≡ nodes_of leaves.now) }
+/// A node for the leaf of a place.
+#[derive(Clone, Copy)]
+pub struct Saved {
+    pub place: usize,
+    pub node: u64,
+}
+
+// The node of the leaf of this place.
+fn saved_one(leaves: &Leaves, place: usize) -> Saved
+    requires { place < length leaves.now }
+    ensures { result ≡ record { place = place; node = node_at leaves.now place } }
+{
+    Saved {
+        place,
+        node: leaves.leaf(place).node,
+    }
+}
+
+/// The nodes of the leaves of these places.
+pub fn saved_at(alloc: Global, leaves: &Leaves, places: &[usize]) -> Result<Vec<Saved>, AllocError>
+    requires { AreWithin leaves.now places.now }
+    ensures { IfOk result (λ r. r.items ≡ saved_at leaves.now places.now) }
 {
     let mut nodes = Vec::new(alloc);
-    for i in 0..leaves.len() {
-        nodes.push(leaves.leaf(i).node)?;
+    for place in places {
+        nodes.push(saved_one(leaves, *place))?;
     }
     Ok(nodes)
 }
 
-/// Gives the leaves these nodes.
-pub fn set_nodes(leaves: &mut Leaves, nodes: &[u64])
-    requires { length nodes.now ≡ length leaves.old }
-    ensures { leaves.new ≡ with_nodes leaves.old nodes.now }
+// The nodes of the leaves for which others are saved.
+fn saved_again(alloc: Global, leaves: &Leaves, others: &[Saved]) -> Result<Vec<Saved>, AllocError>
+    requires { AreWithin leaves.now (places_of others.now) }
+    ensures { IfOk result (λ r. r.items ≡ saved_at leaves.now (places_of others.now)) }
 {
-    for i in 0..nodes.len() {
-        leaves.set_node(i, nodes[i]);
+    let mut nodes = Vec::new(alloc);
+    for one in others {
+        nodes.push(saved_one(leaves, one.place))?;
     }
+    Ok(nodes)
+}
+
+// Puts saved nodes back.
+fn put_back(leaves: &mut Leaves, nodes: &[Saved])
+    requires { AreWithin leaves.old (places_of nodes.now) }
+    ensures { leaves.new ≡ put_back leaves.old nodes.now }
+{
+    for one in nodes {
+        leaves.set_node(one.place, one.node);
+    }
+}
+
+/// Puts saved nodes back, and takes the nodes that stood in their places.
+pub fn replaced(
+    alloc: Global,
+    state: &mut Leaves,
+    nodes: &[Saved],
+) -> Result<Vec<Saved>, AllocError>
+    requires { AreWithin state.old (places_of nodes.now) }
+    ensures taken { IfOk result (λ r. r.items ≡ saved_at state.old (places_of nodes.now)) }
+    ensures given { IfOk result (λ r. state.new ≡ put_back state.old nodes.now) }
+    ensures same { declared state.new ≡ declared state.old }
+{
+    let taken = saved_again(alloc, state, nodes)?;
+    put_back(state, nodes);
+    Ok(taken)
 }
 
 // The first of two nodes where a bit is 1, else the second.
@@ -51,85 +97,30 @@ fn joined_node(dag: &mut Dag, condition: u64, one: Wire, other: u64) -> Result<u
     Ok(number)
 }
 
-/// For each leaf the one of its two nodes by a bit: the first where it is 1.
+/// Where a bit is 1, the leaves keep their nodes; else those get these for which they are saved.
 #[tactic(auto, using(elab_node::proofs::Kept::keeps_then, elab_node::proofs::Kept::keeps_same, elab_node::proofs::Kept::node_kept))]
-pub fn joined(
-    alloc: Global,
+pub fn join(
     dag: &mut Dag,
     condition: u64,
-    ones: &[u64],
-    others: &Leaves,
-) -> Result<Vec<u64>, AllocError>
+    others: &[Saved],
+    state: &mut Leaves,
+) -> Result<(), AllocError>
     requires condition { IsNode dag.old condition 1 }
-    requires ones { AreNodes others.now ones.now dag.old }
-    requires others { AreReady others.now dag.old }
+    requires others { AreSaved state.old others.now dag.old }
+    requires ready { AreReady state.old dag.old }
     ensures keeps { Keeps dag.old dag.new }
-    ensures choices { IfOk result (λ r. AreChoices condition others.now ones.now dag.old r.items dag.new) }
+    ensures same { declared state.new ≡ declared state.old }
+    ensures ready { IfOk result (λ u. AreReady state.new dag.new) }
+    ensures joins { IfOk result (λ u. Joins condition others.now state.old dag.old state.new dag.new) }
 {
-    let mut nodes = Vec::new(alloc);
-    for i in 0..ones.len() {
-        let other = others.leaf(i);
+    for other in others {
+        let leaf = state.leaf(other.place);
         let one = Wire {
-            node: ones[i],
-            width: other.width,
+            node: leaf.node,
+            width: leaf.width,
         };
         let node = joined_node(dag, condition, one, other.node)?;
-        nodes.push(node)?;
+        state.set_node(other.place, node);
     }
-    Ok(nodes)
-}
-
-/// Gives the leaves these nodes, and takes theirs.
-pub fn replaced(alloc: Global, state: &mut Leaves, nodes: &[u64]) -> Result<Vec<u64>, AllocError>
-    requires { length nodes.now ≡ length state.old }
-    ensures taken { IfOk result (λ r. r.items ≡ nodes_of state.old) }
-    ensures given { IfOk result (λ r. state.new ≡ with_nodes state.old nodes.now) }
-    ensures same { declared state.new ≡ declared state.old }
-{
-    let taken = nodes_of(alloc, state)?;
-    set_nodes(state, nodes);
-    Ok(taken)
-}
-
-/// Gives each leaf the node of this number where a bit is 1; else it keeps its own.
-pub fn join(
-    alloc: Global,
-    dag: &mut Dag,
-    condition: u64,
-    ones: &[u64],
-    state: &mut Leaves,
-) -> Result<(), AllocError>
-    requires condition { IsNode dag.old condition 1 }
-    requires ones { AreNodes state.old ones.now dag.old }
-    requires others { AreReady state.old dag.old }
-    ensures keeps { Keeps dag.old dag.new }
-    ensures same { declared state.new ≡ declared state.old }
-    ensures ready { IfOk result (λ u. AreReady state.new dag.new) }
-    ensures joins { IfOk result (λ u. Joins condition ones.now state.old dag.old state.new dag.new) }
-{
-    let nodes = joined(alloc, dag, condition, ones, state)?;
-    set_nodes(state, &nodes);
-    Ok(())
-}
-
-/// Where a bit is 1, the leaves keep their nodes; else they get these.
-#[tactic(auto, using(elab_node::proofs::Kept::keeps_then))]
-pub fn rejoin(
-    alloc: Global,
-    dag: &mut Dag,
-    condition: u64,
-    others: &[u64],
-    state: &mut Leaves,
-) -> Result<(), AllocError>
-    requires condition { IsNode dag.old condition 1 }
-    requires others { AreNodes state.old others.now dag.old }
-    requires ones { AreReady state.old dag.old }
-    ensures keeps { Keeps dag.old dag.new }
-    ensures same { declared state.new ≡ declared state.old }
-    ensures ready { IfOk result (λ u. AreReady state.new dag.new) }
-    ensures joins { IfOk result (λ u. Joins condition (nodes_of state.old) (with_nodes state.old others.now) dag.old state.new dag.new) }
-{
-    let ones = replaced(alloc, state, others)?;
-    join(alloc, dag, condition, &ones, state)?;
     Ok(())
 }

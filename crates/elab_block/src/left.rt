@@ -25,8 +25,8 @@ use vlog_tree::{Expr, Lval, Span};
 use vlog_value::{checked_own_value, shape_of};
 use word_dag::Dag;
 
-// The number of a name's leaf.
-fn leaf_number(name: &Text, leaves: &Leaves) -> usize
+/// The number of a name's leaf.
+pub fn leaf_number(name: &Text, leaves: &Leaves) -> usize
     requires { Stands (declared leaves.now) (read name.now) }
     ensures { IsLeafAt leaves.now name.now result }
 {
@@ -256,8 +256,8 @@ fn only(alloc: Global, target: Target) -> Result<Vec<Target>, AllocError>
     Ok(targets)
 }
 
-// The parts of a concatenation.
-fn row<'a>(lefts: &'a Items<Lval>, leaves: &Leaves) -> &'a [Lval]
+/// The parts of a concatenation.
+pub fn row<'a>(lefts: &'a Items<Lval>, leaves: &Leaves) -> &'a [Lval]
     requires { EachReadyLeft (declared leaves.now) lefts.now }
     ensures same { result.now ≡ lefts.now }
     ensures ready { EachReadyLeft (declared leaves.now) result.now }
@@ -266,8 +266,8 @@ fn row<'a>(lefts: &'a Items<Lval>, leaves: &Leaves) -> &'a [Lval]
     lefts.as_slice()
 }
 
-// One of them.
-fn one<'a>(left: &'a Lval, leaves: &Leaves) -> &'a Lval
+/// One of them.
+pub fn one<'a>(left: &'a Lval, leaves: &Leaves) -> &'a Lval
     requires { IsReadyLeft (declared leaves.now) left.now }
     ensures same { result.now ≡ left.now }
     ensures ready { IsReadyLeft (declared leaves.now) result.now }

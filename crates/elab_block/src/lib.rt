@@ -10,6 +10,8 @@ mod indexed;
 mod items;
 mod left;
 mod nodes;
+mod parts;
+mod places;
 mod stores;
 mod targets;
 

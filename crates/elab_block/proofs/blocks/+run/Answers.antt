@@ -4,39 +4,45 @@ use Rattle.std.specs.Option.{option_copied}
 use Rattle.vlog_tree.specs.declared.stmt.CaseItem.{CaseItem}
 use Rattle.vlog_runs.specs.Blocks.{run, seen, is_false, case_width, case_sign}
 use Rattle.elab_node.specs.Leaves.{declared}
-use Rattle.elab_node.proofs.Kept.{keeps_then, node_kept}
+use Rattle.elab_node.proofs.Kept.{keeps_then, ready_kept}
 use Rattle.elab_block.specs.Ready.{IsReadyStmt, ArePlaced}
 use Rattle.elab_block.specs.Cases.{each_labels, each_default, case_test}
-use Rattle.elab_block.specs.Standing.{flat, AreNodes, nodes_of, with_nodes}
-use Rattle.elab_block.specs.Runs.{is_at_once, Runs, Joins, Branches, AreBits, AreTests, Picks}
-use Rattle.elab_block.proofs.Picking.{case_ready, case_runs, bits_kept, bits_long, bit_at, ready_item, picking_next, picking_end}
-use Rattle.elab_block.proofs.Joins.{nodes_ready, nodes_kept}
+use Rattle.elab_block.specs.Standing.{flat}
+use Rattle.elab_block.specs.declared.branches.Saved.{Saved}
+use Rattle.elab_block.specs.Saving.{places_of, AreSaved, IsSaved, IsAway}
+use Rattle.elab_block.specs.Sparing.{ItemsSpare, EachCovered}
+use Rattle.elab_block.specs.Targets.{name_at}
+use Rattle.elab_block.specs.Runs.{is_at_once, Runs, Branches, AreBits, AreTests, Picks}
+use Rattle.elab_block.proofs.Picking.{case_ready, case_runs, bits_kept, bits_long, bit_at, ready_item, picking_next, picking_end, covered_item}
+use Rattle.elab_block.proofs.Saving.{saved_own, saved_within, saved_is, covers_same, each_same}
 use Rattle.elab_block.proofs.Storing.{set_next, branch_is, choose_runs, stay_runs, runs_to, runs_from, tests_kept, if_runs, if_else_runs, if_ready, if_else_ready, block_runs, runs_same, each_ready, running_at, running_end}
 use Rattle.elab_block.proofs.blocks.+run.Goals as goal
 
-pub branch-rejoin-requires-clause-others : goal.branch-rejoin-requires-clause-others
-branch-rejoin-requires-clause-others t c =
+pub branch-join-requires-clause-others : goal.branch-join-requires-clause-others
+branch-join-requires-clause-others t c =
     let o = c.in_ok-others.ensures in
     let r = c.in_ok-run.ensures in
     let ms = c.args.state.now in
-    subst (λ z. AreNodes c.run.new.state z c.run.new.dag) (sym (c.deref.ensures.value ∙ o.taken))
-    (nodes_kept c.run.new.state (nodes_of ms) c.args.dag.now c.run.new.dag r.keeps (nodes_ready ms c.run.new.state c.args.dag.now (r.same ∙ o.same) c.requires.set.ready))
+    let a = c.args.dag.now in
+    let ss = c.args.before.now in
+    subst (λ (z : List Saved). AreSaved c.run.new.state z c.run.new.dag) (sym (c.deref.ensures.value ∙ o.taken))
+    (saved_own ms c.run.new.state (places_of ss) c.run.new.dag (r.same ∙ o.same) (saved_within ms ss a c.requires.before) (ready_kept ms a c.run.new.dag r.keeps c.requires.set.ready))
 
 pub branch-returns-clause-set : goal.branch-returns-clause-set
 branch-returns-clause-set t c =
     let o = c.in_ok-others.ensures in
     let r = c.in_ok-run.ensures in
-    let j = c.in_ok-rejoin.ensures in
-    set_next (option_copied c.args.reads) c.args.state.now c.rejoin.new.state c.args.dag.now c.rejoin.new.dag c.requires.set (keeps_then c.args.dag.now c.run.new.dag c.rejoin.new.dag r.keeps j.keeps) j.ready (j.same ∙ r.same ∙ o.same)
+    let j = c.in_ok-join.ensures in
+    set_next (option_copied c.args.reads) c.args.state.now c.join.new.state c.args.dag.now c.join.new.dag c.requires.set (keeps_then c.args.dag.now c.run.new.dag c.join.new.dag r.keeps j.keeps) j.ready (j.same ∙ r.same ∙ o.same)
 
 pub branch-returns-clause-branches : goal.branch-returns-clause-branches
 branch-returns-clause-branches t c =
     let o = c.in_ok-others.ensures in
     let r = c.in_ok-run.ensures in
-    let j = c.in_ok-rejoin.ensures in
+    let j = c.in_ok-join.ensures in
     let reads = option_copied c.args.reads in
-    branch_is reads c.args.body.now c.args.test c.args.before.now c.deref.result.now c.args.state.now c.swapped.new.state c.run.new.state c.rejoin.new.state c.args.dag.now c.run.new.dag c.rejoin.new.dag
-    c.requires.set c.requires.before c.requires.test o.given (c.deref.ensures.value ∙ o.taken) r.keeps r.runs (r.same ∙ o.same) j.joins
+    branch_is reads c.args.body.now c.args.test c.args.before.now c.deref.result.now c.args.state.now c.swapped.new.state c.run.new.state c.join.new.state c.args.dag.now c.run.new.dag c.join.new.dag
+    c.requires.set c.requires.covers c.requires.test o.given (c.deref.ensures.value ∙ o.taken) r.keeps r.runs (r.same ∙ o.same) j.joins
 
 pub run-part-body-requires : goal.run-part-body-requires
 run-part-body-requires t c = (if_ready (declared c.args.state.now) c.in-If.condition c.in-If.body c.args.stmt.now c.in-If.is c.requires.stmt).1
@@ -76,19 +82,22 @@ run-returns-in_ok-run_row-in-Block-clause-runs t c =
     runs_same reads _ _ c.args.state.now c.run_row.new.state c.args.dag.now c.run_row.new.dag
     (λ gs p q x. block_runs (is_at_once reads) (flat gs) _ _ c.statements.result.now c.args.stmt.now p q x c.in-Block.is c.statements.ensures.same) c.in_ok-run_row-in-Block.ensures.runs
 
-pub run-held-requires : goal.run-held-requires
-run-held-requires t c =
+pub run-held-requires-clause-nodes : goal.run-held-requires-clause-nodes
+run-held-requires-clause-nodes t c =
     let ms = c.args.state.now in
     let d = c.condition_node.new.dag in
-    subst (λ z. AreNodes ms z d) (sym c.in_ok-before-in-If.ensures) (nodes_ready ms ms d refl c.in_ok-test-in-If.ensures.set.ready)
+    saved_is ms ms c.in_ok-before-in-If.before.items d refl c.in_ok-before-in-If.ensures.saved c.in_ok-test-in-If.ensures.set.ready
 
-pub run-held-requires-in-IfElse : goal.run-held-requires-in-IfElse
-run-held-requires-in-IfElse t c =
+pub run-held-requires-in-IfElse-clause-covers : goal.run-held-requires-in-IfElse-clause-covers
+run-held-requires-in-IfElse-clause-covers t c =
+    covers_same c.args.state.now c.run.new.state c.in_ok-before-in-IfElse.before.items c.part-body-in-IfElse.result.now c.in_ok-run-in-IfElse.ensures.same c.in_ok-before-in-IfElse.ensures.one
+
+pub run-held-requires-in-IfElse-clause-nodes : goal.run-held-requires-in-IfElse-clause-nodes
+run-held-requires-in-IfElse-clause-nodes t c =
     let ms = c.args.state.now in
     let d = c.condition_node-in-IfElse.new.dag in
     let r = c.in_ok-run-in-IfElse.ensures in
-    subst (λ z. AreNodes c.run.new.state z c.run.new.dag) (sym c.in_ok-before-in-IfElse.ensures)
-    (nodes_kept c.run.new.state (nodes_of ms) d c.run.new.dag r.keeps (nodes_ready ms c.run.new.state d r.same c.in_ok-test-in-IfElse.ensures.set.ready))
+    saved_is ms c.run.new.state c.in_ok-before-in-IfElse.before.items c.run.new.dag r.same c.in_ok-before-in-IfElse.ensures.saved (ready_kept ms d c.run.new.dag r.keeps c.in_ok-test-in-IfElse.ensures.set.ready)
 
 pub run-returns-in_ok-branch-in-If-clause-runs : goal.run-returns-in_ok-branch-in-If-clause-runs
 run-returns-in_ok-branch-in-If-clause-runs t c =
@@ -104,7 +113,7 @@ run-returns-in_ok-branch-in-If-clause-runs t c =
     let b = subst (λ z. Branches reads c.in-If.body z held ms d ks k) c.bit.ensures.same (subst (λ z. Branches reads z c.bit.result held ms d ks k) c.part-body.ensures.same c.in_ok-branch-in-If.ensures.branches) in
     if_runs reads cond c.in-If.body c.args.stmt.now ms ks a k c.in-If.is
     (choose_runs reads c.in-If.body (λ gs p q. not (is_false (flat gs) (seen (is_at_once reads) p q) cond)) (λ gs p q. q) ms ms ks held a d k c.in_ok-test-in-If.test c.requires.set n.keeps
-    (c.held.ensures.same ∙ c.in_ok-before-in-If.ensures) refl n.tests (runs_to reads (λ gs p q. q) ms ms a a d c.requires.set.ready n.keeps (stay_runs reads ms a)) b)
+    (subst (λ (z : List Saved). IsSaved ms z) (sym c.held.ensures.same) c.in_ok-before-in-If.ensures.saved) refl (λ gs p q i leaves lt away. refl) n.tests (runs_to reads (λ gs p q. q) ms ms a a d c.requires.set.ready n.keeps (stay_runs reads ms a)) b)
 
 pub run-returns-in_ok-branch-in-IfElse-clause-runs : goal.run-returns-in_ok-branch-in-IfElse-clause-runs
 run-returns-in_ok-branch-in-IfElse-clause-runs t c =
@@ -119,12 +128,16 @@ run-returns-in_ok-branch-in-IfElse-clause-runs t c =
     let cond = c.in-IfElse.condition in
     let n = c.in_ok-test-in-IfElse.ensures in
     let r = c.in_ok-run-in-IfElse.ensures in
+    let w = c.in_ok-before-in-IfElse.ensures in
     let held = c.held-in-IfElse.result.now in
     let b = subst (λ z. Branches reads c.in-IfElse.body z held os f ks k) c.bit-in-IfElse.ensures.same (subst (λ z. Branches reads z c.bit-in-IfElse.result held os f ks k) c.part-body-in-IfElse.ensures.same c.in_ok-branch-in-IfElse.ensures.branches) in
     let others = subst (λ z. Runs reads (λ gs. run (is_at_once reads) (flat gs) z) ms d os f) c.part-other.ensures.same r.runs in
     if_else_runs reads cond c.in-IfElse.body c.in-IfElse.other c.args.stmt.now ms ks a k c.in-IfElse.is
     (choose_runs reads c.in-IfElse.body (λ gs p q. not (is_false (flat gs) (seen (is_at_once reads) p q) cond)) (λ gs. run (is_at_once reads) (flat gs) c.in-IfElse.other) ms os ks held a f k c.in_ok-test-in-IfElse.test c.requires.set (keeps_then a d f n.keeps r.keeps)
-    (c.held-in-IfElse.ensures.same ∙ c.in_ok-before-in-IfElse.ensures) r.same (tests_kept reads _ ms a d f c.in_ok-test-in-IfElse.test n.node r.keeps n.tests)
+    (subst (λ (z : List Saved). IsSaved ms z) (sym c.held-in-IfElse.ensures.same) w.saved) r.same
+    (λ gs p q i leaves lt away.
+    subst (λ z. run (is_at_once reads) (flat gs) z p q (name_at ms i) ≡ q (name_at ms i)) c.part-other.ensures.same (w.other i lt (subst (λ (z : List Saved). IsAway z i) c.held-in-IfElse.ensures.same away) gs (is_at_once reads) p q leaves))
+    (tests_kept reads _ ms a d f c.in_ok-test-in-IfElse.test n.node r.keeps n.tests)
     (runs_from reads (λ gs. run (is_at_once reads) (flat gs) c.in-IfElse.other) ms os a d f c.requires.set n.keeps others) b)
 
 pub run-case_tests-requires-clause-placed : goal.run-case_tests-requires-clause-placed
@@ -142,13 +155,19 @@ run-tested-bits-requires t c =
     bits_kept c.case_tests.new.dag c.run_default.new.dag c.in-Case.items zs c.in_ok-run_default-in-Case.ensures.keeps
     (subst (λ (xs : List CaseItem). AreBits xs zs c.case_tests.new.dag) c.as_slice.ensures c.in_ok-tests-in-Case.ensures.bits)
 
-pub run-held-before-requires : goal.run-held-before-requires
-run-held-before-requires t c =
+pub run-held_for-before-requires-clause-covers : goal.run-held_for-before-requires-clause-covers
+run-held_for-before-requires-clause-covers t c =
+    let ss = c.in_ok-before-in-Case.before.items in
+    subst (λ (xs : List CaseItem). EachCovered c.run_default.new.state ss xs) (c.listed.ensures.same ∙ sym c.listed-row.ensures.same)
+    (each_same c.args.state.now c.run_default.new.state ss c.listed.result.now c.in_ok-run_default-in-Case.ensures.same c.in_ok-before-in-Case.ensures.covers)
+
+pub run-held_for-before-requires-clause-nodes : goal.run-held_for-before-requires-clause-nodes
+run-held_for-before-requires-clause-nodes t c =
     let ms = c.args.state.now in
-    let d = c.case_tests.new.dag in
+    let b = c.case_tests.new.dag in
+    let d = c.run_default.new.dag in
     let r = c.in_ok-run_default-in-Case.ensures in
-    subst (λ z. AreNodes c.run_default.new.state z c.run_default.new.dag) (sym c.in_ok-before-in-Case.ensures)
-    (nodes_kept c.run_default.new.state (nodes_of ms) d c.run_default.new.dag r.keeps (nodes_ready ms c.run_default.new.state d r.same c.in_ok-tests-in-Case.ensures.set.ready))
+    saved_is ms c.run_default.new.state c.in_ok-before-in-Case.before.items d r.same c.in_ok-before-in-Case.ensures.saved (ready_kept ms b d r.keeps c.in_ok-tests-in-Case.ensures.set.ready)
 
 pub run-returns-in_ok-run_items-in-Case-clause-runs : goal.run-returns-in_ok-run_items-in-Case-clause-runs
 run-returns-in_ok-run_items-in-Case-clause-runs t c =
@@ -165,22 +184,30 @@ run-returns-in_ok-run_items-in-Case-clause-runs t c =
     let subject = c.in-Case.subject in
     let items = c.in-Case.items in
     let zs = c.in_ok-tests-in-Case.tests.items in
-    let held = c.held-before.result.now in
+    let held = c.held_for-before.result.now in
     let n = c.in_ok-tests-in-Case.ensures in
     let r = c.in_ok-run_default-in-Case.ensures in
-    let picks = subst (λ (ys : List ℕ). Picks reads items ys held os d ks k) c.tested-bits.ensures.same (subst (λ (xs : List CaseItem). Picks reads xs c.tested-bits.result.now held os d ks k) c.listed-in-Case.ensures.same c.in_ok-run_items-in-Case.ensures.picks) in
-    case_runs reads kind subject items c.args.stmt.now zs held ms os ks a b d k c.in-Case.is c.requires.set n.keeps r.keeps (c.held-before.ensures.same ∙ c.in_ok-before-in-Case.ensures) r.same
+    let w = c.in_ok-before-in-Case.ensures in
+    let picks = subst (λ (ys : List ℕ). Picks reads items ys held os d ks k) c.tested-bits.ensures.same (subst (λ (xs : List CaseItem). Picks reads xs c.tested-bits.result.now held os d ks k) c.listed-row.ensures.same c.in_ok-run_items-in-Case.ensures.picks) in
+    case_runs reads kind subject items c.args.stmt.now zs held ms os ks a b d k c.in-Case.is c.requires.set n.keeps r.keeps (subst (λ (z : List Saved). IsSaved ms z) (sym c.held_for-before.ensures.same) w.saved)
+    (λ i lt away. subst (λ (xs : List CaseItem). ItemsSpare ms xs (name_at ms i)) c.listed.ensures.same (w.covers i lt (subst (λ (z : List Saved). IsAway z i) c.held_for-before.ensures.same away))) r.same
     (subst (λ (xs : List CaseItem). AreBits xs zs b) c.as_slice.ensures n.bits)
     (subst (λ (xs : List CaseItem). AreTests reads (λ gs. case_test o (flat gs) kind subject xs) ms a b xs zs) c.as_slice.ensures n.tests)
-    (subst (λ (xs : List CaseItem). Runs reads (λ gs. each_default o (flat gs) xs) ms b os d) c.listed.ensures.same r.runs) picks
+    (subst (λ (xs : List CaseItem). Runs reads (λ gs. each_default o (flat gs) xs) ms b os d) c.listed-in-Case.ensures.same r.runs) picks
 
 pub run_default-body-requires : goal.run_default-body-requires
 run_default-body-requires t c =
     let lt : c.default_at-at.result < length c.args.items.now = omega (arith, c.if-at-items.true) in
     ready_item (declared c.args.state.now) c.args.items.now c.default_at-at.result c.index-items-at.result _ c.requires.items lt c.index-items-at.is
 
-pub run_items-body-body-requires : goal.run_items-body-body-requires
-run_items-body-body-requires t c =
+pub run_items-covered-body-requires-clause-covers : goal.run_items-covered-body-requires-clause-covers
+run_items-covered-body-requires-clause-covers t c =
+    let h = c.loop-left.invariant in
+    let lt : c.loop-left.left - 1 < length c.args.items.now = omega (arith, h.within, c.loop-left-test.true) in
+    covered_item c.args.state.now c.loop-left.state c.args.before.now c.args.items.now (c.loop-left.left - 1) c.index-items-left.result _ h.same c.requires.covers lt c.index-items-left.is
+
+pub run_items-covered-body-requires-clause-ready : goal.run_items-covered-body-requires-clause-ready
+run_items-covered-body-requires-clause-ready t c =
     let h = c.loop-left.invariant in
     let lt : c.loop-left.left - 1 < length c.args.items.now = omega (arith, h.within, c.loop-left-test.true) in
     ready_item (declared c.loop-left.state) c.args.items.now (c.loop-left.left - 1) c.index-items-left.result _ h.items_ready lt c.index-items-left.is
@@ -202,8 +229,8 @@ run_items-loop-left-preserved t c =
     let r = c.in_ok-branch.ensures in
     let is : c.loop-left.left ≡ c.loop-left.left - 1 + 1 = omega (arith, c.loop-left-test.true) in
     picking_next (option_copied c.args.reads) c.args.items.now c.args.tests.now c.args.before.now c.args.before.now c.args.state.now c.loop-left.state c.branch-alloc.new.state c.args.dag.now c.loop-left.dag c.branch-alloc.new.dag
-    c.loop-left.left (c.loop-left.left - 1) c.bit.result c.index-items-left.result c.body-body.result.now is c.requires.set c.requires.before c.requires.tests c.loop-left.invariant
-    (c.body-body.ensures.same ∙ ap (λ (i : CaseItem). i.body) c.index-items-left.is) c.bit.ensures.same refl r.keeps r.same r.set r.branches
+    c.loop-left.left (c.loop-left.left - 1) c.bit.result c.index-items-left.result c.covered-body.result.now is c.requires.set c.requires.before c.requires.covers c.requires.tests c.loop-left.invariant
+    (c.covered-body.ensures.same ∙ ap (λ (i : CaseItem). i.body) c.index-items-left.is) c.bit.ensures.same refl r.keeps r.same r.set r.branches
 
 pub run_items-returns-clause-picks : goal.run_items-returns-clause-picks
 run_items-returns-clause-picks t c =

@@ -1,5 +1,5 @@
 use Rattle.std.proofs.Common.{◌<◌, length, sym, subst, arith}
-use Rattle.vlog_runs.specs.Blocks.{case_width, case_sign}
+use Rattle.vlog_runs.specs.Blocks.{case_width}
 use Rattle.elab_node.specs.Leaves.{declared}
 use Rattle.elab_node.proofs.Kept.{keeps_then}
 use Rattle.elab_block.specs.Ready.{ArePlaced}

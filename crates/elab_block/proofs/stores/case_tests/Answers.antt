@@ -1,7 +1,6 @@
 use Rattle.std.proofs.Common.{◌∷◌, sym, subst}
 use Rattle.std.specs.Option.{option_copied}
 use Rattle.vlog_runs.specs.Blocks.{case_width, case_sign}
-use Rattle.elab_node.specs.Leaves.{declared}
 use Rattle.elab_block.specs.Cases.{each_labels}
 use Rattle.elab_block.specs.Ready.{ArePlaced}
 use Rattle.elab_block.proofs.Picking.{matches_bits, matches_tests}
