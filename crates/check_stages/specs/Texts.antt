@@ -25,6 +25,12 @@ pub record IsSetText (text : List ℕ) (set : Set) : Type 0 where
   pub spelt : Spells text set
   pub sound : IsSound (meaning_of set) set
 
+abbrev pub SpellsSomeModules : List ℕ → Type 0
+SpellsSomeModules text = (ms : List Module) × IsModuleText text ms
+
+abbrev pub SpellsSomeSet : List ℕ → Type 0
+SpellsSomeSet text = (set : Set) × IsSetText text set
+
 -- the module text is too long, or isn't read
 abbrev pub RefusesModules : List ℕ → CheckFault → Type 0
 RefusesModules text (f.Module m.TooLong) = 1048576 < length text

@@ -8,4 +8,4 @@ mod texts;
 
 pub use bound::bound_of;
 pub use design::design_of;
-pub use texts::{modules_of, set_of};
+pub use texts::{modules_of, set_of, try_modules, try_set};

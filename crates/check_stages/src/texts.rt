@@ -1,6 +1,6 @@
 // The texts of modules and of sets.
-ghost use Rattle.std.specs.Prelude.{IfOk, IfErr};
-ghost use Rattle.check_stages.specs.Texts.{IsModuleText, IsSetText, RefusesModules, RefusesSet};
+ghost use Rattle.std.specs.Prelude.{IfOk, IfErr, OnOk};
+ghost use Rattle.check_stages.specs.Texts.{IsModuleText, IsSetText, RefusesModules, RefusesSet, SpellsSomeModules, SpellsSomeSet};
 ghost use Rattle.flat_ready.specs.Plain.{ArePlainTexts};
 
 use check_faults::{CheckFault, ModuleFault, SetStop};
@@ -47,5 +47,27 @@ pub fn set_of(alloc: Global, text: &[u8]) -> Result<Sound, CheckFault>
     match structure(set) {
         Ok(sound) => Ok(sound),
         Err(unsound) => Err(CheckFault::Set(SetStop::Graph(unsound))),
+    }
+}
+
+/// Reads a text of modules and gives nothing back. Refused as `modules_of` is.
+pub fn try_modules(alloc: Global, text: &[u8]) -> Result<(), CheckFault>
+    ensures ok { OnOk result (SpellsSomeModules text.now) }
+    ensures err { IfErr result (RefusesModules text.now) }
+{
+    match modules_of(alloc, text) {
+        Ok(_) => Ok(()),
+        Err(fault) => Err(fault),
+    }
+}
+
+/// Reads the text of a set and gives nothing back. Refused as `set_of` is.
+pub fn try_set(alloc: Global, text: &[u8]) -> Result<(), CheckFault>
+    ensures ok { OnOk result (SpellsSomeSet text.now) }
+    ensures err { IfErr result (RefusesSet text.now) }
+{
+    match set_of(alloc, text) {
+        Ok(_) => Ok(()),
+        Err(fault) => Err(fault),
     }
 }

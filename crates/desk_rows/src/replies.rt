@@ -3,6 +3,7 @@ use http_reply::{Reply, STARVED, keeper_reply, refusal_reply, reply_of};
 use http_request::Refusal;
 use outside::{Sign, Text};
 use std::alloc::{AllocError, Global};
+use std::process::Abort;
 use std::test::Fail;
 
 /// Whether the reply has this status, phrase, kind and body.
@@ -95,70 +96,51 @@ fn each_refusal_has_its_reply(rt: HostRuntime) -> Result<(), Fail> {
     Ok(())
 }
 
+/// Wants a reply to an answer: its status, phrase, kind and body.
+fn told(
+    rt: &(impl Abort + AllocGlobal),
+    answer: Answer,
+    want: (u16, &str, &str, &str),
+) -> Result<(), Fail> {
+    let alloc = rt.alloc();
+    let (status, phrase, kind, body) = want;
+    let reply = reply_of(alloc, &answer);
+    drop(answer);
+    assert!(rt; is(alloc, &reply?, status, phrase, kind, body)?, "{body}");
+    Ok(())
+}
+
+/// Wants that there is not what is asked for.
+fn absent(rt: &(impl Abort + AllocGlobal), answer: Answer, body: &str) -> Result<(), Fail> {
+    told(rt, answer, (404, "Not Found", JSON, body))
+}
+
 #[test]
 fn each_answer_has_its_reply(rt: HostRuntime) -> Result<(), Fail> {
     let alloc = rt.alloc();
-    for (answer, status, phrase, body) in [
-        (Answer::Stored, 200, "OK", "{\"stored\":true}"),
-        (
-            Answer::Refused(Text::copy(alloc, b"module: Deep")?),
-            422,
-            "Unprocessable Content",
-            "{\"error\":\"module: Deep\"}",
-        ),
-        (
-            Answer::NoBlock,
-            404,
-            "Not Found",
-            "{\"error\":\"no block\"}",
-        ),
-        (Answer::NoText, 404, "Not Found", "{\"error\":\"no text\"}"),
-        (
-            Answer::NoReport,
-            404,
-            "Not Found",
-            "{\"error\":\"no report\"}",
-        ),
-        (
-            Answer::NoTrace,
-            404,
-            "Not Found",
-            "{\"error\":\"no trace\"}",
-        ),
-        (
-            Answer::NotSigned,
-            409,
-            "Conflict",
-            "{\"error\":\"not signed off\"}",
-        ),
-        (Answer::Signed(1203), 200, "OK", "{\"number\":1203}"),
-    ] {
-        let reply = reply_of(alloc, &answer)?;
-        assert!(rt; is(alloc, &reply, status, phrase, JSON, body)?, "{body}");
-    }
-    let report = Answer::Reported(Text::copy(alloc, b"proved reset\nsigned off\n")?);
-    assert!(rt;
-        is(
-            alloc,
-            &reply_of(alloc, &report)?,
-            200,
-            "OK",
-            TEXT,
-            "proved reset\nsigned off\n"
-        )?
-    );
-    let trace = Answer::Traced(Text::copy(alloc, b"refuted hold\n")?);
-    assert!(rt;
-        is(
-            alloc,
-            &reply_of(alloc, &trace)?,
-            200,
-            "OK",
-            TEXT,
-            "refuted hold\n"
-        )?
-    );
-    Ok(())
+    let stored = (200, "OK", JSON, "{\"stored\":true}");
+    told(&rt, Answer::Stored, stored)?;
+    let fault = Text::copy(alloc, b"module: Deep")?;
+    let body = "{\"error\":\"module: Deep\"}";
+    let refused = (422, "Unprocessable Content", JSON, body);
+    told(&rt, Answer::Refused(fault), refused)?;
+    absent(&rt, Answer::NoBlock, "{\"error\":\"no block\"}")?;
+    absent(&rt, Answer::NoText, "{\"error\":\"no text\"}")?;
+    absent(&rt, Answer::NoReport, "{\"error\":\"no report\"}")?;
+    absent(&rt, Answer::NoTrace, "{\"error\":\"no trace\"}")?;
+    let open = (409, "Conflict", JSON, "{\"error\":\"not signed off\"}");
+    told(&rt, Answer::NotSigned, open)?;
+    let signed = (200, "OK", JSON, "{\"number\":1203}");
+    told(&rt, Answer::Signed(1203), signed)?;
+    let report = Text::copy(alloc, b"proved reset\nsigned off\n")?;
+    let reported = (200, "OK", TEXT, "proved reset\nsigned off\n");
+    told(&rt, Answer::Reported(report), reported)?;
+    let trace = Text::copy(alloc, b"refuted hold\n")?;
+    told(
+        &rt,
+        Answer::Traced(trace),
+        (200, "OK", TEXT, "refuted hold\n"),
+    )
 }
 
 fn sign(alloc: Global, number: u64, block: &[u8]) -> Result<Sign, AllocError> {
@@ -192,16 +174,10 @@ fn two_names(alloc: Global) -> Result<Answer, AllocError> {
 #[test]
 fn lists_are_json(rt: HostRuntime) -> Result<(), Fail> {
     let alloc = rt.alloc();
-    for (answer, list) in [
-        (two_names(alloc)?, "[\"a.b-C_9\",\"a?b?c?\"]"),
-        (Answer::Names(Names::new(Vec::new(alloc))), "[]"),
-        (
-            two_signs(alloc)?,
-            "[{\"block\":\"c1\",\"number\":1},{\"block\":\"c?2\",\"number\":12}]",
-        ),
-    ] {
-        let reply = reply_of(alloc, &answer)?;
-        assert!(rt; is(alloc, &reply, 200, "OK", JSON, list)?, "{list}");
-    }
-    Ok(())
+    let names = "[\"a.b-C_9\",\"a?b?c?\"]";
+    told(&rt, two_names(alloc)?, (200, "OK", JSON, names))?;
+    let none = Answer::Names(Names::new(Vec::new(alloc)));
+    told(&rt, none, (200, "OK", JSON, "[]"))?;
+    let signs = "[{\"block\":\"c1\",\"number\":1},{\"block\":\"c?2\",\"number\":12}]";
+    told(&rt, two_signs(alloc)?, (200, "OK", JSON, signs))
 }
