@@ -10,3 +10,7 @@ pub mod Reported
 pub mod Handing
 pub mod Widths
 pub mod Spoken
+pub mod Walked
+pub mod Alike
+pub mod Read
+pub mod Finding

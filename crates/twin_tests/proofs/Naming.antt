@@ -1,9 +1,7 @@
 -- The names of a set in rows of nodes, and their values.
-use Rattle.std.proofs.Common.{◌≡◌, ℕ, zero, suc, ◌+◌, ◌<◌, ◌≤◌, List, [], ◌∷◌, ◌++◌, length, map, take, drop, get_or, refl, sym, ap, ◌∙◌, subst, arith, append_assoc}
-use Rattle.std.specs.Prelude.{slice_index}
+use Rattle.std.proofs.Common.{◌≡◌, ℕ, suc, ◌+◌, List, [], ◌∷◌, ◌++◌, length, map, take, refl, sym, ap, ◌∙◌, subst, arith}
 use Rattle.std.specs.List.{All}
-use Rattle.std.proofs.lemmas.List.{take-map, length-take, drop_all}
-use Rattle.std.proofs.Math.Seq.{drop-cons}
+use Rattle.std.proofs.lemmas.List.{take-map, length-take}
 use Rattle.std.proofs.lemmas.List.Elements.{All-head, All-tail, All-cons, All-nil, All-take}
 use Rattle.std.proofs.lemmas.Nat.{pow_pos}
 use Rattle.vlog_tree.specs.declared.expr.Expr.{Expr}
@@ -23,7 +21,8 @@ use Rattle.elab_node.specs.Leaves.{entry_of, entries, valued, declared, AreReady
 use Rattle.elab_node.specs.Nodes.{words, number_at, Makes}
 use Rattle.elab_node.specs.Terms.{IsAlone}
 use Rattle.twin_tests.specs.Building.{IsWide, IsLeafRow, AreLeaves, Shows, Counts, IsReadable, row_in}
-use Rattle.twin_tests.specs.Leaves.{leaf_of, row_leaves, leaves_from}
+use Rattle.twin_tests.specs.Leaves.{leaf_of, row_leaves, leaves_from, leaves_read}
+use Rattle.twin_tests.proofs.Read.{ready_append, value_read}
 use Rattle.twin_tests.proofs.Undivided.{undivided}
 
 -- ---- the entries that leaves give
@@ -55,14 +54,10 @@ row_ready (n ∷ names) t [] ns wide h = tt
 row_ready (n ∷ names) t (i ∷ row) ns wide h =
     (All-head (λ n. IsLength n.width) n names wide, (h.0.below, h.0.width), row_ready names t row ns (All-tail (λ n. IsLength n.width) n names wide) h.1)
 
-ready_append : (xs ys : List Leaf) (ns : List Node) → AreReady xs ns → AreReady ys ns → AreReady (xs ++ ys) ns
-ready_append [] ys ns h k = k
-ready_append (x ∷ xs) ys ns h k = (h.0, h.1, ready_append xs ys ns h.2 k)
-
 pub rows_ready : (names : List Name) (t : ℕ) (rows : List (List ℕ)) (ns : List Node) → All (λ n. IsLength n.width) names → All (IsLeafRow names ns) rows → AreReady (leaves_from names t rows) ns
 rows_ready names t [] ns wide h = tt
 rows_ready names t (row ∷ rows) ns wide h =
-    ready_append (row_leaves names t row) (leaves_from names (suc t) rows) ns (row_ready names t row ns wide (All-head (IsLeafRow names ns) row rows h)) (rows_ready names (suc t) rows ns wide (All-tail (IsLeafRow names ns) row rows h))
+    ready_append ns (row_leaves names t row) (leaves_from names (suc t) rows) (row_ready names t row ns wide (All-head (IsLeafRow names ns) row rows h)) (rows_ready names (suc t) rows ns wide (All-tail (IsLeafRow names ns) row rows h))
 
 row_long : (names : List Name) (ns : List Node) (row : List ℕ) → IsLeafRow names ns row → length row ≡ length names
 row_long [] ns [] h = refl
@@ -115,59 +110,18 @@ module _ (set : Set) (formula : Expr) (ns : List Node) (rows : List (List ℕ)) 
       ∙ ap (λ z. own_value (entries_from set.names 0 z) formula) (sym (take-map (row_in ns x) k rows) ∙ ap (λ z. take k z) (shows.means x))
 
 pub formula_counts : (old new : List Node) (set : Set) (formula : Expr) (rows : List (List ℕ)) (i w : ℕ) (f : Naming → List Row) (ls : List Leaf) (readable : IsReadable set (length rows) formula) → IsLength w → Makes new i w (λ x. own_value (valued ls (words x old)) formula) →
-    ls ≡ leaves_from set.names 0 (take (largest_offset formula + 1) rows) → Shows set.names old rows f → Counts new i (λ x. (meaning_of set).value formula (f x))
+    ls ≡ leaves_read (leaves_from set.names 0 (take (largest_offset formula + 1) rows)) formula → Shows set.names old rows f → Counts new i (λ x. (meaning_of set).value formula (f x))
 formula_counts old new set formula rows i w f ls readable wide made is shows = record {
   node = record { below = made.within; some = rw made.wide (omega (arith, wide.0)); most = rw made.wide wide.1 };
   means = λ x.
       ap (λ (b : Bits). b.value) (made.word x) ∙ ap (λ z. own_value (valued z (words x old)) formula) is
+      ∙ value_read (leaves_from set.names 0 (take (largest_offset formula + 1) rows)) formula (words x old)
       ∙ formula_value set formula old rows readable shows.leaves f x shows;
 }
 
--- ---- leaves one by one
-
-row_leaves_at : (names : List Name) (t i : ℕ) (row : List ℕ) (x : Name) → i < length names → length row ≡ length names → x ≡ get_or names i x →
-    row_leaves (drop i names) t (drop i row) ≡ leaf_of x t (slice_index row i) ∷ row_leaves (drop (suc i) names) t (drop (suc i) row)
-row_leaves_at [] t i row x lt long is = absurd (omega arith)
-row_leaves_at (n ∷ names) t i [] x lt long is = absurd (omega (arith, long))
-row_leaves_at (n ∷ names) t zero (j ∷ row) x lt long is = ap (λ (z : Name). leaf_of z t j ∷ row_leaves names t row) (sym is)
-row_leaves_at (n ∷ names) t (suc i) (j ∷ row) x lt long is = row_leaves_at names t i row x (omega arith) (omega (arith, long)) is
-
--- one more name, and one more row
-pub row_leaves_next : (names : List Name) (t i : ℕ) (row : List ℕ) (x : Name) (ls all : List Leaf) → i < length names → length row ≡ length names → x ≡ get_or names i x → ls ++ row_leaves (drop i names) t (drop i row) ≡ all →
-    (ls ++ leaf_of x t (slice_index row i) ∷ []) ++ row_leaves (drop (i + 1) names) t (drop (i + 1) row) ≡ all
-row_leaves_next names t i row x ls all lt long is h =
-    let next : i + 1 ≡ suc i = omega arith in
-    let one : row_leaves (drop i names) t (drop i row) ≡ leaf_of x t (slice_index row i) ∷ row_leaves (drop (suc i) names) t (drop (suc i) row) = row_leaves_at names t i row x lt long is in
-    append_assoc ls (leaf_of x t (slice_index row i) ∷ []) (row_leaves (drop (i + 1) names) t (drop (i + 1) row))
-    ∙ (λ r. ls ++ leaf_of x t (slice_index row i) ∷ row_leaves (drop (next r) names) t (drop (next r) row)) ∙ ap (λ (z : List Leaf). ls ++ z) (sym one) ∙ h
-
-pub push_next : (names : List Name) (t i j : ℕ) (row : List ℕ) (x : Name) (leaf : Leaf) (ls new all : List Leaf) → i < length names → length row ≡ length names → x ≡ get_or names i x → leaf ≡ leaf_of x t j → j ≡ slice_index row i → new ≡ ls ++ leaf ∷ [] →
-    ls ++ row_leaves (drop i names) t (drop i row) ≡ all → new ++ row_leaves (drop (i + 1) names) t (drop (i + 1) row) ≡ all
-push_next names t i j row x leaf ls new all lt long is made at more h =
-    let made' : leaf ≡ leaf_of x t (slice_index row i) = made ∙ ap (λ k. leaf_of x t k) at in
-    let more' : new ≡ ls ++ leaf_of x t (slice_index row i) ∷ [] = more ∙ ap (λ (l : Leaf). ls ++ l ∷ []) made' in
-    ap (λ (z : List Leaf). z ++ row_leaves (drop (i + 1) names) t (drop (i + 1) row)) more' ∙ row_leaves_next names t i row x ls all lt long is h
-
-pub rows_next : (names : List Name) (t : ℕ) (rows : List (List ℕ)) (row : List ℕ) (ls all : List Leaf) → t < length rows → row ≡ get_or rows t row → ls ++ leaves_from names t (drop t rows) ≡ all → (ls ++ row_leaves names t row) ++ leaves_from names (t + 1) (drop (t + 1) rows) ≡ all
-rows_next names t rows row ls all lt is h =
-    let next : t + 1 ≡ suc t = omega arith in
-    let one : leaves_from names t (drop t rows) ≡ row_leaves names t (get_or rows t row) ++ leaves_from names (suc t) (drop (suc t) rows) = ap (λ (z : List (List ℕ)). leaves_from names t z) (drop-cons rows t row lt) in
-    append_assoc ls (row_leaves names t row) (leaves_from names (t + 1) (drop (t + 1) rows))
-    ∙ (λ r. ls ++ (row_leaves names t (is r) ++ leaves_from names (next r) (drop (next r) rows))) ∙ ap (λ (z : List Leaf). ls ++ z) (sym one) ∙ h
-
-append_nil : (ls : List Leaf) → ls ++ [] ≡ ls
-append_nil [] = refl
-append_nil (l ∷ ls) = ap (λ (r : List Leaf). l ∷ r) (append_nil ls)
-
-pub rows_end : (names : List Name) (t : ℕ) (rows : List (List ℕ)) (ls all : List Leaf) → length rows ≤ t → ls ++ leaves_from names t (drop t rows) ≡ all → ls ≡ all
-rows_end names t rows ls all le h = sym (append_nil ls) ∙ ap (λ (z : List (List ℕ)). ls ++ leaves_from names t z) (sym (drop_all t rows le)) ∙ h
-
-pub row_end : (names : List Name) (t i : ℕ) (row : List ℕ) (ls all : List Leaf) → length names ≤ i → ls ++ row_leaves (drop i names) t (drop i row) ≡ all → ls ≡ all
-row_end names t i row ls all le h = sym (append_nil ls) ∙ ap (λ (z : List Name). ls ++ row_leaves z t (drop i row)) (sym (drop_all i names le)) ∙ h
-
 -- what the calls hand on
-pub leaves_are : (names a : List Name) (rows b : List (List ℕ)) (n k : ℕ) (ls : List Leaf) → ls ≡ leaves_from a 0 b → a ≡ names → b ≡ take (n + 1) rows → n ≡ k → ls ≡ leaves_from names 0 (take (k + 1) rows)
-leaves_are names a rows b n k ls h ha hb hn = h ∙ (λ r. leaves_from (ha r) 0 (hb r)) ∙ ap (λ z. leaves_from names 0 (take (z + 1) rows)) hn
+pub leaves_are : (names a : List Name) (rows b : List (List ℕ)) (n k : ℕ) (e : Expr) (ls : List Leaf) → ls ≡ leaves_read (leaves_from a 0 b) e → a ≡ names → b ≡ take (n + 1) rows → n ≡ k → ls ≡ leaves_read (leaves_from names 0 (take (k + 1) rows)) e
+leaves_are names a rows b n k e ls h ha hb hn = h ∙ (λ r. leaves_read (leaves_from (ha r) 0 (hb r)) e) ∙ ap (λ z. leaves_read (leaves_from names 0 (take (z + 1) rows)) e) hn
 
 pub longs : (names a : List Name) (rows b : List (List ℕ)) (n k : ℕ) (ns : List Node) → a ≡ names → b ≡ take (n + 1) rows → n ≡ k → All (IsLeafRow names ns) (take (k + 1) rows) → All (λ row. length row ≡ length a) b
 longs names a rows b n k ns ha hb hn h =

@@ -1,5 +1,5 @@
 // The formulas of a set as nodes.
-ghost use Rattle.std.specs.Prelude.{◌≡◌, ◌+◌, ◌-◌, ◌<◌, ◌≤◌, ◌^◌, ◌++◌, List, drop, length, IfOk, OnOk};
+ghost use Rattle.std.specs.Prelude.{◌≡◌, ◌+◌, ◌-◌, ◌≤◌, List, drop, length, IfOk};
 ghost use Rattle.std.specs.List.{All};
 ghost use Rattle.vlog_tree.specs.Valuation.{IsLength};
 ghost use Rattle.word_dag.specs.Nodes.{Naming};
@@ -9,65 +9,16 @@ ghost use Rattle.set_tree.specs.Formulas.{largest_offset, meaning_of};
 ghost use Rattle.set_tree.specs.Meaning.{Row, holds, all_hold};
 ghost use Rattle.twin_tests.specs.Building.{AreLeaves, HasWidth, IsWide, Shows, Counts, Tests, IsReadable};
 ghost use Rattle.twin_tests.specs.Reading.{HasStructure};
-ghost use Rattle.twin_tests.specs.Leaves.{leaf_of, row_leaves, leaves_from};
 
+use crate::leaves::leaves_of;
 use crate::window::{NodeRow, rows_before};
 use crate::words::{both, constant, nonzero};
-use elab_node::{Leaf, Leaves, value_node};
-use outside::Text;
+use elab_node::value_node;
 use set_sound::largest;
-use set_tree::{Name, Set};
+use set_tree::Set;
 use std::alloc::{AllocError, Global};
 use vlog_tree::Expr;
 use word_dag::Dag;
-
-// What a name stands for at an offset.
-fn leaf_of(alloc: Global, name: &Name, offset: u32, node: u64) -> Result<Leaf, AllocError>
-    ensures { IfOk result (λ l. l ≡ leaf_of name.now offset node) }
-{
-    Ok(Leaf {
-        name: Text::copy(alloc, name.name.bytes())?,
-        offset,
-        width: name.width,
-        low: u64::from(name.low),
-        signed: name.signed,
-        node,
-    })
-}
-
-// The names in the row of an offset.
-fn push_row(
-    alloc: Global,
-    leaves: &mut Leaves,
-    names: &[Name],
-    offset: u32,
-    row: &NodeRow,
-) -> Result<(), AllocError>
-    requires widths { All (λ n. IsLength n.width) names.now }
-    requires long { length row.now ≡ length names.now }
-    ensures { OnOk result (leaves.new ≡ leaves.old ++ row_leaves names.now offset row.now) }
-{
-    let nodes = row.nodes();
-    for i in 0..names.len() {
-        let leaf = leaf_of(alloc, &names[i], offset, nodes[i])?;
-        leaves.push(alloc, leaf)?;
-    }
-    Ok(())
-}
-
-// The names in these rows.
-fn leaves_of(alloc: Global, names: &[Name], rows: &[NodeRow]) -> Result<Leaves, AllocError>
-    requires widths { All (λ n. IsLength n.width) names.now }
-    requires long { All (λ row. length row ≡ length names.now) rows.now }
-    requires count { length rows.now ≤ 2 ^ 32 }
-    ensures { IfOk result (λ ls. ls ≡ leaves_from names.now 0 rows.now) }
-{
-    let mut leaves = Leaves::new(alloc);
-    for t in 0..rows.len() {
-        push_row(alloc, &mut leaves, names, t as u32, &rows[t])?;
-    }
-    Ok(leaves)
-}
 
 /// The node of a formula of a set, whose names are read in rows of nodes. Its number is the formula's value, whatever the free words are. It
 /// is refused for want of memory alone, and then the nodes that were there stay as they were.
@@ -86,7 +37,12 @@ pub fn formula_node(
     ensures node { IfOk result (λ i. (f : Naming → List Row) → Shows set.now.names dag.old rows.now f → Counts dag.new i (λ e. (meaning_of set.now).value formula.now (f e))) }
 {
     let count = largest(formula) as usize + 1;
-    let leaves = leaves_of(alloc, set.names.as_slice(), rows_before(rows, count))?;
+    let leaves = leaves_of(
+        alloc,
+        set.names.as_slice(),
+        rows_before(rows, count),
+        formula,
+    )?;
     // the nodes of a dag fit
     let _fit = dag.nodes();
     let node = value_node(dag, formula, &leaves)?;

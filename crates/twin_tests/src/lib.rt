@@ -5,6 +5,7 @@ mod ending;
 mod formula;
 mod frame;
 mod hands;
+mod leaves;
 mod line;
 mod lines;
 mod obligation;

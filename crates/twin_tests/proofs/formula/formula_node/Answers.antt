@@ -3,6 +3,8 @@ use Rattle.set_tree.specs.Formulas.{largest_offset}
 use Rattle.elab_node.specs.declared.leaves.Leaf.{Leaf}
 use Rattle.elab_node.specs.Leaves.{AreReady}
 use Rattle.elab_node.specs.Terms.{IsAlone}
+use Rattle.twin_tests.specs.Leaves.{leaves_from}
+use Rattle.twin_tests.proofs.Read.{ready_read, alone_read}
 use Rattle.twin_tests.proofs.Naming.{leaves_are, longs, read_leaves, rows_ready, formula_alone, formula_counts, made_wide}
 use Rattle.twin_tests.proofs.formula.formula_node.Goals as goal
 
@@ -17,21 +19,21 @@ value_node-requires-clause-ready c =
     let rows = c.args.rows.now in
     let d = c.args.dag.now in
     let k = largest_offset c.args.formula.now in
-    subst (λ (z : List Leaf). AreReady z d) (sym (leaves_are names c.as_slice.result.now rows c.rows_before.result.now c.largest.result k c.in_ok-leaves.leaves c.in_ok-leaves.ensures c.as_slice.ensures c.rows_before.ensures c.largest.ensures))
-    (rows_ready names 0 (take (k + 1) rows) d c.requires.widths (read_leaves c.args.set.now c.args.formula.now d rows c.requires.readable c.requires.leaves))
+    subst (λ (z : List Leaf). AreReady z d) (sym (leaves_are names c.as_slice.result.now rows c.rows_before.result.now c.largest.result k c.args.formula.now c.in_ok-leaves.leaves c.in_ok-leaves.ensures c.as_slice.ensures c.rows_before.ensures c.largest.ensures))
+    (ready_read d (leaves_from names 0 (take (k + 1) rows)) c.args.formula.now (rows_ready names 0 (take (k + 1) rows) d c.requires.widths (read_leaves c.args.set.now c.args.formula.now d rows c.requires.readable c.requires.leaves)))
 
 pub value_node-requires-clause-alone : goal.value_node-requires-clause-alone
 value_node-requires-clause-alone c =
     let names = c.args.set.now.names in
     let rows = c.args.rows.now in
     let k = largest_offset c.args.formula.now in
-    subst (λ (z : List Leaf). IsAlone z c.args.formula.now) (sym (leaves_are names c.as_slice.result.now rows c.rows_before.result.now c.largest.result k c.in_ok-leaves.leaves c.in_ok-leaves.ensures c.as_slice.ensures c.rows_before.ensures c.largest.ensures))
-    (formula_alone c.args.set.now c.args.formula.now c.args.dag.now rows c.requires.readable c.requires.leaves)
+    subst (λ (z : List Leaf). IsAlone z c.args.formula.now) (sym (leaves_are names c.as_slice.result.now rows c.rows_before.result.now c.largest.result k c.args.formula.now c.in_ok-leaves.leaves c.in_ok-leaves.ensures c.as_slice.ensures c.rows_before.ensures c.largest.ensures))
+    (alone_read (leaves_from names 0 (take (k + 1) rows)) c.args.formula.now (formula_alone c.args.set.now c.args.formula.now c.args.dag.now rows c.requires.readable c.requires.leaves))
 
 pub returns-clause-node : goal.returns-clause-node
 returns-clause-node c = λ f shows.
     formula_counts c.args.dag.now c.value_node.new.dag c.args.set.now c.args.formula.now c.args.rows.now c.in_ok-node.node _ f c.in_ok-leaves.leaves c.requires.readable c.in_ok-node.ensures.length c.in_ok-node.ensures.node
-    (leaves_are c.args.set.now.names c.as_slice.result.now c.args.rows.now c.rows_before.result.now c.largest.result (largest_offset c.args.formula.now) c.in_ok-leaves.leaves c.in_ok-leaves.ensures c.as_slice.ensures c.rows_before.ensures c.largest.ensures) shows
+    (leaves_are c.args.set.now.names c.as_slice.result.now c.args.rows.now c.rows_before.result.now c.largest.result (largest_offset c.args.formula.now) c.args.formula.now c.in_ok-leaves.leaves c.in_ok-leaves.ensures c.as_slice.ensures c.rows_before.ensures c.largest.ensures) shows
 
 pub returns-clause-wide : goal.returns-clause-wide
 returns-clause-wide c = made_wide c.value_node.new.dag c.in_ok-node.node _ _ c.in_ok-node.ensures.length c.in_ok-node.ensures.node
