@@ -9,7 +9,7 @@ use Rattle.word_dag.specs.Nodes.{Parts}
 use Rattle.check_faults.specs.declared.fault.CheckFault.{CheckFault}
 use Rattle.check_faults.specs.declared.fault.CheckFault.TheVariants as f
 use Rattle.fault_texts.specs.Texts.{fault_line}
-use Rattle.check_stages.specs.Texts.{IsModuleText, IsSetText, RefusesModules, RefusesSet}
+use Rattle.check_stages.specs.Texts.{RefusesModules, RefusesSet, SpellsSomeModules, SpellsSomeSet}
 use Rattle.proof_store.specs.Stored.{AddsProofs}
 use Rattle.reports.specs.declared.book.Book.{Book}
 use Rattle.reports.specs.declared.report.Report.{Report}
@@ -66,12 +66,12 @@ IsRefusedBy IsFault line = (fault : CheckFault) × IsFault fault × TellsFault f
 -- ---- texts that are put
 
 abbrev pub PutsModule : List ℕ → List ℕ → Answer → Desk → Desk → Type 0
-PutsModule name text a.Stored old new = ((ms : List Module) × IsModuleText text ms) × (new.tables ≡ with_module name text old.tables) × (new.book ≡ old.book)
+PutsModule name text a.Stored old new = SpellsSomeModules text × (new.tables ≡ with_module name text old.tables) × (new.book ≡ old.book)
 PutsModule name text (a.Refused line) old new = IsRefusedBy (RefusesModules text) line × Stays old new
 PutsModule name text answer old new = ⊥
 
 abbrev pub PutsSet : List ℕ → List ℕ → Answer → Desk → Desk → Type 0
-PutsSet name text a.Stored old new = ((set : Set) × IsSetText text set) × (new.tables ≡ with_set name text old.tables) × (new.book ≡ old.book)
+PutsSet name text a.Stored old new = SpellsSomeSet text × (new.tables ≡ with_set name text old.tables) × (new.book ≡ old.book)
 PutsSet name text (a.Refused line) old new = IsRefusedBy (RefusesSet text) line × Stays old new
 PutsSet name text answer old new = ⊥
 

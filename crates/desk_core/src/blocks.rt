@@ -6,7 +6,7 @@ ghost use Rattle.desk_core.specs.Quiet.{IsRefusal, IsTraced, Reads, StepsQuietly
 ghost use Rattle.desk_core.specs.Steps.{GetsReport, GetsTrace, PutsModule, PutsSet};
 
 use check_faults::CheckFault;
-use check_stages::{modules_of, set_of};
+use check_stages::{try_modules, try_set};
 use desk_commands::Answer;
 use fault_texts::fault_line;
 use outside::{Block, Keeper, Text, TraceText, Traces};
@@ -119,8 +119,8 @@ pub fn put_module<K: Keeper>(
     ensures later { K.faults keeper.old ≤ K.faults keeper.new }
     ensures keeper { result ≡ Err StoreFault.Keeper → Rose (K.faults keeper.old) (K.faults keeper.new) }
 {
-    match modules_of(alloc, text) {
-        Ok(_) => {
+    match try_modules(alloc, text) {
+        Ok(()) => {
             store_module(alloc, keeper, name, text)?;
             Ok(Answer::Stored)
         }
@@ -140,8 +140,8 @@ pub fn put_set<K: Keeper>(
     ensures later { K.faults keeper.old ≤ K.faults keeper.new }
     ensures keeper { result ≡ Err StoreFault.Keeper → Rose (K.faults keeper.old) (K.faults keeper.new) }
 {
-    match set_of(alloc, text) {
-        Ok(_) => {
+    match try_set(alloc, text) {
+        Ok(()) => {
             store_set(alloc, keeper, name, text)?;
             Ok(Answer::Stored)
         }

@@ -1,16 +1,17 @@
 // Checks over a keeper of proofs, and with helpers.
 use crate::examples::{COUNTER, COUNTER_SET};
-use crate::rows::{COUNTER_REPORT, Ran, SET, STEP_ALONE, checked, plain, with};
+use crate::rows::{COUNTER_REPORT, Ran, SET, STEP_ALONE, checked, over, plain, with};
 use clause_check::{Clause, Cnf, Step};
 use desk_core::check;
 use helper_box::{Claim, Helper, Table};
-use outside::{MemKeeper, QuietGate};
+use outside::{Keeper, MemKeeper, QuietGate, Text};
 use proof_store::Settings;
 use reports::{Book, Which};
 use std::alloc::{AllocError, Global};
 use std::process::Abort;
 use std::test::Fail;
 use std::thread::Threads;
+use step_records::{fits_version_1, read_steps, write_steps_1};
 use word_dag::Ob;
 
 // Claims that one empty clause without hints refutes each obligation.
@@ -74,6 +75,32 @@ fn proofs_are_kept(rt: HostRuntime) -> Result<(), Fail> {
     assert_eq!(rt; ran.book.kept, 12);
     assert_eq!(rt; ran.book.solved, 9);
     Ok(())
+}
+
+// The least key above this one that a proof is kept under, or the least of all.
+fn key_after(alloc: Global, keeper: &mut MemKeeper, key: &Option<Text>) -> Result<Text, Fail> {
+    let above = key.as_ref().map(|key| key.bytes());
+    Ok(keeper.proof_key_after(alloc, above)?.ok_or("no more proofs")?)
+}
+
+// Changes the first byte of what is kept under the least key.
+fn damage(alloc: Global, keeper: &mut MemKeeper) -> Result<(), Fail> {
+    let key = key_after(alloc, keeper, &None)?;
+    let mut bytes = keeper.proof(alloc, key.bytes())?.ok_or("not kept")?;
+    if let Some(first) = bytes.first_mut() {
+        *first = 0x45;
+    }
+    keeper.put_proof(alloc, key.bytes(), &bytes)?;
+    Ok(())
+}
+
+#[test]
+fn damaged_proofs_are_found_anew(rt: HostRuntime) -> Result<(), Fail> {
+    let alloc = rt.alloc();
+    let mut keeper = empty(alloc);
+    counted(&rt, &mut keeper, (0, 21))?;
+    damage(alloc, &mut keeper)?;
+    counted(&rt, &mut keeper, (20, 1))
 }
 
 #[test]
@@ -147,4 +174,67 @@ fn a_false_helper_is_asked_for_each_line(rt: HostRuntime) -> Result<(), Fail> {
     };
     assert_eq!(rt; helper.offers(), 10);
     Ok(())
+}
+
+// Puts the record under a key again as one of version 1, if that holds it.
+fn put_first(alloc: Global, keeper: &mut MemKeeper, key: &[u8]) -> Result<(), Fail> {
+    let bytes = keeper.proof(alloc, key)?.ok_or("not kept")?;
+    let steps = read_steps(alloc, &bytes)?.ok_or("no record")?;
+    if fits_version_1(&steps) {
+        let first = write_steps_1(alloc, &steps)?;
+        keeper.put_proof(alloc, key, &first)?;
+    }
+    Ok(())
+}
+
+// Checks the counter, and puts the records of its proofs again as records of version 1.
+fn first_records(
+    rt: &(impl Threads + Sync + Abort + AllocGlobal),
+    keeper: &mut MemKeeper,
+) -> Result<(), Fail> {
+    let alloc = rt.alloc();
+    counted(rt, keeper, (0, 21))?;
+    let mut key = None;
+    for _ in 0..21 {
+        let next = key_after(alloc, keeper, &key)?;
+        put_first(alloc, keeper, next.bytes())?;
+        key = Some(next);
+    }
+    Ok(())
+}
+
+// Moves the rows of a keeper, and wants a status and what is put.
+fn migrated(
+    rt: &(impl Threads + Sync + Abort + AllocGlobal),
+    keeper: &mut MemKeeper,
+    want: (u8, &[u8]),
+) -> Result<(), Fail> {
+    let ran = over(rt, &["migrate", "desk.db"], keeper)?;
+    assert_eq!(rt; ran.out.bytes(), want.1);
+    assert_eq!(rt; ran.status, want.0);
+    Ok(())
+}
+
+#[test]
+fn rows_are_moved(rt: HostRuntime) -> Result<(), Fail> {
+    let alloc = rt.alloc();
+    let mut keeper = empty(alloc);
+    first_records(&rt, &mut keeper)?;
+    damage(alloc, &mut keeper)?;
+    migrated(&rt, &mut keeper, (0, b"migrated 20, left 1\n"))?;
+    migrated(&rt, &mut keeper, (0, b"migrated 0, left 21\n"))?;
+    counted(&rt, &mut keeper, (20, 1))
+}
+
+#[test]
+fn a_failed_move_goes_on(rt: HostRuntime) -> Result<(), Fail> {
+    let alloc = rt.alloc();
+    let mut keeper = empty(alloc);
+    first_records(&rt, &mut keeper)?;
+    // the third row is put by the ninth call
+    let ninth: [u64; 1] = [9];
+    keeper.set_fails(ninth.to_vec(alloc)?);
+    migrated(&rt, &mut keeper, (8, b"keeper\n"))?;
+    migrated(&rt, &mut keeper, (0, b"migrated 19, left 2\n"))?;
+    counted(&rt, &mut keeper, (21, 0))
 }

@@ -4,7 +4,6 @@ use crate::examples::{
     MOD3_SET, MUL, MUL_SET, PIPE1, PIPE1_SET, PIPE3, PIPE3_SET, WAITER, WAITER_SET,
 };
 use crate::run::signoff;
-use check_stages::bound_of;
 use helper_box::Helper;
 use outside::{File, Gate, MemKeeper, MemPort, MemShelf, MemSink, QuietGate, Text};
 use reports::{Book, Verdict};
@@ -12,10 +11,7 @@ use std::alloc::{AllocError, Global};
 use std::process::Abort;
 use std::test::Fail;
 use std::thread::Threads;
-use twin_tests::twin_obs;
-use unroll::design_obs;
 use verdicts::Evidence;
-use word_dag::text;
 
 pub const COUNTER_REPORT: &[u8] = b"proved reset
 proved op step
@@ -203,6 +199,16 @@ pub fn served(
     let files = (plain(b""), plain(b""));
     let helpers = Vec::new(rt.alloc());
     run_over(rt, texts, files, fails, keeper, port, &QuietGate, helpers)
+}
+
+/// Runs words over a keeper alone.
+pub fn over(
+    rt: &(impl Threads + Sync + AllocGlobal),
+    texts: &[&str],
+    keeper: &mut MemKeeper,
+) -> Result<Ran, Fail> {
+    let mut port = idle(rt.alloc())?;
+    served(rt, texts, keeper, &mut port)
 }
 
 fn run(
@@ -697,23 +703,5 @@ fn workers(rt: HostRuntime) -> Result<(), Fail> {
     let ran = run(&rt, &words, plain(COUNTER), plain(COUNTER_SET), (&[], &[]))?;
     assert_eq!(rt; ran.out.bytes(), b"proved op step\n".as_slice());
     assert_eq!(rt; ran.book.draws.len(), 17);
-    Ok(())
-}
-
-#[test]
-fn obligations(rt: HostRuntime) -> Result<(), Fail> {
-    let alloc = rt.alloc();
-    let check = ["check", "M", "S"];
-    let ran = run(&rt, &check, plain(COUNTER), plain(COUNTER_SET), (&[], &[]))?;
-    let Ok(bound) = bound_of(alloc, COUNTER, COUNTER_SET) else {
-        panic!(rt; "refused");
-    };
-    let mut made = design_obs(alloc, &bound)?;
-    made.append(&mut twin_obs(alloc, bound.set())?)?;
-    assert_eq!(rt; ran.book.lines.len(), made.len());
-    for (line, named) in ran.book.lines.iter().zip(made.iter()) {
-        assert_eq!(rt; line.name.bytes(), named.name.bytes());
-        assert_eq!(rt; text(alloc, &line.ob)?, text(alloc, &named.ob)?);
-    }
     Ok(())
 }
