@@ -1,5 +1,6 @@
 use Rattle.std.proofs.Common.{arith, ◌+◌, ◌<◌, ◌≤◌, List, length, refl, sym, subst}
 use Rattle.elab_node.specs.declared.leaves.Leaf.{Leaf}
+use Rattle.elab_node.proofs.Kept.{grows_then}
 use Rattle.elab_step.proofs.Boards.{Beginning, signal_among, beginning_next, board_begun, frees_begun}
 use Rattle.elab_step.proofs.Cycles.{plain_signal}
 use Rattle.elab_step.proofs.start.begun.Goals as goal
@@ -33,3 +34,6 @@ returns-clause-frees c =
     let n = c.requires.nets in
     let l : length c.args.signals.now ≤ c.loop-i.i = omega arith in
     frees_begun c.args.signals.now c.args.nets.now c.loop-i.i c.args.dag.now c.loop-i.dag c.loop-i.leaves c.loop-i.invariant l (omega (arith, l, n))
+
+pub returns-in_err-push-clause-grows : goal.returns-in_err-push-clause-grows
+returns-in_err-push-clause-grows c = grows_then c.args.dag.now c.loop-i.dag c.leaf.new.dag c.loop-i.invariant.grows c.leaf.ensures.grows
