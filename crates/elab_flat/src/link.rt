@@ -1,4 +1,5 @@
-// Continuous assignments and connections of ports (IEEE 1364-2005, sections 6.1 and 12.3).
+// Continuous assignments and connections of ports (IEEE 1364-2005, sections 6.1 and 12.3). A left side whose right side fails is dropped by a call:
+// dropped in place, its parts would be proved anew there.
 
 ghost use Rattle.std.specs.Prelude.{◌≡◌, ◌++◌, List, Some, IfOk, OnOk, map, length};
 ghost use Rattle.std.specs.List.{flat_map};
@@ -41,10 +42,15 @@ fn moved_target(mover: &Mover<'_>, target: &Target<'_>) -> Result<Lval, AllocErr
 fn own_assign(mover: &Mover<'_>, assigned: &Assigned<'_>) -> Result<Assign, AllocError>
     ensures { IfOk result (λ a. (gs : List Signal) → a ≡ moved_link (own_link (placed mover.now.prefix.now gs mover.now.params.now) (assigned_meant assigned.now))) }
 {
-    Ok(Assign {
-        left: moved_target(mover, &assigned.left)?,
-        right: mover.expr(assigned.right)?,
-    })
+    let left = moved_target(mover, &assigned.left)?;
+    let right = match mover.expr(assigned.right) {
+        Ok(right) => right,
+        Err(fault) => {
+            drop(left);
+            return Err(fault);
+        }
+    };
+    Ok(Assign { left, right })
 }
 
 /// The name of a port of an instance as an expression.
@@ -69,16 +75,21 @@ fn port_assign(
         map moved_link (port_link (placed outer.now.prefix.now gs outer.now.params.now) (placed inner.now.prefix.now hs inner.now.params.now) (given_meant given.now) (decl_meant port.now))) }
 {
     if port.input {
-        return Ok(Some(Assign {
-            left: Lval::Name(inner.text(given.name.bytes())?),
-            right: outer.expr(given.value)?,
-        }));
+        let name = inner.text(given.name.bytes())?;
+        let right = outer.expr(given.value)?;
+        let left = Lval::Name(name);
+        return Ok(Some(Assign { left, right }));
     }
     if port.output {
-        return Ok(Some(Assign {
-            left: left_of(outer, given.value)?,
-            right: port_value(inner, given.name)?,
-        }));
+        let left = left_of(outer, given.value)?;
+        let right = match port_value(inner, given.name) {
+            Ok(right) => right,
+            Err(fault) => {
+                drop(left);
+                return Err(fault);
+            }
+        };
+        return Ok(Some(Assign { left, right }));
     }
     Ok(None)
 }
