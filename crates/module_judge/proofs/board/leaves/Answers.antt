@@ -21,3 +21,9 @@ pub returns-clause-held : goal.returns-clause-held
 returns-clause-held c =
     let e = c.requires.each in
     held_all c.loop-i.dag c.args.signals.now c.loop-i.leaves c.args.values.now c.loop-i.i (omega arith) (omega (arith, e)) c.loop-i.invariant.1
+
+pub returns-in_err-next-clause-keeps : goal.returns-in_err-next-clause-keeps
+returns-in_err-next-clause-keeps c = keeps_then c.args.dag.now c.loop-i.dag c.leaf.new.dag c.loop-i.invariant.0 c.leaf.ensures.keeps
+
+pub returns-in_err-push-clause-keeps : goal.returns-in_err-push-clause-keeps
+returns-in_err-push-clause-keeps c = keeps_then c.args.dag.now c.loop-i.dag c.leaf.new.dag c.loop-i.invariant.0 c.leaf.ensures.keeps
