@@ -9,7 +9,7 @@ ghost use Rattle.desk_core.specs.Quiet.{LeavesOfBlock, OfBlock};
 ghost use Rattle.desk_core.specs.States.{IsDesk};
 ghost use Rattle.desk_core.specs.Steps.{ChecksBlock, IsLeft, Leaves, Steps, desk};
 
-use crate::blocks::{put_module, put_set, refused, report_of_block, trace_of_block};
+use crate::blocks::{put_module, put_set, refused_by, report_of_block, trace_of_block};
 use crate::checking::check;
 use crate::keeping::put_checked;
 use crate::listing::{list_blocks, list_signs};
@@ -62,7 +62,7 @@ fn check_texts<R: Threads + Sync, K: Keeper, H: Helper, G: Gate + Sync>(
         book,
     ) {
         Ok(report) => put_checked(alloc, keeper, name, block, &report, book),
-        Err(fault) => refused(alloc, &fault),
+        Err(fault) => refused_by(alloc, fault),
     }
 }
 

@@ -13,8 +13,8 @@ use outside::{Block, Keeper, Text, TraceText, Traces};
 use proof_store::StoreFault;
 use std::alloc::{AllocError, Global};
 
-/// The answer where a text is refused. Refused itself where the keeper failed or memory ran out.
-pub fn refused(alloc: Global, fault: &CheckFault) -> Result<Answer, StoreFault>
+// The answer where a text is refused.
+fn refused(alloc: Global, fault: &CheckFault) -> Result<Answer, StoreFault>
     requires { fault.now ≢ CheckFault.NoLine }
     ensures line { IfOk result (IsRefusal fault.now) }
     ensures keeper { result ≡ Err StoreFault.Keeper → fault.now ≡ CheckFault.Keeper }
@@ -27,6 +27,18 @@ pub fn refused(alloc: Global, fault: &CheckFault) -> Result<Answer, StoreFault>
         CheckFault::Keeper => Err(StoreFault::Keeper),
         CheckFault::Memory => Err(StoreFault::Memory),
     }
+}
+
+/// The answer where a text is refused. Refused itself where the keeper failed or memory ran out. The fault is dropped by a call, since a proof would
+/// write out the drop of a set's trees at each exit.
+pub fn refused_by(alloc: Global, fault: CheckFault) -> Result<Answer, StoreFault>
+    requires { fault ≢ CheckFault.NoLine }
+    ensures line { IfOk result (IsRefusal fault) }
+    ensures keeper { result ≡ Err StoreFault.Keeper → fault ≡ CheckFault.Keeper }
+{
+    let answer = refused(alloc, &fault);
+    drop(fault);
+    answer
 }
 
 // A block with these texts, of which nothing is reported.
@@ -124,7 +136,7 @@ pub fn put_module<K: Keeper>(
             store_module(alloc, keeper, name, text)?;
             Ok(Answer::Stored)
         }
-        Err(fault) => refused(alloc, &fault),
+        Err(fault) => refused_by(alloc, fault),
     }
 }
 
@@ -145,7 +157,7 @@ pub fn put_set<K: Keeper>(
             store_set(alloc, keeper, name, text)?;
             Ok(Answer::Stored)
         }
-        Err(fault) => refused(alloc, &fault),
+        Err(fault) => refused_by(alloc, fault),
     }
 }
 

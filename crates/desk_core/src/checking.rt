@@ -67,7 +67,12 @@ fn checked<R: Threads + Sync, K: Keeper, H: Helper, G: Gate + Sync>(
     ensures helpers { NoneFalls (map H.asked helpers.old.items) (map H.asked helpers.new.items) }
 {
     match bound_of(alloc, module, set) {
-        Ok(bound) => decided(rt, alloc, &bound, which, settings, keeper, helpers, gate),
+        Ok(bound) => {
+            let answer = decided(rt, alloc, &bound, which, settings, keeper, helpers, gate);
+            // a call, since a proof would write out the drop of all trees here
+            drop(bound);
+            answer
+        }
         Err(fault) => Err(fault),
     }
 }

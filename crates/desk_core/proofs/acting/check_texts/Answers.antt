@@ -19,11 +19,11 @@ pub returns-in-Err-clause-step : goal.returns-in-Err-clause-step
 returns-in-Err-clause-step g c =
     refuses_texts c.args.settings.now.budget c.args.settings.now.workers c.args.name.now c.args.block c.bytes.result.now c.bytes-2.result.now
     (c.in-Some.is ∙ ap (λ (x : List ℕ). Some x) (sym c.bytes.ensures)) (c.in-Some-set.is ∙ ap (λ (x : List ℕ). Some x) (sym c.bytes-2.ensures))
-    c.refused.result c.in-Err.fault c.in-Err.ensures.refuses c.refused.ensures.line _ _ c.args.book.now c.check.new.book c.in-Err.ensures.empty
+    c.refused_by.result c.in-Err.fault c.in-Err.ensures.refuses c.refused_by.ensures.line _ _ c.args.book.now c.check.new.book c.in-Err.ensures.empty
     (g.K.Keeper.tables c.args.keeper.now) (g.K.Keeper.tables c.check.new.keeper) c.in-Err.ensures.left
 
 pub returns-in-Err-clause-left : goal.returns-in-Err-clause-left
 returns-in-Err-clause-left g c =
     left_then c.args.settings.now.budget c.args.settings.now.workers c.args.name.now c.args.block c.bytes.result.now c.bytes-2.result.now
     (c.in-Some.is ∙ ap (λ (x : List ℕ). Some x) (sym c.bytes.ensures)) (c.in-Some-set.is ∙ ap (λ (x : List ℕ). Some x) (sym c.bytes-2.ensures))
-    c.refused.result (g.K.Keeper.tables c.args.keeper.now) (g.K.Keeper.tables c.check.new.keeper) c.in-Err.ensures.left
+    c.refused_by.result (g.K.Keeper.tables c.args.keeper.now) (g.K.Keeper.tables c.check.new.keeper) c.in-Err.ensures.left
