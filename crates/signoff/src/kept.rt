@@ -80,7 +80,11 @@ fn proofs_are_kept(rt: HostRuntime) -> Result<(), Fail> {
 // The least key above this one that a proof is kept under, or the least of all.
 fn key_after(alloc: Global, keeper: &mut MemKeeper, key: &Option<Text>) -> Result<Text, Fail> {
     let above = key.as_ref().map(|key| key.bytes());
-    Ok(keeper.proof_key_after(alloc, above)?.ok_or("no more proofs")?)
+    Ok(
+        keeper
+            .proof_key_after(alloc, above)?
+            .ok_or("no more proofs")?,
+    )
 }
 
 // Changes the first byte of what is kept under the least key.
