@@ -8,14 +8,14 @@ use Rattle.vlog_tree.specs.declared.stmt.Lval.TheVariants as l
 use Rattle.vlog_tree.specs.declared.stmt.Stmt.{Stmt, Row_of-Stmt, end_of-Stmt, more_of-Stmt, Row_of-CaseItem, end_of-CaseItem, more_of-CaseItem}
 use Rattle.vlog_tree.specs.declared.stmt.Stmt.TheVariants as s
 use Rattle.vlog_tree.specs.declared.valuation.Entry.{Entry}
-use Rattle.vlog_tree.specs.Value.{operand_of, own_integer, part_low, part_width}
+use Rattle.vlog_tree.specs.Value.{operand_of, own, own_integer, part_low, part_width}
 use Rattle.vlog_runs.specs.declared.flat.Signal.{Signal}
-use Rattle.vlog_runs.specs.Places.{Name, Place, holders, words_from}
-use Rattle.vlog_runs.specs.Blocks.{lefts, row_lefts, case_lefts, left_names, row_names, low_in, IsWithin, Drives, AnyDrives}
+use Rattle.vlog_runs.specs.Places.{Name, Among, Place, holders, words_from}
+use Rattle.vlog_runs.specs.Blocks.{lefts, row_lefts, case_lefts, left_names, row_names, low_in, IsWithin, Drives, AnyDrives, Stores, AnyStores}
 use Rattle.flat_laws.specs.Moved.{moved, moved_left, moved_lefts, moved_stmt, moved_stmts, moved_items, moved_signal}
 use Rattle.flat_laws.specs.Uses.{AssignsSignals, AllAssignSignals, AreConstants}
 use Rattle.flat_laws.specs.Laws.{MovesInto}
-use Rattle.flat_laws.proofs.Lists.{map_append}
+use Rattle.flat_laws.proofs.Lists.{append_left, append_right, map_append}
 use Rattle.flat_laws.proofs.Finding.{bare}
 use Rattle.flat_laws.proofs.Constants.{constant_means, fixed, opened}
 use Rattle.flat_laws.proofs.Sides.{word_under}
@@ -85,6 +85,39 @@ mutual
   any_from p gs m h end_of-Lval d x b k = absurd k
   any_from p gs m h (more_of-Lval a rest) d x b k =
       ⊎_elim (λ z. let r = drives_from p gs m h a d.0 x b z in (r.0, r.1, inl r.2)) (λ z. let r = any_from p gs m h rest d.1 x b z in (r.0, r.1, inr r.2)) k
+
+-- ---- words of memories
+
+mutual
+  pub stores_to : (p : Place) (gs : List Signal) → AreConstants p.params → (left : Lval) → AssignsSignals p left → (x y : Name) (j : ℕ) → x ≡ p.prefix ++ y →
+      Stores p left y j → Stores (bare gs) (moved_left p.prefix p.params left) x j
+  stores_to p gs h (l.Name z) d x y j e k = ap (λ w. p.prefix ++ w) k ∙ sym e
+  stores_to p gs h (l.Select z a) d x y j e k = (ap (λ w. p.prefix ++ w) k.0 ∙ sym e, λ c. let o = opened p a d.1.1 c in ap own (constant_means p a h o) ∙ k.1 o)
+  stores_to p gs h (l.Part z span a a') d x y j e k = ap (λ w. p.prefix ++ w) k ∙ sym e
+  stores_to p gs h (l.Concat' q row) d x y j e k = any_stores_to p gs h row d x y j e k
+
+  any_stores_to : {n : _} (p : Place) (gs : List Signal) → AreConstants p.params → (row : Row_of-Lval n) → AllAssignSignals p row → (x y : Name) (j : ℕ) → x ≡ p.prefix ++ y →
+      AnyStores p row y j → AnyStores (bare gs) (moved_lefts p.prefix p.params row) x j
+  any_stores_to p gs h end_of-Lval d x y j e k = k
+  any_stores_to p gs h (more_of-Lval a rest) d x y j e k =
+      ⊎_elim (λ z. inl (stores_to p gs h a d.0 x y j e z)) (λ z. inr (any_stores_to p gs h rest d.1 x y j e z)) k
+
+-- and the other way round, for some name of the text
+mutual
+  pub stores_from : (p : Place) (gs : List Signal) → AreConstants p.params → (left : Lval) → AssignsSignals p left → (x : Name) (j : ℕ) →
+      Stores (bare gs) (moved_left p.prefix p.params left) x j → (y : Name) × (x ≡ p.prefix ++ y) × Among (left_names left) y × Stores p left y j
+  stores_from p gs h (l.Name z) d x j k = (z, sym k, inl refl, refl)
+  stores_from p gs h (l.Select z a) d x j k = (z, sym k.0, inl refl, (refl, λ c. sym (ap own (constant_means p a h c)) ∙ k.1 (fixed p a d.1.1 c)))
+  stores_from p gs h (l.Part z span a a') d x j k = (z, sym k, inl refl, refl)
+  stores_from p gs h (l.Concat' q row) d x j k = any_stores_from p gs h row d x j k
+
+  any_stores_from : {n : _} (p : Place) (gs : List Signal) → AreConstants p.params → (row : Row_of-Lval n) → AllAssignSignals p row → (x : Name) (j : ℕ) →
+      AnyStores (bare gs) (moved_lefts p.prefix p.params row) x j → (y : Name) × (x ≡ p.prefix ++ y) × Among (row_names row) y × AnyStores p row y j
+  any_stores_from p gs h end_of-Lval d x j k = absurd k
+  any_stores_from p gs h (more_of-Lval a rest) d x j k =
+      ⊎_elim
+      (λ z. let r = stores_from p gs h a d.0 x j z in (r.0, r.1, append_left (left_names a) (row_names rest) r.0 r.2, inl r.3))
+      (λ z. let r = any_stores_from p gs h rest d.1 x j z in (r.0, r.1, append_right (left_names a) (row_names rest) r.0 r.2, inr r.3)) k
 
 -- ---- what is assigned
 

@@ -10,11 +10,12 @@ use Rattle.vlog_tree.specs.declared.stmt.Lval.{Lval, Row_of-Lval, end_of-Lval, m
 use Rattle.vlog_tree.specs.declared.stmt.Lval.TheVariants as l
 use Rattle.vlog_tree.specs.declared.stmt.Stmt.{Stmt, Row_of-Stmt, end_of-Stmt, more_of-Stmt, Row_of-CaseItem, end_of-CaseItem, more_of-CaseItem}
 use Rattle.vlog_tree.specs.declared.stmt.Stmt.TheVariants as s
+use Rattle.vlog_tree.specs.Valuation.{word_name}
 use Rattle.vlog_runs.specs.declared.flat.Always.{Always}
 use Rattle.vlog_runs.specs.declared.flat.Flat.{Flat}
 use Rattle.vlog_runs.specs.declared.flat.Signal.{Signal}
-use Rattle.vlog_runs.specs.Places.{read, Name, Cycle, Among, Place, holders, words_from, total, give}
-use Rattle.vlog_runs.specs.Blocks.{run, lefts, row_lefts, case_lefts, left_names, row_names}
+use Rattle.vlog_runs.specs.Places.{read, Name, Cycle, Among, Place, holders, total, give}
+use Rattle.vlog_runs.specs.Blocks.{run, lefts, row_lefts, case_lefts, left_names, row_names, Stores}
 use Rattle.vlog_runs.specs.Contents.{Decl, Block, blocks_in, is_clocked, Inner, instances_in, signals_in, port_names, assigns_in}
 use Rattle.vlog_runs.specs.Scopes.{Scope, place_of, Link, links_of, own_link, inner_links, child, connections, connection, port_links, port_link, Given, given_to, decl_at, left_of}
 use Rattle.vlog_runs.specs.Cycles.{linked, IsAssigned, DrivesBit, DrivesWord, DrivesFull, IsRegisterFrom, IsDrivenFrom, IsCycleFrom, IsClockedFrom, FollowsFrom, flat_place, IsRegister, IsDriven, IsInput, IsCycle, IsClocked, Follows}
@@ -23,11 +24,11 @@ use Rattle.flat_laws.specs.Uses.{IsSignal, AssignsSignals, AllAssignSignals, IsD
 use Rattle.flat_laws.specs.Flattened.{moved_link, moved_block, flat_signals, flat_assigns, flat_blocks, IsFlatOf, AreScopes, IsLinkDeclared, CanFlatten, KeepsRuns}
 use Rattle.flat_laws.specs.Laws.{MovesInto}
 use Rattle.flat_laws.proofs.Lists.{among_map, map_among, among_flat, flat_among, among_append}
-use Rattle.flat_laws.proofs.Sides.{pieces_moved, expr_moved}
+use Rattle.flat_laws.proofs.Sides.{pieces_moved, expr_moved, word_under}
 use Rattle.flat_laws.proofs.Statements.{run_moved}
 use Rattle.flat_laws.proofs.Finding.{bare, signal_known}
 use Rattle.flat_laws.proofs.Lows.{scope_moves}
-use Rattle.flat_laws.proofs.Driving.{drives_to, drives_from, lefts_moved, left_names_moved, assigned_names, words_moved, holders_moved}
+use Rattle.flat_laws.proofs.Driving.{drives_to, drives_from, stores_to, stores_from, lefts_moved, assigned_names, holders_moved}
 
 -- ---- links
 
@@ -186,10 +187,10 @@ module _ (ms : List Module) (top : Name) (ss : List Scope) (f : Flat) (of : IsFl
         moved_signal u.prefix w.0,
         signal_in u w.0 h w.1,
         w.2,
-        subst (λ xs. Among xs (u.prefix ++ w.0.name)) (sym (left_names_moved u.prefix u.params left)) (map_among (λ y. u.prefix ++ y) (left_names left) w.0.name w.3),
-        moved_signal u.prefix w.4,
-        subst (λ gs. Among gs (moved_signal u.prefix w.4)) (sym (words_moved u.prefix w.0 0 w.0.depth)) (map_among (moved_signal u.prefix) (words_from w.0 0 w.0.depth) w.4 w.5),
-        w.6,
+        w.3,
+        w.4,
+        stores_to (place_of u) f.signals (can.usable u h).constants left d (u.prefix ++ w.0.name) w.0.name w.3 refl w.5,
+        w.6 ∙ sym (word_under u.prefix w.0.name w.3),
       ))
       k
 
@@ -201,12 +202,12 @@ module _ (ms : List Module) (top : Name) (ss : List Scope) (f : Flat) (of : IsFl
       let r = drives_from (place_of u) f.signals (moves_in u h) (can.usable u h).constants left d i.0 b i.2 in
       inl (r.0, i.1 ∙ r.1, r.2))
       (λ (w : DrivesWord (flat_place f) (moved_left u.prefix u.params left) x).
-      let n = among_map (λ y. u.prefix ++ y) (left_names left) w.0.name (subst (λ xs. Among xs w.0.name) (left_names_moved u.prefix u.params left) w.3) in
-      let o = own_signal u h n.0 (names_are (place_of u) left d n.0 n.1) w.0 w.1 (sym n.2) in
+      let n = stores_from (place_of u) f.signals (can.usable u h).constants left d w.0.name w.3 w.5 in
+      let o = own_signal u h n.0 (names_are (place_of u) left d n.0 n.2) w.0 w.1 n.1 in
       let deep : nat_eq o.0.depth 0 ≡ false = ap (λ (z : Signal). nat_eq z.depth 0) o.3 ∙ w.2 in
-      let ws = among_map (moved_signal u.prefix) (words_from o.0 0 o.0.depth) w.4
-      (subst (λ gs. Among gs w.4) (words_moved u.prefix o.0 0 o.0.depth) (subst (λ (z : Signal). Among (words_from z 0 z.depth) w.4) (sym o.3) w.5)) in
-      inr (o.0, o.1, deep, subst (λ y. Among (left_names left) y) (sym o.2) n.1, ws.0, ws.1, w.6 ∙ sym (ap (λ (z : Signal). z.name) ws.2)))
+      let below : w.3 < o.0.depth = subst (λ (z : Signal). w.3 < z.depth) (sym o.3) w.4 in
+      let word : x ≡ u.prefix ++ (word_name (read o.0.name) w.3).text = w.6 ∙ ap (λ (z : Signal). (word_name (read z.name) w.3).text) (sym o.3) ∙ word_under u.prefix o.0.name w.3 in
+      inr (o.0, o.1, deep, w.3, below, subst (λ y. Stores (place_of u) left y w.3) (sym o.2) n.3, word))
       k
 
   -- ---- registers

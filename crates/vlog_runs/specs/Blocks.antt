@@ -164,3 +164,15 @@ abbrev mutual
   pub AnyDrives : {m : _} → Place → Row_of-Lval m → Name → ℕ → Type 0
   AnyDrives p end_of-Lval x b = ⊥
   AnyDrives p (more_of-Lval a rest) x b = Drives p a x b ⊎ AnyDrives p rest x b
+
+-- a left side assigns to word j of a memory: one with a constant index to this word alone, any other one to each word
+abbrev mutual
+  pub Stores : Place → Lval → Name → ℕ → Type 0
+  Stores p (l.Name y) x j = y ≡ x
+  Stores p (l.Select y a) x j = (y ≡ x) × (NamesOnly (is_parameter p) a → own_value p.params a ≡ j)
+  Stores p (l.Part y span a a') x j = y ≡ x
+  Stores p (l.Concat' h row) x j = AnyStores p row x j
+
+  pub AnyStores : {m : _} → Place → Row_of-Lval m → Name → ℕ → Type 0
+  AnyStores p end_of-Lval x j = ⊥
+  AnyStores p (more_of-Lval a rest) x j = Stores p a x j ⊎ AnyStores p rest x j

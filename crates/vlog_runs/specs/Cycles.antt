@@ -7,13 +7,14 @@ use Rattle.vlog_tree.specs.declared.item.Assign.{Assign}
 use Rattle.vlog_tree.specs.declared.module.Module.{Module}
 use Rattle.vlog_tree.specs.declared.stmt.Lval.{Lval}
 use Rattle.vlog_tree.specs.declared.stmt.Stmt.{Stmt}
+use Rattle.vlog_tree.specs.Valuation.{word_name}
 use Rattle.vlog_tree.specs.Value.{assigned}
 use Rattle.vlog_runs.specs.declared.flat.Always.{Always}
 use Rattle.vlog_runs.specs.declared.flat.Flat.{Flat}
 use Rattle.vlog_runs.specs.declared.flat.Signal.{Signal}
 use Rattle.vlog_runs.specs.declared.flat.TopPort.{TopPort}
-use Rattle.vlog_runs.specs.Places.{Name, Cycle, Among, Place, holders, words_from, valuation, pieces, total, give}
-use Rattle.vlog_runs.specs.Blocks.{run, lefts, left_names, Drives}
+use Rattle.vlog_runs.specs.Places.{Name, Cycle, Among, Place, holders, read, valuation, pieces, total, give}
+use Rattle.vlog_runs.specs.Blocks.{run, lefts, left_names, Drives, Stores}
 use Rattle.vlog_runs.specs.Contents.{Decl, signals_in, Block, blocks_in, is_clocked}
 use Rattle.vlog_runs.specs.Scopes.{Scope, IsScope, scope_at, place_of, Link, links_of, own_link}
 
@@ -45,10 +46,10 @@ IsAssigned p body x = (y : Name) × Among (flat_map left_names (lefts body)) y �
 abbrev pub DrivesBit : Place → Lval → Name → ℕ → Type 0
 DrivesBit p left x b = (y : Name) × (x ≡ p.prefix ++ y) × Drives p left y b
 
--- a left side assigns to a memory, one of whose words is x
+-- a left side assigns to the word x of a memory
 abbrev pub DrivesWord : Place → Lval → Name → Type 0
 DrivesWord p left x =
-    (g : Signal) × Among p.signals g × (nat_eq g.depth 0 ≡ false) × Among (left_names left) g.name × (w : Signal) × Among (words_from g 0 g.depth) w × (x ≡ p.prefix ++ w.name)
+    (g : Signal) × Among p.signals g × (nat_eq g.depth 0 ≡ false) × (j : ℕ) × (j < g.depth) × Stores p left g.name j × (x ≡ p.prefix ++ (word_name (read g.name) j).text)
 
 abbrev pub DrivesFull : Place → Lval → Name → ℕ → Type 0
 DrivesFull p left x b = DrivesBit p left x b ⊎ DrivesWord p left x
