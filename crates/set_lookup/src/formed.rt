@@ -45,7 +45,9 @@ fn is_formed(alloc: Global, valuation: &Valuation, formula: &Expr) -> Result<boo
         return Ok(false);
     }
     let present = present(alloc, formula)?;
-    match shape_of(&present, valuation) {
+    let shape = shape_of(&present, valuation);
+    drop(present);
+    match shape {
         Some(_) => Ok(true),
         None => Ok(false),
     }
@@ -140,15 +142,21 @@ fn operations_are(
     Ok(true)
 }
 
+/// Whether all formulas of a set are.
+fn text_is(alloc: Global, valuation: &Valuation, text: &SetText) -> Result<bool, AllocError>
+    ensures { IfOk result (Judges (IsPresent valuation.now) (formulas_in text.now)) }
+{
+    let domains = domains_are(alloc, valuation, text.declarations.as_slice())?;
+    let rules = rules_are(alloc, valuation, text.rules.as_slice())?;
+    let first = property_is(alloc, valuation, &text.first)?;
+    let operations = operations_are(alloc, valuation, text.operations.as_slice())?;
+    Ok(both(domains, both(rules, both(first, operations))))
+}
+
 /// Whether all formulas of a set are well formed over the declared names whose lengths are good.
 pub fn all_formed(alloc: Global, text: &SetText) -> Result<bool, AllocError>
     ensures { IfOk result (Judges (IsPresent (declared_entries text.now.declarations)) (formulas_in text.now)) }
 {
-    let declarations = text.declarations.as_slice();
-    let valuation = valuation_of(alloc, declarations)?;
-    let domains = domains_are(alloc, &valuation, declarations)?;
-    let rules = rules_are(alloc, &valuation, text.rules.as_slice())?;
-    let first = property_is(alloc, &valuation, &text.first)?;
-    let operations = operations_are(alloc, &valuation, text.operations.as_slice())?;
-    Ok(both(domains, both(rules, both(first, operations))))
+    let valuation = valuation_of(alloc, text.declarations.as_slice())?;
+    text_is(alloc, &valuation, text)
 }

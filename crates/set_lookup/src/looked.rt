@@ -1,4 +1,5 @@
-// What the names and the numbers of a set come to.
+// What the names and the numbers of a set come to. Where there is nothing, or memory runs out, what was held is dropped by a call: dropped
+// in place, it would be proved anew at each such exit.
 ghost use Rattle.std.specs.Prelude.{◌≡◌, ◌^◌, ◌<◌, ◌-◌, Some, IfOk, IfSome, length, option_map, IfNone, IfErr, OnOk, MatchOption, None};
 ghost use Rattle.set_lookup.specs.Meaning.{
   within,
@@ -102,16 +103,20 @@ pub fn low_of(bits: Option<Bits>) -> u64
 fn name_of(declaration: Declaration) -> Option<Name>
     ensures { result ≡ name_of declaration }
 {
-    let width = width_of(declaration.bits)?;
-    let low = short(low_of(declaration.bits))?;
-    Some(Name {
-        name: declaration.name,
-        role: declaration.role,
-        width,
-        low,
-        signed: declaration.signed,
-        domain: declaration.domain,
-    })
+    match (width_of(declaration.bits), short(low_of(declaration.bits))) {
+        (Some(width), Some(low)) => Some(Name {
+            name: declaration.name,
+            role: declaration.role,
+            width,
+            low,
+            signed: declaration.signed,
+            domain: declaration.domain,
+        }),
+        _ => {
+            drop(declaration);
+            None
+        }
+    }
 }
 
 #[tactic(auto, using(crate::proofs::Each::front_joined))]
@@ -497,7 +502,7 @@ fn gathered(alloc: Global, text: SetText, found: Found) -> Result<Option<Set>, A
         text.rules.into_vec(),
         text.operations.into_vec(),
         found.rest,
-    )?;
+    );
     let head = Head {
         block: text.block,
         clock: text.clock,
@@ -506,8 +511,15 @@ fn gathered(alloc: Global, text: SetText, found: Found) -> Result<Option<Set>, A
     };
     let first = property_of(text.first, found.first);
     match lists {
-        Some(lists) => Ok(Some(assembled(head, cycles, first, lists))),
-        None => Ok(None),
+        Ok(Some(lists)) => Ok(Some(assembled(head, cycles, first, lists))),
+        Ok(None) => {
+            drop((head, first));
+            Ok(None)
+        }
+        Err(error) => {
+            drop((head, first));
+            Err(error)
+        }
     }
 }
 
@@ -518,9 +530,16 @@ fn set_of(alloc: Global, text: SetText) -> Result<Option<Set>, AllocError>
     requires operations { length text.operations < 2 ^ 32 - 1 }
     ensures { IfOk result (λ set. MatchOption set (MeansNothing text) (Means text)) }
 {
-    match looked_through(alloc, &text)? {
-        Some(found) => gathered(alloc, text, found),
-        None => Ok(None),
+    match looked_through(alloc, &text) {
+        Ok(Some(found)) => gathered(alloc, text, found),
+        Ok(None) => {
+            drop(text);
+            Ok(None)
+        }
+        Err(error) => {
+            drop(text);
+            Err(error)
+        }
     }
 }
 
@@ -545,6 +564,19 @@ fn check(alloc: Global, text: &SetText) -> Result<(), Wrong>
     Ok(())
 }
 
+/// The set of a text that has nothing against it.
+fn valid_set(alloc: Global, text: SetText) -> Result<Set, Wrong>
+    requires numbers { HasSmallNumbers text }
+    requires valid { IsValid text }
+    ensures means { IfOk result (Means text) }
+    ensures err { IfErr result (Stands text) }
+{
+    match set_of(alloc, text)? {
+        Some(set) => Ok(set),
+        None => unreachable!(),
+    }
+}
+
 /// The set that a text means. Its numbers of bits and of offsets must be below 2^32, as those that digits alone spell are.
 /// `Unknown`, `Twice` and `Limit` are what the text has against it; where several stand, one of them.
 pub fn look_up(alloc: Global, text: SetText) -> Result<Set, Wrong>
@@ -553,9 +585,11 @@ pub fn look_up(alloc: Global, text: SetText) -> Result<Set, Wrong>
     ensures valid { OnOk result (IsValid text) }
     ensures err { IfErr result (Stands text) }
 {
-    check(alloc, &text)?;
-    match set_of(alloc, text)? {
-        Some(set) => Ok(set),
-        None => unreachable!(),
+    match check(alloc, &text) {
+        Ok(()) => valid_set(alloc, text),
+        Err(wrong) => {
+            drop(text);
+            Err(wrong)
+        }
     }
 }

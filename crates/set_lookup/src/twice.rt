@@ -1,5 +1,5 @@
 // Names that stand twice.
-ghost use Rattle.std.specs.Prelude.{◌≡◌, map, IfOk};
+ghost use Rattle.std.specs.Prelude.{◌≡◌, ◌++◌, ◌∷◌, [], map, IfOk, OnOk};
 ghost use Rattle.std.specs.List.{list_any};
 ghost use Rattle.std.specs.Option.{option_copied};
 ghost use Rattle.std.specs.Str.{bytes_eq};
@@ -45,45 +45,56 @@ fn next_twice(operations: &[PropertyText]) -> Option<&Text>
     None
 }
 
-fn signals(alloc: Global, declarations: &[Declaration]) -> Result<Items<Text>, AllocError>
-    ensures { IfOk result (λ names. names ≡ map (λ d. d.name) declarations.now) }
+// The names are noted in a list of the caller's, so that nothing has to be dropped where memory runs out.
+
+fn note(alloc: Global, names: &mut Items<Text>, name: &Text) -> Result<(), AllocError>
+    ensures { OnOk result (names.new ≡ names.old ++ name.now ∷ []) }
 {
-    let mut names = Items::new(alloc);
+    names.push(Text::copy(alloc, name.bytes())?)
+}
+
+fn note_signals(
+    alloc: Global,
+    names: &mut Items<Text>,
+    declarations: &[Declaration],
+) -> Result<(), AllocError>
+    ensures { OnOk result (names.new ≡ names.old ++ map (λ d. d.name) declarations.now) }
+{
     for declaration in declarations {
-        names.push(Text::copy(alloc, declaration.name.bytes())?)?;
+        note(alloc, names, &declaration.name)?;
     }
-    Ok(names)
+    Ok(())
 }
 
-fn operations(alloc: Global, properties: &[PropertyText]) -> Result<Items<Text>, AllocError>
-    ensures { IfOk result (λ names. names ≡ map (λ p. p.name) properties.now) }
+fn note_operations(
+    alloc: Global,
+    names: &mut Items<Text>,
+    properties: &[PropertyText],
+) -> Result<(), AllocError>
+    ensures { OnOk result (names.new ≡ names.old ++ map (λ p. p.name) properties.now) }
 {
-    let mut names = Items::new(alloc);
     for operation in properties {
-        names.push(Text::copy(alloc, operation.name.bytes())?)?;
+        note(alloc, names, &operation.name)?;
     }
-    Ok(names)
+    Ok(())
 }
 
-fn rules(alloc: Global, rules: &[RuleText]) -> Result<Items<Text>, AllocError>
-    ensures { IfOk result (λ names. names ≡ map (λ r. r.name) rules.now) }
+fn note_rules(alloc: Global, names: &mut Items<Text>, rules: &[RuleText]) -> Result<(), AllocError>
+    ensures { OnOk result (names.new ≡ names.old ++ map (λ r. r.name) rules.now) }
 {
-    let mut names = Items::new(alloc);
     for rule in rules {
-        names.push(Text::copy(alloc, rule.name.bytes())?)?;
+        note(alloc, names, &rule.name)?;
     }
-    Ok(names)
+    Ok(())
 }
 
 /// The names of the properties and the rules.
-fn properties(alloc: Global, text: &SetText) -> Result<Items<Text>, AllocError>
-    ensures { IfOk result (λ names. names ≡ property_names text.now) }
+fn note_properties(alloc: Global, names: &mut Items<Text>, text: &SetText) -> Result<(), AllocError>
+    ensures { OnOk result (names.new ≡ names.old ++ property_names text.now) }
 {
-    let mut names = Items::new(alloc);
-    names.push(Text::copy(alloc, text.first.name.bytes())?)?;
-    names.append(operations(alloc, text.operations.as_slice())?)?;
-    names.append(rules(alloc, text.rules.as_slice())?)?;
-    Ok(names)
+    note(alloc, names, &text.first.name)?;
+    note_operations(alloc, names, text.operations.as_slice())?;
+    note_rules(alloc, names, text.rules.as_slice())
 }
 
 fn owned(alloc: Global, name: Option<&Text>) -> Result<Option<Text>, AllocError>
@@ -98,14 +109,16 @@ fn owned(alloc: Global, name: Option<&Text>) -> Result<Option<Text>, AllocError>
 fn signal_twice(alloc: Global, text: &SetText) -> Result<Option<Text>, AllocError>
     ensures { IfOk result (λ o. o ≡ first_twice (signal_names text.now)) }
 {
-    let names = signals(alloc, text.declarations.as_slice())?;
+    let mut names = Items::new(alloc);
+    note_signals(alloc, &mut names, text.declarations.as_slice())?;
     owned(alloc, twice_in(names.as_slice()))
 }
 
 fn property_twice(alloc: Global, text: &SetText) -> Result<Option<Text>, AllocError>
     ensures { IfOk result (λ o. o ≡ first_twice (property_names text.now)) }
 {
-    let names = properties(alloc, text)?;
+    let mut names = Items::new(alloc);
+    note_properties(alloc, &mut names, text)?;
     owned(alloc, twice_in(names.as_slice()))
 }
 

@@ -8,6 +8,7 @@ use Rattle.vlog_lex.specs.declared.piece.Piece.{Piece}
 use Rattle.vlog_lex.specs.declared.piece.Piece.TheVariants as piece
 use Rattle.vlog_lex.specs.Pieces.{plain_at, seen, piece_at}
 use Rattle.vlog_lex.specs.Tokens.{Lexes, HasFault}
+use Rattle.vlog_lex.specs.Tokens.{NamesByte as LexNamesByte}
 use Rattle.set_tree.specs.declared.set.Set.{Set}
 use Rattle.set_tree.specs.declared.text.SetText.{SetText}
 use Rattle.set_tree.specs.Spelling.{SpellsSet}
@@ -21,7 +22,7 @@ use Rattle.set_read.specs.declared.fault.SetFault.{SetFault}
 use Rattle.set_read.specs.declared.fault.SetFault.TheVariants as f
 use Rattle.set_read.specs.declared.fault.TextFault.{TextFault}
 use Rattle.set_read.specs.declared.fault.TextFault.TheVariants as text
-use Rattle.set_read.specs.Read.{of_tokens, of_text, of_wrong, Refuses, RefusesTokens, Spells, SpellsTokens}
+use Rattle.set_read.specs.Read.{of_tokens, of_text, of_wrong, NamesByte, Refuses, RefusesTokens, Spells, SpellsTokens}
 
 -- what the language leaves out is a token of a set, and no fault
 seen_outside : (p : Piece) (j : ℕ) → seen true p ≡ piece.Outside j → ⊥
@@ -42,6 +43,20 @@ lex_refuses bs (lex.Outside at) h = absurd (no_outside bs at h.0 h.1.is)
 lex_refuses bs (lex.Syntax at) h = absurd h
 lex_refuses bs lex.Deep h = absurd h
 lex_refuses bs lex.Memory h = tt
+
+pub lex_names : (size : ℕ) (fault : ReadFault) → LexNamesByte size fault → NamesByte size (of_tokens fault)
+lex_names size (lex.Bytes at) h = h
+lex_names size (lex.Number at) h = h
+lex_names size (lex.Outside at) h = h
+lex_names size (lex.Syntax at) h = h
+lex_names size lex.Deep h = tt
+lex_names size lex.Memory h = tt
+
+pub wrong_names : (size : ℕ) (w : Wrong) → NamesByte size (of_wrong w)
+wrong_names size (wrong.Unknown n) = tt
+wrong_names size (wrong.Twice n) = tt
+wrong_names size (wrong.Limit quantity) = tt
+wrong_names size wrong.Memory = tt
 
 pub wrong_refuses : (ts : List Token) (t : SetText) → SpellsSet ts t → set_height t ≤ 500 → (w : Wrong) → Stands t w → RefusesTokens ts (of_wrong w)
 wrong_refuses ts t s l (wrong.Unknown n) h = (t, s, l, h)

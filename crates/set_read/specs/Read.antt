@@ -68,6 +68,17 @@ Refuses bytes (f.Twice n) = LexesAnd (λ ts. RefusesTokens ts (f.Twice n)) bytes
 Refuses bytes (f.Limit quantity) = LexesAnd (λ ts. RefusesTokens ts (f.Limit quantity)) bytes
 Refuses bytes f.Memory = Unit {0}
 
+-- the byte that a refusal names lies within a text of so many bytes, or is its end
+abbrev pub NamesByte : ℕ → SetFault → Type 0
+NamesByte size (f.Bytes at) = at ≤ size
+NamesByte size (f.Number at) = at ≤ size
+NamesByte size (f.Syntax at) = at ≤ size
+NamesByte size (f.Unknown n) = Unit {0}
+NamesByte size (f.Twice n) = Unit {0}
+NamesByte size (f.Limit quantity) = Unit {0}
+NamesByte size f.Deep = Unit {0}
+NamesByte size f.Memory = Unit {0}
+
 -- the refusals of the layers below, by their causes
 abbrev pub of_tokens : ReadFault → SetFault
 of_tokens (lex.Bytes at) = f.Bytes at

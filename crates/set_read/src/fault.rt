@@ -1,12 +1,15 @@
-ghost use Rattle.std.specs.Prelude.{◌≡◌};
-ghost use Rattle.set_read.specs.Read.{of_tokens, of_text, of_wrong};
+ghost use Rattle.std.specs.Prelude.{◌≡◌, ℕ, List};
+ghost use Rattle.vlog_tree.specs.declared.token.Token.{Token};
+ghost use Rattle.vlog_lex.specs.Tokens.{LieWithin};
+ghost use Rattle.set_read.specs.Read.{of_tokens, of_text, of_wrong, NamesByte, RefusesTokens};
 ghost use Rattle.set_read.specs.declared.fault.SetFault.TheVariants.{Memory};
 ghost use Rattle.set_read.specs.declared.fault.TextFault.TheVariants as text;
 
 use outside::Text;
 use set_lookup::{Quantity, Wrong};
 use std::alloc::{AllocError, AllocFailed};
-use vlog_lex::ReadFault;
+use vlog_lex::{ReadFault, byte_of};
+use vlog_tree::Token;
 
 /// Why a text is refused. The numbers are places of bytes.
 #[derive(Drop)]
@@ -46,12 +49,21 @@ impl<T: Drop> From<AllocFailed<T>> for SetFault {
     }
 }
 
-/// Why tokens spell no set. The number is the place of a byte.
+/// Why tokens spell no set. The number is the place of a token.
 #[derive(Clone, Copy, PartialEq, Eq)]
 pub enum TextFault {
     Syntax(usize),
     Deep,
     Memory,
+}
+
+impl TextFault {
+    /// The fault itself; what its reader had read so far is dropped by this call: dropped in place, it would be proved anew at each exit.
+    pub fn dropping<T: Drop>(self, _read: T) -> TextFault
+        ensures { result ≡ self }
+    {
+        self
+    }
 }
 
 impl From<AllocError> for TextFault {
@@ -95,12 +107,13 @@ pub fn of_wrong(wrong: Wrong) -> SetFault
     }
 }
 
-/// The refusal of tokens that spell no set.
-pub fn of_text(fault: TextFault) -> SetFault
-    ensures { result ≡ of_text fault }
+/// The refusal of tokens that spell no set, with the place of a byte.
+pub fn of_text(tokens: &[Token], fault: TextFault) -> SetFault
+    ensures refused { (ts : List Token) → RefusesTokens ts (of_text fault) → RefusesTokens ts result }
+    ensures within { (size : ℕ) → LieWithin size tokens.now → NamesByte size result }
 {
     match fault {
-        TextFault::Syntax(at) => SetFault::Syntax(at),
+        TextFault::Syntax(at) => SetFault::Syntax(byte_of(tokens, at)),
         TextFault::Deep => SetFault::Deep,
         TextFault::Memory => SetFault::Memory,
     }

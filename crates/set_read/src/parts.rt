@@ -25,7 +25,7 @@ ghost use Rattle.set_tree.specs.Spelling.{
 };
 
 use crate::fault::TextFault;
-use crate::tokens::{digits, formula, formulas, name, path, sign, syntax, word};
+use crate::tokens::{digits, formula, formulas, name, path, sign, word};
 use set_tree::{
     Bits, CoverText, Declaration, EndText, LengthText, Role, Rows, RuleKind, RuleText, Until,
 };
@@ -144,13 +144,16 @@ fn declaration(
     ensures long { IfErr result (IsLong tokens.now at) }
 {
     if at >= tokens.len() {
-        return Err(syntax(tokens, at));
+        return Err(TextFault::Syntax(at));
     }
     let (signed, end) = signed(tokens, at + 1);
     let (bits, end) = maybe_bits(tokens, end)?;
     let (name, end) = path(alloc, tokens, end)?;
     let (domain, end) = domain(alloc, tokens, end, role)?;
-    let end = sign(tokens, end, b";")?;
+    let end = match sign(tokens, end, b";") {
+        Ok(end) => end,
+        Err(fault) => return Err(fault.dropping((name, domain))),
+    };
     Ok((
         Declaration {
             role,
@@ -213,12 +216,15 @@ fn rule(
     ensures long { IfErr result (IsLong tokens.now at) }
 {
     if at >= tokens.len() {
-        return Err(syntax(tokens, at));
+        return Err(TextFault::Syntax(at));
     }
     let (name, end) = name(alloc, tokens, at + 1)?;
     let end = sign(tokens, end, b":")?;
     let (formula, end) = formula(alloc, tokens, end)?;
-    let end = sign(tokens, end, b";")?;
+    let end = match sign(tokens, end, b";") {
+        Ok(end) => end,
+        Err(fault) => return Err(fault.dropping((name, formula))),
+    };
     Ok((
         RuleText {
             kind,
@@ -296,7 +302,10 @@ pub fn length(alloc: Global, tokens: &[Token], at: usize) -> Result<(LengthText,
     let end = word(tokens, at, b"length")?;
     let (low, end) = digits(tokens, end)?;
     let (until, end) = maybe_until(alloc, tokens, end)?;
-    let end = sign(tokens, end, b";")?;
+    let end = match sign(tokens, end, b";") {
+        Ok(end) => end,
+        Err(fault) => return Err(fault.dropping(until)),
+    };
     Ok((LengthText { low, until }, end))
 }
 
@@ -341,7 +350,10 @@ fn clause(
 {
     let end = word(tokens, at, keyword)?;
     let (tree, end) = formula(alloc, tokens, end)?;
-    let end = sign(tokens, end, b";")?;
+    let end = match sign(tokens, end, b";") {
+        Ok(end) => end,
+        Err(fault) => return Err(fault.dropping(tree)),
+    };
     Ok((tree, end))
 }
 
@@ -379,7 +391,10 @@ pub fn hand(alloc: Global, tokens: &[Token], at: usize) -> Result<(Items<Expr>, 
 {
     if is_word(tokens, at, b"hand") {
         let (list, end) = formulas(alloc, tokens, after(tokens, at))?;
-        let end = sign(tokens, end, b";")?;
+        let end = match sign(tokens, end, b";") {
+            Ok(end) => end,
+            Err(fault) => return Err(fault.dropping(list)),
+        };
         Ok((list, end))
     } else {
         Ok((Items::new(alloc), at))

@@ -10,7 +10,7 @@ ghost use Rattle.set_tree.specs.Spelling.{SpellsConditions, SpellsHead, SpellsNa
 
 use crate::fault::TextFault;
 use crate::parts::{clauses, covers, declarations, hand, length, rules, window};
-use crate::tokens::{digits, name, names, sign, syntax, word};
+use crate::tokens::{digits, name, names, sign, word};
 use outside::Text;
 use set_tree::{CoverText, LengthText, PropertyText, Rows, SetText};
 use sqlite_items::Items;
@@ -35,7 +35,10 @@ fn read_tail(alloc: Global, tokens: &[Token], at: usize) -> Result<(Tail, usize)
     ensures long { IfErr result (IsLong tokens.now at) }
 {
     let (hand, end) = hand(alloc, tokens, at)?;
-    let (covers, end) = covers(alloc, tokens, end)?;
+    let (covers, end) = match covers(alloc, tokens, end) {
+        Ok(read) => read,
+        Err(fault) => return Err(fault.dropping(hand)),
+    };
     let end = word(tokens, end, b"next")?;
     let (next, end) = names(alloc, tokens, end)?;
     let end = sign(tokens, end, b";")?;
@@ -67,9 +70,18 @@ fn read_conditions(
     ensures long { IfErr result (IsLong tokens.now at) }
 {
     let (length, end) = length(alloc, tokens, at)?;
-    let (window, end) = window(tokens, end)?;
-    let (assume, end) = clauses(alloc, tokens, end, b"assume")?;
-    let (commit, end) = clauses(alloc, tokens, end, b"commit")?;
+    let (window, end) = match window(tokens, end) {
+        Ok(read) => read,
+        Err(fault) => return Err(fault.dropping(length)),
+    };
+    let (assume, end) = match clauses(alloc, tokens, end, b"assume") {
+        Ok(read) => read,
+        Err(fault) => return Err(fault.dropping(length)),
+    };
+    let (commit, end) = match clauses(alloc, tokens, end, b"commit") {
+        Ok(read) => read,
+        Err(fault) => return Err(fault.dropping((length, assume))),
+    };
     Ok((
         Conditions {
             length,
@@ -97,7 +109,10 @@ fn property(
 {
     let end = sign(tokens, at, b"{")?;
     let (conditions, end) = read_conditions(alloc, tokens, end)?;
-    let (tail, end) = read_tail(alloc, tokens, end)?;
+    let (tail, end) = match read_tail(alloc, tokens, end) {
+        Ok(read) => read,
+        Err(fault) => return Err(fault.dropping((name, conditions))),
+    };
     Ok((
         PropertyText {
             name,
@@ -142,10 +157,10 @@ fn reset_property(
     let name = Text::copy(alloc, b"reset")?;
     let (first, end) = property(alloc, tokens, end, name)?;
     if first.length.until.is_some() {
-        return Err(syntax(tokens, at));
+        return Err(TextFault::Syntax(at).dropping(first));
     }
     if !first.assume.is_empty() {
-        return Err(syntax(tokens, at));
+        return Err(TextFault::Syntax(at).dropping(first));
     }
     Ok((first, end))
 }
@@ -272,11 +287,20 @@ pub fn set_text(alloc: Global, tokens: &[Token]) -> Result<SetText, TextFault>
 {
     let (head, end) = read_head(alloc, tokens)?;
     let (declarations, end) = declarations(alloc, tokens, end)?;
-    let (rules, end) = rules(alloc, tokens, end)?;
-    let (first, end) = reset_property(alloc, tokens, end)?;
-    let (operations, end) = operations(alloc, tokens, end)?;
+    let (rules, end) = match rules(alloc, tokens, end) {
+        Ok(read) => read,
+        Err(fault) => return Err(fault.dropping((head, declarations))),
+    };
+    let (first, end) = match reset_property(alloc, tokens, end) {
+        Ok(read) => read,
+        Err(fault) => return Err(fault.dropping((head, declarations, rules))),
+    };
+    let (operations, end) = match operations(alloc, tokens, end) {
+        Ok(read) => read,
+        Err(fault) => return Err(fault.dropping((head, declarations, rules, first))),
+    };
     if end != tokens.len() {
-        return Err(syntax(tokens, end));
+        return Err(TextFault::Syntax(end).dropping((head, declarations, rules, first, operations)));
     }
     Ok(SetText {
         block: head.block,

@@ -1,9 +1,10 @@
 // The reader of a set.
-ghost use Rattle.std.specs.Prelude.{◌≤◌, IfOk, IfErr};
+ghost use Rattle.std.specs.Prelude.{ℕ, ◌≤◌, IfOk, IfErr, length};
+ghost use Rattle.vlog_lex.specs.Tokens.{LieWithin};
 ghost use Rattle.set_tree.specs.Spelling.{SpellsSet};
 ghost use Rattle.set_sound.specs.Condition.{IsWellFormed};
 ghost use Rattle.set_read.specs.Heights.{set_height};
-ghost use Rattle.set_read.specs.Read.{Spells, SpellsTokens, HasSmallDigits, Refuses, RefusesTokens};
+ghost use Rattle.set_read.specs.Read.{Spells, SpellsTokens, HasSmallDigits, NamesByte, Refuses, RefusesTokens};
 
 use crate::fault::{SetFault, of_text, of_tokens, of_wrong};
 use crate::property::set_text;
@@ -20,6 +21,7 @@ fn looked(alloc: Global, tokens: &[Token], text: SetText) -> Result<Set, SetFaul
     requires low { set_height text ≤ 500 }
     ensures ok { IfOk result (SpellsTokens tokens.now) }
     ensures err { IfErr result (RefusesTokens tokens.now) }
+    ensures within { (size : ℕ) → IfErr result (NamesByte size) }
 {
     match look_up(alloc, text) {
         Ok(set) => Ok(set),
@@ -32,10 +34,11 @@ fn of_list(alloc: Global, tokens: &[Token]) -> Result<Set, SetFault>
     requires { HasSmallDigits tokens.now }
     ensures ok { IfOk result (SpellsTokens tokens.now) }
     ensures err { IfErr result (RefusesTokens tokens.now) }
+    ensures within { (size : ℕ) → LieWithin size tokens.now → IfErr result (NamesByte size) }
 {
     match set_text(alloc, tokens) {
         Ok(text) => looked(alloc, tokens, text),
-        Err(fault) => Err(of_text(fault)),
+        Err(fault) => Err(of_text(tokens, fault)),
     }
 }
 
@@ -47,6 +50,7 @@ pub fn read_set(alloc: Global, bytes: &[u8]) -> Result<Set, SetFault>
     ensures ok { IfOk result (Spells bytes.now) }
     ensures formed { IfOk result IsWellFormed }
     ensures err { IfErr result (Refuses bytes.now) }
+    ensures within { IfErr result (NamesByte (length bytes.now)) }
 {
     match read_tokens(alloc, bytes, true) {
         Ok(tokens) => of_list(alloc, &tokens),

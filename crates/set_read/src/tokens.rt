@@ -14,21 +14,8 @@ use vlog_lex::ReadFault;
 use vlog_read_expr::{after, identifier, is_sign, is_word, kind_at, read_path, read_tree};
 use vlog_tree::{Expr, Kind, Token};
 
-/// The refusal at a token, which names the byte where it begins, or the one where the tokens end.
-pub fn syntax(tokens: &[Token], at: usize) -> TextFault
-    ensures { IsSyntax result }
-{
-    match tokens.get(at) {
-        Some(token) => TextFault::Syntax(token.at),
-        None => match tokens.last() {
-            Some(token) => TextFault::Syntax(token.end),
-            None => TextFault::Syntax(0),
-        },
-    }
-}
-
-/// The refusal of the reader of expressions, which counts tokens.
-fn of_reader(tokens: &[Token], fault: ReadFault) -> TextFault
+/// The refusal of the reader of expressions.
+fn of_reader(fault: ReadFault) -> TextFault
     ensures { IsOf fault result }
 {
     match fault {
@@ -37,7 +24,7 @@ fn of_reader(tokens: &[Token], fault: ReadFault) -> TextFault
         ReadFault::Syntax(at)
         | ReadFault::Bytes(at)
         | ReadFault::Number(at)
-        | ReadFault::Outside(at) => syntax(tokens, at),
+        | ReadFault::Outside(at) => TextFault::Syntax(at),
     }
 }
 
@@ -50,7 +37,7 @@ pub fn word(tokens: &[Token], at: usize, text: &[u8]) -> Result<usize, TextFault
     if is_word(tokens, at, text) {
         Ok(after(tokens, at))
     } else {
-        Err(syntax(tokens, at))
+        Err(TextFault::Syntax(at))
     }
 }
 
@@ -63,7 +50,7 @@ pub fn sign(tokens: &[Token], at: usize, text: &[u8]) -> Result<usize, TextFault
     if is_sign(tokens, at, text) {
         Ok(after(tokens, at))
     } else {
-        Err(syntax(tokens, at))
+        Err(TextFault::Syntax(at))
     }
 }
 
@@ -75,7 +62,7 @@ pub fn digits(tokens: &[Token], at: usize) -> Result<(u64, usize), TextFault>
 {
     match kind_at(tokens, at) {
         Some(Kind::Number(number)) if number.plain => Ok((number.value, at + 1)),
-        _ => Err(syntax(tokens, at)),
+        _ => Err(TextFault::Syntax(at)),
     }
 }
 
@@ -87,7 +74,7 @@ pub fn name(alloc: Global, tokens: &[Token], at: usize) -> Result<(Text, usize),
 {
     match identifier(alloc, true, tokens, at) {
         Ok(text) => Ok((text, at + 1)),
-        Err(fault) => Err(of_reader(tokens, fault)),
+        Err(fault) => Err(of_reader(fault)),
     }
 }
 
@@ -100,7 +87,7 @@ pub fn path(alloc: Global, tokens: &[Token], at: usize) -> Result<(Text, usize),
 {
     match read_path(alloc, tokens, at) {
         Ok(read) => Ok((read.text, read.end)),
-        Err(fault) => Err(of_reader(tokens, fault)),
+        Err(fault) => Err(of_reader(fault)),
     }
 }
 
@@ -117,7 +104,7 @@ pub fn formula(alloc: Global, tokens: &[Token], at: usize) -> Result<(Expr, usiz
 {
     match read_tree(alloc, true, tokens, at, FORMULA_HEIGHT) {
         Ok(read) => Ok((read.tree, read.end)),
-        Err(fault) => Err(of_reader(tokens, fault)),
+        Err(fault) => Err(of_reader(fault)),
     }
 }
 

@@ -1,12 +1,13 @@
 -- Pieces one behind the other: one more at the end, and that there is one reading alone.
 use Rattle.std.proofs.Common.{◌≡◌, ℕ, ◌<◌, ◌≤◌, Bool, List, [], ◌∷◌, ◌++◌, length, refl, subst, sym, ◌∙◌, arith}
 use Rattle.std.specs.Prelude.{Option, Some, None, IfSome}
+use Rattle.std.proofs.lemmas.List.Elements.{All-push}
 use Rattle.vlog_tree.specs.declared.token.Token.{Token}
 use Rattle.vlog_tree.specs.declared.token.Kind.{Kind}
 use Rattle.vlog_lex.specs.declared.piece.Piece.{Piece}
 use Rattle.vlog_lex.specs.declared.piece.Piece.TheVariants as piece
 use Rattle.vlog_lex.specs.Pieces.{piece_at, IsWithin, gap_to}
-use Rattle.vlog_lex.specs.Tokens.{Pieces}
+use Rattle.vlog_lex.specs.Tokens.{Pieces, LiesWithin, LieWithin}
 use Rattle.vlog_lex.specs.Tokens.Pieces.{none, gap, token}
 
 pub more_gap : (set : Bool) (bs : List ℕ) (i j m : ℕ) (ts : List Token) → Pieces set bs i ts j → j < length bs → piece_at set bs j ≡ piece.Gap m → Pieces set bs i ts m
@@ -19,6 +20,9 @@ pub more_token : (set : Bool) (bs : List ℕ) (i j : ℕ) (ts : List Token) (t :
 more_token set bs i j ts t none lt at e = token t lt at e none
 more_token set bs i j ts t (gap l p rest) lt at e = gap l p (more_token set bs _ j ts t rest lt at e)
 more_token set bs i j ts t (token u l ua p rest) lt at e = token u l ua p (more_token set bs _ j _ t rest lt at e)
+
+pub placed_more : (n : ℕ) (ts : List Token) (t : Token) → LieWithin n ts → t.at ≤ n → t.end ≤ n → LieWithin n (ts ++ t ∷ [])
+placed_more n ts t placed at end = All-push (LiesWithin n) ts t placed (at, end)
 
 -- a comment ends behind its beginning
 pub gap_within : (i from n : ℕ) (o : Option ℕ) → i < from → IfSome o (λ j. (from < j) × (j ≤ n)) → IsWithin i n (gap_to o)

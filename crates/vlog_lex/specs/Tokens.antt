@@ -1,5 +1,6 @@
 -- The tokens that a text spells, and its first fault.
-use Rattle.std.specs.Prelude.{ℕ, ◌<◌, ◌≡◌, Bool, List, [], ◌∷◌, length}
+use Rattle.std.specs.Prelude.{ℕ, ◌<◌, ◌≤◌, ◌≡◌, Bool, List, [], ◌∷◌, length}
+use Rattle.std.specs.List.{All}
 use Rattle.vlog_tree.specs.declared.token.Token.{Token}
 use Rattle.vlog_lex.specs.declared.error.ReadFault.{ReadFault}
 use Rattle.vlog_lex.specs.declared.error.ReadFault.TheVariants as fault
@@ -33,3 +34,19 @@ HasFault set bs (fault.Outside at) = (j : ℕ) × StopsAt set bs at (piece.Outsi
 HasFault set bs (fault.Syntax at) = ⊥
 HasFault set bs fault.Deep = ⊥
 HasFault set bs fault.Memory = Unit {0}
+
+-- tokens begin and end within a text of so many bytes
+abbrev pub LiesWithin : ℕ → Token → Type 0
+LiesWithin size t = (t.at ≤ size) × (t.end ≤ size)
+
+abbrev pub LieWithin : ℕ → List Token → Type 0
+LieWithin size ts = All (LiesWithin size) ts
+
+-- the byte that a refusal names lies within a text of so many bytes, or is its end
+abbrev pub NamesByte : ℕ → ReadFault → Type 0
+NamesByte size (fault.Bytes at) = at ≤ size
+NamesByte size (fault.Number at) = at ≤ size
+NamesByte size (fault.Outside at) = at ≤ size
+NamesByte size (fault.Syntax at) = at ≤ size
+NamesByte size fault.Deep = Unit {0}
+NamesByte size fault.Memory = Unit {0}

@@ -14,6 +14,15 @@ pub enum ReadFault {
     Memory,
 }
 
+impl ReadFault {
+    /// The fault itself; what its reader had read so far is dropped by this call: dropped in place, it would be proved anew at each exit.
+    pub fn dropping<T: Drop>(self, _read: T) -> ReadFault
+        ensures { result ≡ self }
+    {
+        self
+    }
+}
+
 impl From<AllocError> for ReadFault {
     ghost from_gives = { λ _ fault. fault ≡ Memory };
 

@@ -1,7 +1,7 @@
 -- A text is refused for its tokens, or for what they spell.
-use Rattle.std.proofs.Common.{ℕ, List, false}
+use Rattle.std.proofs.Common.{ℕ, ◌≡◌, List, false, refl}
 use Rattle.vlog_tree.specs.declared.token.Token.{Token}
-use Rattle.vlog_lex.specs.Tokens.{Lexes, HasFault}
+use Rattle.vlog_lex.specs.Tokens.{Lexes, HasFault, NamesByte}
 use Rattle.vlog_lex.specs.declared.error.ReadFault.{ReadFault}
 use Rattle.vlog_lex.specs.declared.error.ReadFault.TheVariants as f
 use Rattle.vlog_read.specs.Texts.{RefusesTokens, RefusesText}
@@ -21,3 +21,12 @@ module_faults bytes ts spelt f.Memory u = tt
 module_faults bytes ts spelt (f.Bytes at) u = absurd u
 module_faults bytes ts spelt (f.Number at) u = absurd u
 module_faults bytes ts spelt (f.Outside at) u = absurd u
+
+-- a fault that names no token
+pub others_name : (ts : List Token) (size : ℕ) (fault : ReadFault) → ((at : ℕ) → fault ≡ f.Syntax at → ⊥) → RefusesTokens ts fault → NamesByte size fault
+others_name ts size (f.Syntax at) other u = absurd (other at refl)
+others_name ts size f.Deep other u = tt
+others_name ts size f.Memory other u = tt
+others_name ts size (f.Bytes at) other u = absurd u
+others_name ts size (f.Number at) other u = absurd u
+others_name ts size (f.Outside at) other u = absurd u

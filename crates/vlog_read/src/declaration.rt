@@ -29,7 +29,10 @@ pub fn read_declared<T: Part>(
     ensures { Finds tokens.now (declared_height T.height) (SpellsDeclared tokens.now (T.spells tokens.now)) (ReadsDeclared tokens.now (T.spells tokens.now)) at depth result }
 {
     let shape = read_shape(alloc, tokens, at, depth)?;
-    let items = up_to_end::<T>(alloc, tokens, shape.end, depth)?;
+    let items = match up_to_end::<T>(alloc, tokens, shape.end, depth) {
+        Ok(items) => items,
+        Err(fault) => return Err(fault.dropping(shape)),
+    };
     Ok(Found {
         tree: Declared {
             shape: shape.tree,

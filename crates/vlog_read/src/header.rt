@@ -53,7 +53,10 @@ fn port_group(
 {
     let kind = port_kind(tokens, at)?;
     let shape = read_shape(alloc, tokens, kind.end, depth)?;
-    let name = identifier(alloc, false, tokens, shape.end)?;
+    let name = match identifier(alloc, false, tokens, shape.end) {
+        Ok(name) => name,
+        Err(fault) => return Err(fault.dropping(shape)),
+    };
     Ok(Found {
         tree: HeaderPort::Group(kind.tree, shape.tree, name),
         height: shape.height,
@@ -81,7 +84,10 @@ impl Part for HeaderParameter {
             });
         }
         let shape = read_shape(alloc, tokens, after(tokens, at), depth)?;
-        let value = Parameter::read(alloc, tokens, shape.end, depth)?;
+        let value = match Parameter::read(alloc, tokens, shape.end, depth) {
+            Ok(value) => value,
+            Err(fault) => return Err(fault.dropping(shape)),
+        };
         Ok(Found {
             tree: HeaderParameter::Group(shape.tree, value.tree),
             height: shape.height.max(value.height),

@@ -36,7 +36,7 @@ fn connected(
     }
     let value = read_tree(alloc, false, tokens, open, depth)?;
     if !is_sign(tokens, value.end, b")") {
-        return Err(ReadFault::Syntax(value.end));
+        return Err(ReadFault::Syntax(value.end).dropping(value));
     }
     Ok(Found {
         tree: Some(value.tree),

@@ -183,7 +183,10 @@ fn always(
         return Err(ReadFault::Syntax(sign));
     }
     let events = read_events(alloc, tokens, after(tokens, sign), depth - 1)?;
-    let body = read_stmt(alloc, tokens, events.end, depth - 1)?;
+    let body = match read_stmt(alloc, tokens, events.end, depth - 1) {
+        Ok(body) => body,
+        Err(fault) => return Err(fault.dropping(events)),
+    };
     Ok(Found {
         tree: Item::Always(events.tree, body.tree),
         height: body.height + 1,
@@ -204,7 +207,10 @@ fn instances(
 {
     let name = identifier(alloc, false, tokens, at)?;
     let overrides = overrides(alloc, tokens, after(tokens, at), depth - 1)?;
-    let list = up_to_end::<Instance>(alloc, tokens, overrides.end, depth - 1)?;
+    let list = match up_to_end::<Instance>(alloc, tokens, overrides.end, depth - 1) {
+        Ok(list) => list,
+        Err(fault) => return Err(fault.dropping((name, overrides))),
+    };
     Ok(Found {
         tree: Item::Instances(name, overrides.tree, list.tree),
         height: overrides.height.max(list.height) + 1,

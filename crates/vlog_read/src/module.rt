@@ -41,9 +41,12 @@ fn read_head(
     let place = after(tokens, at);
     let name = identifier(alloc, false, tokens, place)?;
     let parameters = header_parameters(alloc, tokens, after(tokens, place), depth)?;
-    let ports = header_ports(alloc, tokens, parameters.end, depth)?;
+    let ports = match header_ports(alloc, tokens, parameters.end, depth) {
+        Ok(ports) => ports,
+        Err(fault) => return Err(fault.dropping((name, parameters))),
+    };
     if !is_sign(tokens, ports.end, b";") {
-        return Err(ReadFault::Syntax(ports.end));
+        return Err(ReadFault::Syntax(ports.end).dropping((name, parameters, ports)));
     }
     Ok(Found {
         tree: Head {

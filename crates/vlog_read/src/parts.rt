@@ -88,11 +88,14 @@ fn read_range(
 {
     let high = read_tree(alloc, false, tokens, after(tokens, at), depth)?;
     if !is_sign(tokens, high.end, b":") {
-        return Err(ReadFault::Syntax(high.end));
+        return Err(ReadFault::Syntax(high.end).dropping(high));
     }
-    let low = read_tree(alloc, false, tokens, after(tokens, high.end), depth)?;
+    let low = match read_tree(alloc, false, tokens, after(tokens, high.end), depth) {
+        Ok(low) => low,
+        Err(fault) => return Err(fault.dropping(high)),
+    };
     if !is_sign(tokens, low.end, b"]") {
-        return Err(ReadFault::Syntax(low.end));
+        return Err(ReadFault::Syntax(low.end).dropping((high, low)));
     }
     let height = high.height.max(low.height);
     Ok(Found {
@@ -292,7 +295,10 @@ impl Part for Assign {
         depth: usize,
     ) -> Result<Found<Assign>, ReadFault> {
         let left = read_lval(alloc, tokens, at, depth)?;
-        let right = read_value(alloc, tokens, left.end, depth)?;
+        let right = match read_value(alloc, tokens, left.end, depth) {
+            Ok(right) => right,
+            Err(fault) => return Err(fault.dropping(left)),
+        };
         Ok(Found {
             tree: Assign {
                 left: left.tree,

@@ -1,28 +1,19 @@
 //! Reads the modules of a text from its bytes.
-ghost use Rattle.std.specs.Prelude.{◌≤◌, IfOk, IfErr, List};
+ghost use Rattle.std.specs.Prelude.{ℕ, ◌≤◌, IfOk, IfErr, List, length};
 ghost use Rattle.vlog_tree.specs.declared.token.Token.{Token};
 ghost use Rattle.vlog_tree.specs.Modules.{SpellsFile, file_height};
+ghost use Rattle.vlog_lex.specs.Tokens.{LieWithin, NamesByte};
 ghost use Rattle.vlog_read.specs.Texts.{SpellsModules, RefusesTokens, RefusesText};
 
 use crate::module::read_module_list;
 use std::alloc::Global;
-use vlog_lex::{ReadFault, read_tokens};
+use vlog_lex::{ReadFault, byte_of, read_tokens};
 use vlog_tree::{Module, Token};
-
-/// The byte at which a token begins; past the last token the byte at which that one ends, and 0 where there is no token.
-fn byte_of(tokens: &[Token], at: usize) -> usize {
-    match tokens.get(at) {
-        Some(token) => token.at,
-        None => match tokens.last() {
-            Some(token) => token.end,
-            None => 0,
-        },
-    }
-}
 
 /// A fault with the place of a byte, of one with the place of a token.
 fn by_bytes(tokens: &[Token], fault: ReadFault) -> ReadFault
-    ensures { (ts : List Token) → RefusesTokens ts fault → RefusesTokens ts result }
+    ensures refused { (ts : List Token) → RefusesTokens ts fault → RefusesTokens ts result }
+    ensures within { (ts : List Token) (size : ℕ) → RefusesTokens ts fault → LieWithin size tokens.now → NamesByte size result }
 {
     match fault {
         ReadFault::Syntax(at) => ReadFault::Syntax(byte_of(tokens, at)),
@@ -35,6 +26,7 @@ fn modules_of(alloc: Global, tokens: &[Token]) -> Result<Vec<Module>, ReadFault>
     ensures ok { IfOk result (λ list. SpellsFile tokens.now list.items) }
     ensures low { IfOk result (λ list. file_height list.items ≤ 500) }
     ensures err { IfErr result (λ fault. RefusesTokens tokens.now fault) }
+    ensures within { (size : ℕ) → LieWithin size tokens.now → IfErr result (NamesByte size) }
 {
     match read_module_list(alloc, tokens) {
         Ok(list) => Ok(list),
@@ -50,6 +42,7 @@ pub fn read_modules(alloc: Global, bytes: &[u8]) -> Result<Vec<Module>, ReadFaul
     ensures ok { IfOk result (λ list. SpellsModules bytes.now list.items) }
     ensures low { IfOk result (λ list. file_height list.items ≤ 500) }
     ensures err { IfErr result (λ fault. RefusesText bytes.now fault) }
+    ensures within { IfErr result (NamesByte (length bytes.now)) }
 {
     let tokens = read_tokens(alloc, bytes, false)?;
     let list = modules_of(alloc, tokens.as_slice())?;

@@ -23,13 +23,12 @@ returns-in_err-domain-clause-only c =
     let p = err_from_is_err_and c.from_residual-in_err-domain.result c.from_residual-in_err-domain.ensures.1 in
     rw (p.1, p.2) (λ x j q g. let a = after_name c.args.tokens.now c.args.role _ _ c.in_ok-name.ensures.only x j (after_bits c.args.tokens.now c.args.role _ _ c.in_ok-bits.ensures.only x j (after_signed c.args.tokens.now c.args.role c.args.at c.requires _ c.signed-signed.ensures.only x j q)) in passes (498 < highest_of height x.domain) (499 < declaration_height x) (λ h. omega (arith, h)) _ (c.in_err-domain.ensures.only x.domain a.0 a.1 a.2))
 
-pub returns-in_err-end-clause-only : goal.returns-in_err-end-clause-only
-returns-in_err-end-clause-only c =
-    let p = err_from_is_err_and c.from_residual-in_err-end.result c.from_residual-in_err-end.ensures.1 in
-    rw (p.1, p.2) (λ x j q g. let a = after_domain c.args.tokens.now c.args.role _ _ c.in_ok-domain.ensures.only x j (after_name c.args.tokens.now c.args.role _ _ c.in_ok-name.ensures.only x j (after_bits c.args.tokens.now c.args.role _ _ c.in_ok-bits.ensures.only x j (after_signed c.args.tokens.now c.args.role c.args.at c.requires _ c.signed-signed.ensures.only x j q))) in absurd (c.in_err-end.ensures.none a.0))
+pub returns-in-Err-clause-only : goal.returns-in-Err-clause-only
+returns-in-Err-clause-only c =
+    rw c.dropping.ensures (λ x j q g. let a = after_domain c.args.tokens.now c.args.role _ _ c.in_ok-domain.ensures.only x j (after_name c.args.tokens.now c.args.role _ _ c.in_ok-name.ensures.only x j (after_bits c.args.tokens.now c.args.role _ _ c.in_ok-bits.ensures.only x j (after_signed c.args.tokens.now c.args.role c.args.at c.requires _ c.signed-signed.ensures.only x j q))) in absurd (c.in-Err.ensures.none a.0))
 
 pub returns-clause-only : goal.returns-clause-only
-returns-clause-only c = λ x j q g. let a = after_domain c.args.tokens.now c.args.role _ _ c.in_ok-domain.ensures.only x j (after_name c.args.tokens.now c.args.role _ _ c.in_ok-name.ensures.only x j (after_bits c.args.tokens.now c.args.role _ _ c.in_ok-bits.ensures.only x j (after_signed c.args.tokens.now c.args.role c.args.at c.requires _ c.signed-signed.ensures.only x j q))) in omega (arith, a.1, c.in_ok-end.ensures.ok.1)
+returns-clause-only c = λ x j q g. let a = after_domain c.args.tokens.now c.args.role _ _ c.in_ok-domain.ensures.only x j (after_name c.args.tokens.now c.args.role _ _ c.in_ok-name.ensures.only x j (after_bits c.args.tokens.now c.args.role _ _ c.in_ok-bits.ensures.only x j (after_signed c.args.tokens.now c.args.role c.args.at c.requires _ c.signed-signed.ensures.only x j q))) in omega (arith, a.1, c.in-Ok.ensures.ok.1)
 
 pub returns-then-at-tokens-clause-only : goal.returns-then-at-tokens-clause-only
 returns-then-at-tokens-clause-only c = λ x j q g. absurd (omega (arith, c.if-at-tokens.true, kind_within c.args.tokens.now c.args.at _ c.requires))

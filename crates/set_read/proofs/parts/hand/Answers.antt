@@ -12,13 +12,12 @@ returns-in_err-list-clause-only c =
     let p = err_from_is_err_and c.from_residual.result c.from_residual.ensures.1 in
     rw (p.1, p.2) (λ x j q g. let h = some_hand c.args.tokens.now c.args.at (yes_by _ c.is_word.ensures c.if-is_word.true) x j q g in (rw c.after.ensures at c.in_err-list.ensures.only) x h.0 h.2 h.3)
 
-pub returns-in_err-end-clause-only : goal.returns-in_err-end-clause-only
-returns-in_err-end-clause-only c =
-    let p = err_from_is_err_and c.from_residual-in_err-end.result c.from_residual-in_err-end.ensures.1 in
-    rw (p.1, p.2) (λ x j q g. let h = some_hand c.args.tokens.now c.args.at (yes_by _ c.is_word.ensures c.if-is_word.true) x j q g in let s = (rw c.after.ensures at c.in_ok-list.ensures.only) x h.0 h.2 h.3 in absurd (c.in_err-end.ensures.none (subst (λ z. IsSign c.args.tokens.now z (codes ";")) s h.3)))
+pub returns-in-Err-clause-only : goal.returns-in-Err-clause-only
+returns-in-Err-clause-only c =
+    rw c.dropping.ensures (λ x j q g. let h = some_hand c.args.tokens.now c.args.at (yes_by _ c.is_word.ensures c.if-is_word.true) x j q g in let s = (rw c.after.ensures at c.in_ok-list.ensures.only) x h.0 h.2 h.3 in absurd (c.in-Err.ensures.none (subst (λ z. IsSign c.args.tokens.now z (codes ";")) s h.3)))
 
-pub returns-in_ok-end-clause-only : goal.returns-in_ok-end-clause-only
-returns-in_ok-end-clause-only c = λ x j q g. let h = some_hand c.args.tokens.now c.args.at (yes_by _ c.is_word.ensures c.if-is_word.true) x j q g in let s = (rw c.after.ensures at c.in_ok-list.ensures.only) x h.0 h.2 h.3 in omega (arith, s, h.4, c.in_ok-end.ensures.ok.1)
+pub returns-in-Ok-clause-only : goal.returns-in-Ok-clause-only
+returns-in-Ok-clause-only c = λ x j q g. let h = some_hand c.args.tokens.now c.args.at (yes_by _ c.is_word.ensures c.if-is_word.true) x j q g in let s = (rw c.after.ensures at c.in_ok-list.ensures.only) x h.0 h.2 h.3 in omega (arith, s, h.4, c.in-Ok.ensures.ok.1)
 
 pub returns-else-is_word-clause-only : goal.returns-else-is_word-clause-only
 returns-else-is_word-clause-only c = λ x j q g. no_hand c.args.tokens.now c.args.at (no_by _ c.is_word.ensures c.if-is_word.false) x j q

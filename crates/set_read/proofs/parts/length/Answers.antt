@@ -19,10 +19,9 @@ returns-in_err-until-clause-only c =
     let p = err_from_is_err_and c.from_residual-in_err-until.result c.from_residual-in_err-until.ensures.1 in
     rw (p.1, p.2) (let e : c.in_ok-low.end ≡ c.args.at + 1 + 1 = omega (arith, c.in_ok-end.ensures.ok.1, c.in_ok-low.ensures.ok.1) in λ x j q g. (rw e at c.in_err-until.ensures.only) x.until q.0 q.2.1 q.3)
 
-pub returns-in_err-end-2-clause-only : goal.returns-in_err-end-2-clause-only
-returns-in_err-end-2-clause-only c =
-    let p = err_from_is_err_and c.from_residual-in_err-end-2.result c.from_residual-in_err-end-2.ensures.1 in
-    rw (p.1, p.2) (let e : c.in_ok-low.end ≡ c.args.at + 1 + 1 = omega (arith, c.in_ok-end.ensures.ok.1, c.in_ok-low.ensures.ok.1) in λ x j q g. let s = (rw e at c.in_ok-until.ensures.only) x.until q.0 q.2.1 q.3 in absurd (c.in_err-end-2.ensures.none (subst (λ z. IsSign c.args.tokens.now z (codes ";")) s q.3)))
+pub returns-in-Err-clause-only : goal.returns-in-Err-clause-only
+returns-in-Err-clause-only c =
+    rw c.dropping.ensures (let e : c.in_ok-low.end ≡ c.args.at + 1 + 1 = omega (arith, c.in_ok-end.ensures.ok.1, c.in_ok-low.ensures.ok.1) in λ x j q g. let s = (rw e at c.in_ok-until.ensures.only) x.until q.0 q.2.1 q.3 in absurd (c.in-Err.ensures.none (subst (λ z. IsSign c.args.tokens.now z (codes ";")) s q.3)))
 
 pub returns-clause-only : goal.returns-clause-only
-returns-clause-only c = let e : c.in_ok-low.end ≡ c.args.at + 1 + 1 = omega (arith, c.in_ok-end.ensures.ok.1, c.in_ok-low.ensures.ok.1) in λ x j q g. let s = (rw e at c.in_ok-until.ensures.only) x.until q.0 q.2.1 q.3 in omega (arith, s, q.4, c.in_ok-end-2.ensures.ok.1)
+returns-clause-only c = let e : c.in_ok-low.end ≡ c.args.at + 1 + 1 = omega (arith, c.in_ok-end.ensures.ok.1, c.in_ok-low.ensures.ok.1) in λ x j q g. let s = (rw e at c.in_ok-until.ensures.only) x.until q.0 q.2.1 q.3 in omega (arith, s, q.4, c.in-Ok.ensures.ok.1)

@@ -15,10 +15,10 @@ returns-in_err-first-clause-only c =
     rw (p.1, p.2) (λ x j q g. (rw c.in_ok-end.ensures.end at c.in_err-first.ensures.only) x j q.5 tt)
 
 pub returns-then-is_some-clause-only : goal.returns-then-is_some-clause-only
-returns-then-is_some-clause-only c = λ x j q g. absurd (until_apart c.args.tokens.now (c.args.at + 2) c.in_ok-first.first c.in_ok-first.end (rw c.in_ok-end.ensures.end at c.in_ok-first.ensures.spelt) (some_by _ _ c.is_some.ensures c.if-is_some.true) x j q.5 q.3)
+returns-then-is_some-clause-only c = rw c.dropping.ensures (λ x j q g. absurd (until_apart c.args.tokens.now (c.args.at + 2) c.in_ok-first.first c.in_ok-first.end (rw c.in_ok-end.ensures.end at c.in_ok-first.ensures.spelt) (some_by _ _ c.is_some.ensures c.if-is_some.true) x j q.5 q.3))
 
 pub returns-then-not-is_empty-clause-only : goal.returns-then-not-is_empty-clause-only
-returns-then-not-is_empty-clause-only c = λ x j q g. absurd (assume_apart c.args.tokens.now (c.args.at + 2) c.in_ok-first.first c.in_ok-first.end (rw c.in_ok-end.ensures.end at c.in_ok-first.ensures.spelt) (none_by_test _ _ c.is_some.ensures c.if-is_some.false) (no_by _ c.is_empty.ensures c.if-not-is_empty.true) x j q.5 q.3 q.4)
+returns-then-not-is_empty-clause-only c = rw c.dropping-then-not-is_empty.ensures (λ x j q g. absurd (assume_apart c.args.tokens.now (c.args.at + 2) c.in_ok-first.first c.in_ok-first.end (rw c.in_ok-end.ensures.end at c.in_ok-first.ensures.spelt) (none_by_test _ _ c.is_some.ensures c.if-is_some.false) (no_by _ c.is_empty.ensures c.if-not-is_empty.true) x j q.5 q.3 q.4))
 
 pub returns-clause-only : goal.returns-clause-only
 returns-clause-only c = λ x j q g. (rw c.in_ok-end.ensures.end at c.in_ok-first.ensures.only) x j q.5 tt

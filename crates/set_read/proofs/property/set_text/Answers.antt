@@ -16,20 +16,17 @@ returns-in_err-declarations-clause-only c =
     let p = err_from_is_err_and c.from_residual-in_err-declarations.result c.from_residual-in_err-declarations.ensures.1 in
     rw (p.1, p.2) (λ x q. passes (499 < highest declaration_height x.declarations) (500 < set_height x) (λ h. omega (arith, h)) _ ((rw c.in_ok-head.ensures.spelt.7 at c.in_err-declarations.ensures.only) x.declarations q.0 q.4 (declarations_end c.args.tokens.now x q)))
 
-pub returns-in_err-rules-clause-only : goal.returns-in_err-rules-clause-only
-returns-in_err-rules-clause-only c =
-    let p = err_from_is_err_and c.from_residual-in_err-rules.result c.from_residual-in_err-rules.ensures.1 in
-    rw (p.1, p.2) (λ x q. let a = after_declarations c.args.tokens.now _ (rw c.in_ok-head.ensures.spelt.7 at c.in_ok-declarations.ensures.only) x q in passes (499 < highest rule_height x.rules) (500 < set_height x) (λ h. omega (arith, h)) _ (c.in_err-rules.ensures.only x.rules a.0 a.2 (rules_end c.args.tokens.now _ x a)))
+pub returns-in-Err-clause-only : goal.returns-in-Err-clause-only
+returns-in-Err-clause-only c =
+    rw c.dropping.ensures (λ x q. let a = after_declarations c.args.tokens.now _ (rw c.in_ok-head.ensures.spelt.7 at c.in_ok-declarations.ensures.only) x q in passes (499 < highest rule_height x.rules) (500 < set_height x) (λ h. omega (arith, h)) _ (c.in-Err.ensures.only x.rules a.0 a.2 (rules_end c.args.tokens.now _ x a)))
 
-pub returns-in_err-first-clause-only : goal.returns-in_err-first-clause-only
-returns-in_err-first-clause-only c =
-    let p = err_from_is_err_and c.from_residual-in_err-first.result c.from_residual-in_err-first.ensures.1 in
-    rw (p.1, p.2) (λ x q. let a = after_rules c.args.tokens.now _ _ c.in_ok-rules.ensures.only x (after_declarations c.args.tokens.now _ (rw c.in_ok-head.ensures.spelt.7 at c.in_ok-declarations.ensures.only) x q) in passes (499 < property_height x.first) (500 < set_height x) (λ h. omega (arith, h)) _ (c.in_err-first.ensures.only x.first a.0 a.1 tt))
+pub returns-in-Err-reset_property-clause-only : goal.returns-in-Err-reset_property-clause-only
+returns-in-Err-reset_property-clause-only c =
+    rw c.dropping-in-Err-reset_property.ensures (λ x q. let a = after_rules c.args.tokens.now _ _ c.in-Ok.ensures.only x (after_declarations c.args.tokens.now _ (rw c.in_ok-head.ensures.spelt.7 at c.in_ok-declarations.ensures.only) x q) in passes (499 < property_height x.first) (500 < set_height x) (λ h. omega (arith, h)) _ (c.in-Err-reset_property.ensures.only x.first a.0 a.1 tt))
 
-pub returns-in_err-operations-clause-only : goal.returns-in_err-operations-clause-only
-returns-in_err-operations-clause-only c =
-    let p = err_from_is_err_and c.from_residual-in_err-operations.result c.from_residual-in_err-operations.ensures.1 in
-    rw (p.1, p.2) (λ x q. passes (499 < highest property_height x.operations) (500 < set_height x) (λ h. omega (arith, h)) _ (c.in_err-operations.ensures.only x.operations (length c.args.tokens.now) (after_reset c.args.tokens.now _ _ c.in_ok-first.ensures.only x (after_rules c.args.tokens.now _ _ c.in_ok-rules.ensures.only x (after_declarations c.args.tokens.now _ (rw c.in_ok-head.ensures.spelt.7 at c.in_ok-declarations.ensures.only) x q))) (operations_end c.args.tokens.now)))
+pub returns-in-Err-operations-clause-only : goal.returns-in-Err-operations-clause-only
+returns-in-Err-operations-clause-only c =
+    rw c.dropping-in-Err-operations.ensures (λ x q. passes (499 < highest property_height x.operations) (500 < set_height x) (λ h. omega (arith, h)) _ (c.in-Err-operations.ensures.only x.operations (length c.args.tokens.now) (after_reset c.args.tokens.now _ _ c.in-Ok-reset_property.ensures.only x (after_rules c.args.tokens.now _ _ c.in-Ok.ensures.only x (after_declarations c.args.tokens.now _ (rw c.in_ok-head.ensures.spelt.7 at c.in_ok-declarations.ensures.only) x q))) (operations_end c.args.tokens.now)))
 
 pub returns-then-end-tokens-clause-only : goal.returns-then-end-tokens-clause-only
-returns-then-end-tokens-clause-only c = λ x q. absurd (c.if-end-tokens.true (sym (c.in_ok-operations.ensures.only x.operations (length c.args.tokens.now) (after_reset c.args.tokens.now _ _ c.in_ok-first.ensures.only x (after_rules c.args.tokens.now _ _ c.in_ok-rules.ensures.only x (after_declarations c.args.tokens.now _ (rw c.in_ok-head.ensures.spelt.7 at c.in_ok-declarations.ensures.only) x q))) (operations_end c.args.tokens.now))))
+returns-then-end-tokens-clause-only c = rw c.dropping-then-end-tokens.ensures (λ x q. absurd (c.if-end-tokens.true (sym (c.in-Ok-operations.ensures.only x.operations (length c.args.tokens.now) (after_reset c.args.tokens.now _ _ c.in-Ok-reset_property.ensures.only x (after_rules c.args.tokens.now _ _ c.in-Ok.ensures.only x (after_declarations c.args.tokens.now _ (rw c.in_ok-head.ensures.spelt.7 at c.in_ok-declarations.ensures.only) x q))) (operations_end c.args.tokens.now)))))

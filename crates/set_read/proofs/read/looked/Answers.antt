@@ -1,7 +1,7 @@
 use Rattle.std.proofs.Common.{sym, subst}
-use Rattle.set_read.specs.Read.{RefusesTokens}
+use Rattle.set_read.specs.Read.{NamesByte, RefusesTokens}
 use Rattle.set_read.proofs.SmallNumbers.{text_small}
-use Rattle.set_read.proofs.Answers.{wrong_refuses}
+use Rattle.set_read.proofs.Answers.{wrong_names, wrong_refuses}
 use Rattle.set_read.proofs.read.looked.Goals as goal
 
 pub look_up-requires : goal.look_up-requires
@@ -19,3 +19,6 @@ returns-in-Ok-clause-ok c = record {
 pub returns-in-Err-clause-err : goal.returns-in-Err-clause-err
 returns-in-Err-clause-err c =
     subst (RefusesTokens c.args.tokens.now) (sym c.of_wrong.ensures) (wrong_refuses c.args.tokens.now c.args.text c.requires.spelt c.requires.low c.in-Err.wrong c.in-Err.ensures.err)
+
+pub returns-in-Err-clause-within : goal.returns-in-Err-clause-within
+returns-in-Err-clause-within c = λ size. subst (NamesByte size) (sym c.of_wrong.ensures) (wrong_names size c.in-Err.wrong)

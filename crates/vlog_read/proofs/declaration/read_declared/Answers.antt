@@ -5,7 +5,7 @@ use Rattle.vlog_read.proofs.declaration.read_declared.Goals as goal
 
 pub returns : goal.returns
 returns g c =
-    let a = c.in_ok-shape.ensures in let b = c.in_ok-items.ensures in
+    let a = c.in_ok-shape.ensures in let b = c.in-Ok.ensures in
     record {
       spelt = (_, a.spelt, b.spelt);
       only = λ x k q. b.only x.items k (declared_items c.args.tokens.now g.T.Part.height (g.T.Part.spells c.args.tokens.now) c.args.at c.args.depth _ a x k q);
@@ -20,7 +20,6 @@ returns-in_err-shape g c =
     let p = err_from_is_err_and c.from_residual.result c.from_residual.ensures.1 in
     rw (p.1, p.2) (shape_refuses c.args.tokens.now g.T.Part.height (g.T.Part.spells c.args.tokens.now) c.args.at c.args.depth _ c.in_err-shape.ensures)
 
-pub returns-in_err-items : goal.returns-in_err-items
-returns-in_err-items g c =
-    let p = err_from_is_err_and c.from_residual-in_err-items.result c.from_residual-in_err-items.ensures.1 in
-    rw (p.1, p.2) (items_refuse c.args.tokens.now g.T.Part.height (g.T.Part.spells c.args.tokens.now) c.args.at c.args.depth _ c.in_ok-shape.ensures _ c.in_err-items.ensures)
+pub returns-in-Err : goal.returns-in-Err
+returns-in-Err g c =
+    rw c.dropping.ensures (items_refuse c.args.tokens.now g.T.Part.height (g.T.Part.spells c.args.tokens.now) c.args.at c.args.depth _ c.in_ok-shape.ensures _ c.in-Err.ensures)

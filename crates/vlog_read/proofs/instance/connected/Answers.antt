@@ -47,4 +47,5 @@ returns-in_err-value c =
     rw (p.1, p.2) (inside_refuses _ height (Spells false c.args.tokens.now) (tree_no_close _) _ _ (rw c.after-open.ensures at (no_by _ c.is_sign-2.ensures c.if-is_sign.false)) _ (tree_refuses _ _ _ _ (rw c.after-open.ensures at c.in_err-value.ensures)))
 
 pub returns-then-not-is_sign-2 : goal.returns-then-not-is_sign-2
-returns-then-not-is_sign-2 c = inside_open _ height (Spells false c.args.tokens.now) (tree_no_close _) _ c.args.depth (rw c.after-open.ensures at (no_by _ c.is_sign-2.ensures c.if-is_sign.false)) _ (tree_only _ _ _ _ (rw c.after-open.ensures at c.in_ok-value.ensures)) (no_by _ c.is_sign-3.ensures c.if-not-is_sign-2.true)
+returns-then-not-is_sign-2 c =
+    rw c.dropping.ensures (inside_open _ height (Spells false c.args.tokens.now) (tree_no_close _) _ c.args.depth (rw c.after-open.ensures at (no_by _ c.is_sign-2.ensures c.if-is_sign.false)) _ (tree_only _ _ _ _ (rw c.after-open.ensures at c.in_ok-value.ensures)) (no_by _ c.is_sign-3.ensures c.if-not-is_sign-2.true))

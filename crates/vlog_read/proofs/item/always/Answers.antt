@@ -15,13 +15,13 @@ after-requires c = kind_within _ _ _ (yes_by _ c.is_sign.ensures c.if-not-is_sig
 pub returns : goal.returns
 returns c =
     let a = c.in_ok-events.ensures in
-    let s = stmt_bounds _ _ _ _ c.in_ok-body.ensures in
+    let s = stmt_bounds _ _ _ _ c.in-Ok.ensures in
     let q : c.after.result ≡ c.args.at + 2 = omega (arith, c.after.ensures, c.after-sign.ensures) in (
       record {
-        spelt = (_, c.requires.here, rw c.after-sign.ensures at (yes_by _ c.is_sign.ensures c.if-not-is_sign.false), rw q at a.spelt, c.in_ok-body.ensures.reads.spelt);
-        only = λ x k u. always_only _ _ _ c.requires.here _ (rw q at a) _ c.in_ok-body.ensures x k u;
-        height_is = omega (arith, c.in_ok-body.ensures.height_is);
-        low = omega (arith, c.in_ok-body.ensures.low, c.requires.positive);
+        spelt = (_, c.requires.here, rw c.after-sign.ensures at (yes_by _ c.is_sign.ensures c.if-not-is_sign.false), rw q at a.spelt, c.in-Ok.ensures.reads.spelt);
+        only = λ x k u. always_only _ _ _ c.requires.here _ (rw q at a) _ c.in-Ok.ensures x k u;
+        height_is = omega (arith, c.in-Ok.ensures.height_is);
+        low = omega (arith, c.in-Ok.ensures.low, c.requires.positive);
         past = omega (arith, a.past, q, s.0);
         within = omega (arith, s.1);
       },
@@ -37,8 +37,7 @@ returns-in_err-events c =
     let p = err_from_is_err_and c.from_residual.result c.from_residual.ensures.1 in
     rw (p.1, p.2) (events_refuse _ _ _ c.requires.here _ (rw q at c.in_err-events.ensures))
 
-pub returns-in_err-body : goal.returns-in_err-body
-returns-in_err-body c =
+pub returns-in-Err : goal.returns-in-Err
+returns-in-Err c =
     let q : c.after.result ≡ c.args.at + 2 = omega (arith, c.after.ensures, c.after-sign.ensures) in
-    let p = err_from_is_err_and c.from_residual-in_err-body.result c.from_residual-in_err-body.ensures.1 in
-    rw (p.1, p.2) (body_refuses _ _ _ c.requires.here _ (rw q at c.in_ok-events.ensures) _ c.in_err-body.ensures)
+    rw c.dropping.ensures (body_refuses _ _ _ c.requires.here _ (rw q at c.in_ok-events.ensures) _ c.in-Err.ensures)

@@ -5,7 +5,7 @@ use Rattle.vlog_read.proofs.item.instances.Goals as goal
 
 pub returns : goal.returns
 returns c =
-    let o = c.in_ok-overrides.ensures in let a = c.in_ok-list.ensures in (
+    let o = c.in_ok-overrides.ensures in let a = c.in-Ok.ensures in (
       record {
         spelt = (_, c.in_ok-name.ensures.ok, rw c.after.ensures at o.spelt, a.spelt);
         only = λ x k q. let u = instances_at _ _ _ c.requires.other _ (rw c.after.ensures at o) x k q in a.only u.0 k u.1;
@@ -27,7 +27,6 @@ returns-in_err-overrides c =
     let p = err_from_is_err_and c.from_residual-in_err-overrides.result c.from_residual-in_err-overrides.ensures.1 in
     rw (p.1, p.2) (overrides_refuse _ _ _ c.requires.other _ (rw c.after.ensures at c.in_err-overrides.ensures))
 
-pub returns-in_err-list : goal.returns-in_err-list
-returns-in_err-list c =
-    let p = err_from_is_err_and c.from_residual-in_err-list.result c.from_residual-in_err-list.ensures.1 in
-    rw (p.1, p.2) (instances_refuse _ _ _ c.requires.other _ (rw c.after.ensures at c.in_ok-overrides.ensures) _ c.in_err-list.ensures)
+pub returns-in-Err : goal.returns-in-Err
+returns-in-Err c =
+    rw c.dropping.ensures (instances_refuse _ _ _ c.requires.other _ (rw c.after.ensures at c.in_ok-overrides.ensures) _ c.in-Err.ensures)

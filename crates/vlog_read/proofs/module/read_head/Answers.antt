@@ -13,7 +13,7 @@ after-requires-2 c = kind_within _ _ _ (yes_by _ c.is_sign.ensures c.if-not-is_s
 
 pub returns : goal.returns
 returns c =
-    let a = c.in_ok-parameters.ensures in let b = c.in_ok-ports.ensures in
+    let a = c.in_ok-parameters.ensures in let b = c.in-Ok.ensures in
     let q : c.after.result ≡ c.args.at + 2 = omega (arith, c.after.ensures, c.after-place.ensures) in (
       record {
         spelt = (_, _, yes_by _ c.is_word.ensures c.if-not-is_word.false, rw c.after-place.ensures at c.in_ok-name.ensures.ok, rw q at a.spelt, b.spelt, yes_by _ c.is_sign.ensures c.if-not-is_sign.false, c.after-2.ensures);
@@ -40,13 +40,12 @@ returns-in_err-parameters c =
     let p = err_from_is_err_and c.from_residual-in_err-parameters.result c.from_residual-in_err-parameters.ensures.1 in
     rw (p.1, p.2) (parameters_refuse _ _ _ _ (rw q at c.in_err-parameters.ensures))
 
-pub returns-in_err-ports : goal.returns-in_err-ports
-returns-in_err-ports c =
+pub returns-in-Err : goal.returns-in-Err
+returns-in-Err c =
     let q : c.after.result ≡ c.args.at + 2 = omega (arith, c.after.ensures, c.after-place.ensures) in
-    let p = err_from_is_err_and c.from_residual-in_err-ports.result c.from_residual-in_err-ports.ensures.1 in
-    rw (p.1, p.2) (ports_refuse _ _ _ _ (rw q at c.in_ok-parameters.ensures).only (omega (arith, q, c.in_ok-parameters.ensures.past)) _ c.in_err-ports.ensures)
+    rw c.dropping.ensures (ports_refuse _ _ _ _ (rw q at c.in_ok-parameters.ensures).only (omega (arith, q, c.in_ok-parameters.ensures.past)) _ c.in-Err.ensures)
 
 pub returns-then-not-is_sign : goal.returns-then-not-is_sign
 returns-then-not-is_sign c =
     let q : c.after.result ≡ c.args.at + 2 = omega (arith, c.after.ensures, c.after-place.ensures) in
-    head_open _ _ c.args.depth _ (rw q at c.in_ok-parameters.ensures).only (omega (arith, q, c.in_ok-parameters.ensures.past)) _ c.in_ok-ports.ensures.only (no_by _ c.is_sign.ensures c.if-not-is_sign.true)
+    rw c.dropping-then-not-is_sign.ensures (head_open _ _ c.args.depth _ (rw q at c.in_ok-parameters.ensures).only (omega (arith, q, c.in_ok-parameters.ensures.past)) _ c.in-Ok.ensures.only (no_by _ c.is_sign.ensures c.if-not-is_sign.true))

@@ -18,21 +18,21 @@ after-requires-3 c = kind_within _ _ _ (yes_by _ c.is_sign-2.ensures c.if-not-is
 pub returns : goal.returns
 returns c =
     let a = tree_bounds _ _ _ _ c.in_ok-high.ensures in
-    let b = tree_bounds _ _ _ _ c.in_ok-low.ensures in
+    let b = tree_bounds _ _ _ _ c.in-Ok.ensures in
     record {
       spelt = (
         c.in_ok-high.high.end,
-        c.in_ok-low.low.end,
+        c.in-Ok.low.end,
         c.requires.here,
         rw c.after.ensures at c.in_ok-high.ensures.reads.spelt,
         yes_by _ c.is_sign.ensures c.if-not-is_sign.false,
-        rw c.after-2.ensures at c.in_ok-low.ensures.reads.spelt,
+        rw c.after-2.ensures at c.in-Ok.ensures.reads.spelt,
         yes_by _ c.is_sign-2.ensures c.if-not-is_sign-2.false,
         c.after-3.ensures,
       );
-      only = λ x k q. range_only _ _ _ _ (rw c.after.ensures at c.in_ok-high.ensures) _ (rw c.after-2.ensures at c.in_ok-low.ensures) x k q ∙ sym c.after-3.ensures;
-      height_is = omega (arith, c.max-height.ensures, c.in_ok-high.ensures.height_is, c.in_ok-low.ensures.height_is);
-      low = omega (arith, c.max-height.ensures, c.in_ok-high.ensures.low, c.in_ok-low.ensures.low);
+      only = λ x k q. range_only _ _ _ _ (rw c.after.ensures at c.in_ok-high.ensures) _ (rw c.after-2.ensures at c.in-Ok.ensures) x k q ∙ sym c.after-3.ensures;
+      height_is = omega (arith, c.max-height.ensures, c.in_ok-high.ensures.height_is, c.in-Ok.ensures.height_is);
+      low = omega (arith, c.max-height.ensures, c.in_ok-high.ensures.low, c.in-Ok.ensures.low);
       past = omega (arith, a.0, b.0, c.after.ensures, c.after-2.ensures, c.after-3.ensures);
       within = omega (arith, kind_within _ _ _ (yes_by _ c.is_sign-2.ensures c.if-not-is_sign-2.false), c.after-3.ensures);
     }
@@ -43,12 +43,13 @@ returns-in_err-high c =
     rw (p.1, p.2) (high_refuses _ _ _ _ (rw c.after.ensures at c.in_err-high.ensures))
 
 pub returns-then-not-is_sign : goal.returns-then-not-is_sign
-returns-then-not-is_sign c = range_no_colon _ _ _ _ (rw c.after.ensures at c.in_ok-high.ensures) (no_by _ c.is_sign.ensures c.if-not-is_sign.true)
+returns-then-not-is_sign c =
+    rw c.dropping.ensures (range_no_colon _ _ _ _ (rw c.after.ensures at c.in_ok-high.ensures) (no_by _ c.is_sign.ensures c.if-not-is_sign.true))
 
-pub returns-in_err-low : goal.returns-in_err-low
-returns-in_err-low c =
-    let p = err_from_is_err_and c.from_residual-in_err-low.result c.from_residual-in_err-low.ensures.1 in
-    rw (p.1, p.2) (low_refuses _ _ _ _ (rw c.after.ensures at c.in_ok-high.ensures) _ (rw c.after-2.ensures at c.in_err-low.ensures))
+pub returns-in-Err : goal.returns-in-Err
+returns-in-Err c =
+    rw c.dropping-in-Err.ensures (low_refuses _ _ _ _ (rw c.after.ensures at c.in_ok-high.ensures) _ (rw c.after-2.ensures at c.in-Err.ensures))
 
 pub returns-then-not-is_sign-2 : goal.returns-then-not-is_sign-2
-returns-then-not-is_sign-2 c = range_open _ _ _ _ (rw c.after.ensures at c.in_ok-high.ensures) _ (rw c.after-2.ensures at c.in_ok-low.ensures) (no_by _ c.is_sign-2.ensures c.if-not-is_sign-2.true)
+returns-then-not-is_sign-2 c =
+    rw c.dropping-then-not-is_sign-2.ensures (range_open _ _ _ _ (rw c.after.ensures at c.in_ok-high.ensures) _ (rw c.after-2.ensures at c.in-Ok.ensures) (no_by _ c.is_sign-2.ensures c.if-not-is_sign-2.true))

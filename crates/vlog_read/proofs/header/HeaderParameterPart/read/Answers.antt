@@ -10,7 +10,7 @@ after-requires c = kind_within _ _ _ (yes_by _ c.is_word.ensures c.if-not-is_wor
 
 pub returns : goal.returns
 returns c =
-    let a = c.in_ok-shape.ensures in let b = c.in_ok-value-2.ensures.found in
+    let a = c.in_ok-shape.ensures in let b = c.in-Ok.ensures.found in
     record {
       found = record {
         spelt = (_, yes_by _ c.is_word.ensures c.if-not-is_word.false, rw c.after.ensures at a.spelt, b.spelt);
@@ -46,7 +46,6 @@ returns-in_err-shape c =
     let p = err_from_is_err_and c.from_residual-in_err-shape.result c.from_residual-in_err-shape.ensures.1 in
     rw (p.1, p.2) (record { found = parameter_shape _ _ (yes_by _ c.is_word.ensures c.if-not-is_word.false) _ _ (rw c.after.ensures at c.in_err-shape.ensures); forward = tt })
 
-pub returns-in_err-value-2 : goal.returns-in_err-value-2
-returns-in_err-value-2 c =
-    let p = err_from_is_err_and c.from_residual-in_err-value-2.result c.from_residual-in_err-value-2.ensures.1 in
-    rw (p.1, p.2) (record { found = parameter_value _ _ (yes_by _ c.is_word.ensures c.if-not-is_word.false) _ _ (rw c.after.ensures at c.in_ok-shape.ensures) _ c.in_err-value-2.ensures.found; forward = tt })
+pub returns-in-Err : goal.returns-in-Err
+returns-in-Err c =
+    rw c.dropping.ensures (record { found = parameter_value _ _ (yes_by _ c.is_word.ensures c.if-not-is_word.false) _ _ (rw c.after.ensures at c.in_ok-shape.ensures) _ c.in-Err.ensures.found; forward = tt })

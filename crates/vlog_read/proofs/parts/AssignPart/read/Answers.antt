@@ -6,7 +6,7 @@ use Rattle.vlog_read.proofs.parts.AssignPart.read.Goals as goal
 
 pub returns : goal.returns
 returns c =
-    let l = lval_bounds _ _ _ _ c.in_ok-left.ensures in let a = c.in_ok-right.ensures in record {
+    let l = lval_bounds _ _ _ _ c.in_ok-left.ensures in let a = c.in-Ok.ensures in record {
       found = record {
         spelt = (_, c.in_ok-left.ensures.reads.spelt, a.spelt);
         only = λ x k q. a.only x.right k (assign_value _ _ _ _ c.in_ok-left.ensures x k q);
@@ -23,7 +23,6 @@ returns-in_err-left c =
     let p = err_from_is_err_and c.from_residual.result c.from_residual.ensures.1 in
     rw (p.1, p.2) (record { found = left_refuses _ _ _ _ c.in_err-left.ensures; forward = tt })
 
-pub returns-in_err-right : goal.returns-in_err-right
-returns-in_err-right c =
-    let p = err_from_is_err_and c.from_residual-in_err-right.result c.from_residual-in_err-right.ensures.1 in
-    rw (p.1, p.2) (record { found = right_refuses _ _ _ _ c.in_ok-left.ensures _ c.in_err-right.ensures; forward = tt })
+pub returns-in-Err : goal.returns-in-Err
+returns-in-Err c =
+    rw c.dropping.ensures (record { found = right_refuses _ _ _ _ c.in_ok-left.ensures _ c.in-Err.ensures; forward = tt })
