@@ -7,10 +7,10 @@ ghost use Rattle.elab_node.specs.Nodes.{Makes, IsNode, IsWire, number_at};
 
 use crate::nodes::{Wire, choice, extended};
 use crate::operators::{arithmetic, equal, is_zero, logic, ordered, shifted};
-use crate::places::{Family, family_of, is_reduction};
 use crate::reductions::{reduction, sign_change};
 use std::alloc::AllocError;
 use vlog_tree::{Binary, Unary};
+use vlog_value::{Family, family_of, is_reduction};
 use word_dag::Dag;
 
 // One bit at a length.

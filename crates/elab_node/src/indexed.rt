@@ -1,8 +1,8 @@
 // Bits of a vector that a variable index names.
-ghost use Rattle.std.specs.Prelude.{◌≡◌, ℕ, ◌+◌, ◌-◌, ◌%◌, ◌^◌, ◌≤◌, ◌<◌, IfOk, ℤ, pos, negsuc, ◌≤ℤ◌, ◌<ℤ◌, ◌+ℤ◌, ◌-ℤ◌, nat_le, nat_eq, false, IfSome, IfNone, if◌then◌else◌};
+ghost use Rattle.std.specs.Prelude.{◌≡◌, ℕ, ◌+◌, ◌-◌, ◌%◌, ◌^◌, ◌≤◌, ◌<◌, IfOk, ℤ, pos, negsuc, ◌≤ℤ◌, ◌<ℤ◌, ◌+ℤ◌, ◌-ℤ◌, nat_eq, false, IfSome, IfNone, if◌then◌else◌};
 ghost use Rattle.word_dag.specs.Nodes.{FitFrom};
 ghost use Rattle.word_dag.specs.Adding.{Keeps};
-ghost use Rattle.vlog_tree.specs.Value.{moved_down, integer, cut, bit};
+ghost use Rattle.vlog_tree.specs.Value.{moved_down, integer, bit};
 ghost use Rattle.elab_node.specs.Indexed.{is_same};
 ghost use Rattle.elab_node.specs.Nodes.{Makes, IsNode, IsWire, number_at};
 
@@ -10,54 +10,11 @@ use crate::bits::moved;
 use crate::nodes::{Wire, choice, constant, two};
 use crate::operators::length_of;
 use std::alloc::AllocError;
-use word_core::Word;
+use vlog_value::{cut, integer};
 use word_dag::{Dag, Op};
 
-// The low bits of a number.
-fn low_bits(number: u64, width: u8) -> Word
-    requires some { 1 ≤ width }
-    requires most { width ≤ 64 }
-    ensures { result ≡ record { width = width; value = number % 2 ^ width } }
-{
-    Word::slice(Word::new(64, number), 0, width)
-}
-
-// An integer modulo 2 to the width.
-fn cut(width: u8, number: i128) -> Word
-    requires some { 1 ≤ width }
-    requires most { width ≤ 64 }
-    requires low { negsuc (2 ^ 64 - 1) ≤ℤ number }
-    requires high { number <ℤ pos (2 ^ 64) }
-    ensures { result ≡ record { width = width; value = cut width number } }
-{
-    if number < 0 {
-        return Word::not(low_bits((-1 - number) as u64, width));
-    }
-    low_bits(number as u64, width)
-}
-
-fn is_top_set(a: Word) -> bool
-    ensures { result ≡ nat_le (2 ^ (a.width - 1)) a.value }
-{
-    // a word's width is from 1 to 64
-    let _fits = a.value();
-    Word::slice(a, a.width() - 1, 1).value() == 1
-}
-
-/// The integer that a word stands for by its sign.
-pub fn integer(a: Word, signed: bool) -> i128
-    ensures value { result ≡ integer signed a.width a.value }
-    ensures low { negsuc (2 ^ 64) ≤ℤ result }
-    ensures high { result <ℤ pos (2 ^ 64) }
-{
-    if signed && is_top_set(a) {
-        return -1 - i128::from(Word::not(a).value());
-    }
-    i128::from(a.value())
-}
-
-// The number of the words of a length that stand for an integer, if there is one.
-fn code_of(number: i128, width: u8, signed: bool) -> Option<u64>
+/// The number of the words of a length that stand for an integer, if there is one.
+pub fn code_of(number: i128, width: u8, signed: bool) -> Option<u64>
     requires some { 1 ≤ width }
     requires most { width ≤ 64 }
     ensures some { IfSome result (λ k. (k < 2 ^ width) × ((x : ℕ) → x < 2 ^ width → nat_eq x k ≡ is_same (integer signed width x) number)) }
@@ -73,9 +30,9 @@ fn code_of(number: i128, width: u8, signed: bool) -> Option<u64>
     Some(code.value())
 }
 
-// One bit: does a word have this number?
+/// One bit: does a word have this number?
 #[tactic(auto, using(crate::proofs::Kept::keeps_then, crate::proofs::Kept::made_node, crate::proofs::Kept::node_kept))]
-fn hit(dag: &mut Dag, a: Wire, code: u64) -> Result<u64, AllocError>
+pub fn hit(dag: &mut Dag, a: Wire, code: u64) -> Result<u64, AllocError>
     requires node { IsWire dag.old a }
     requires fits { code < 2 ^ a.width }
     ensures keeps { Keeps dag.old dag.new }

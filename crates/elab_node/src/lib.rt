@@ -11,8 +11,11 @@ mod nodes;
 mod operands;
 mod operators;
 mod pieces;
-mod places;
 mod reductions;
 
+pub use indexed::{Own, code_of, hit};
 pub use leaves::{Leaf, Leaves};
 pub use node::{assigned_node, holds_node, node_of, value_node};
+pub use nodes::{Wire, choice, constant, slice, two};
+pub use operands::shape;
+pub use operators::length_of;

@@ -9,13 +9,13 @@ ghost use Rattle.vlog_value.specs.Shapes.{HasShape};
 ghost use Rattle.elab_node.specs.Leaves.{declared};
 ghost use Rattle.elab_node.specs.Terms.{IsTaken, IsAlone, IsRow, IsInner, AreOperands};
 
-use crate::indexed::integer;
 use crate::leaves::Leaves;
 use crate::nodes::Wire;
-use crate::places::{family_of, inner_place, left_place, right_place};
 use sqlite_items::{Boxed, Items};
 use vlog_tree::{Binary, Expr, Span, Unary};
-use vlog_value::{checked_own_value, shape_of};
+use vlog_value::{
+    checked_own_value, family_of, inner_place, integer, left_place, right_place, shape_of,
+};
 
 /// The bits of a vector, and the number of the lowest one.
 #[derive(Clone, Copy)]

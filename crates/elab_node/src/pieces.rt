@@ -16,8 +16,7 @@ use crate::nodes::{Wire, constant, extended};
 use crate::operands::Vector;
 use std::alloc::AllocError;
 use vlog_tree::{Constant, Expr, Name, Number, Span};
-use vlog_value::value;
-use word_core::Word;
+use vlog_value::{low_bits, number_width, value};
 use word_dag::Dag;
 
 /// The node of a number.
@@ -29,21 +28,11 @@ pub fn number_node(dag: &mut Dag, number: &Number, here: (u8, bool)) -> Result<u
     ensures keeps { Keeps dag.old dag.new }
     ensures makes { IfOk result (λ r. Makes dag.new r here.0 (λ e. extend here.1 (number_width number.now.size) here.0 (number.now.value % 2 ^ number_width number.now.size))) }
 {
-    let width = width_of(number);
-    let value = Word::slice(Word::new(64, number.value), 0, width).value();
+    let width = number_width(number);
+    let value = low_bits(number.value, width).value();
     let node = constant(dag, width, value)?;
     let number = extended(dag, Wire { node, width }, here.0, here.1)?;
     Ok(number)
-}
-
-// A number's length.
-fn width_of(number: &Number) -> u8
-    ensures { result ≡ number_width number.now.size }
-{
-    match number.size {
-        Some(size) => size,
-        None => 32,
-    }
 }
 
 // The leaf of a name.
@@ -130,7 +119,7 @@ pub fn constant_vector(dag: &mut Dag, vector: Constant) -> Result<Vector, AllocE
     ensures keeps { Keeps dag.old dag.new }
     ensures vector { IfOk result (λ v. (ls : List Leaf) → IsVector ls dag.new (λ _. vector) v) }
 {
-    let value = Word::slice(Word::new(64, vector.value), 0, vector.width).value();
+    let value = low_bits(vector.value, vector.width).value();
     let node = constant(dag, vector.width, value)?;
     Ok(Vector {
         wire: Wire {

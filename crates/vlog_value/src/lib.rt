@@ -7,3 +7,7 @@ mod operators;
 mod selects;
 
 pub use evaluate::{checked_own_value, checked_value, own_value, shape_of, value};
+pub use names::number_width;
+pub use operators::{
+    Family, cut, family_of, inner_place, integer, is_reduction, left_place, low_bits, right_place,
+};

@@ -4,7 +4,7 @@ use Rattle.std.specs.Option.{option_copied}
 use Rattle.vlog_tree.specs.declared.stmt.CaseItem.{CaseItem}
 use Rattle.vlog_runs.specs.Blocks.{run, seen, is_false, case_width, case_sign}
 use Rattle.elab_node.specs.Leaves.{declared}
-use Rattle.elab_node.proofs.Kept.{keeps_then, ready_kept}
+use Rattle.elab_node.proofs.Kept.{keeps_same, keeps_then, ready_kept}
 use Rattle.elab_block.specs.Ready.{IsReadyStmt, ArePlaced}
 use Rattle.elab_block.specs.Cases.{each_labels, each_default, case_test}
 use Rattle.elab_block.specs.Standing.{flat}
@@ -236,3 +236,71 @@ pub run_items-returns-clause-picks : goal.run_items-returns-clause-picks
 run_items-returns-clause-picks t c =
     let none : c.loop-left.left ≡ 0 = omega (arith, c.loop-left-test.false) in
     picking_end (option_copied c.args.reads) c.args.items.now c.args.tests.now c.args.before.now c.args.state.now c.loop-left.state c.args.dag.now c.loop-left.dag c.loop-left.left none c.loop-left.invariant
+
+-- ---- what is kept at each exit
+
+pub run-returns-in_err-branch-in-If-clause-keeps : goal.run-returns-in_err-branch-in-If-clause-keeps
+run-returns-in_err-branch-in-If-clause-keeps t c = keeps_then c.args.dag.now c.condition_node.new.dag c.branch-alloc.new.dag c.in_ok-test-in-If.ensures.keeps c.branch-alloc.ensures.keeps
+
+pub run-returns-in_ok-branch-in-If-clause-keeps : goal.run-returns-in_ok-branch-in-If-clause-keeps
+run-returns-in_ok-branch-in-If-clause-keeps t c = keeps_then c.args.dag.now c.condition_node.new.dag c.branch-alloc.new.dag c.in_ok-test-in-If.ensures.keeps c.in_ok-branch-in-If.ensures.keeps
+
+pub run-returns-in_err-run-in-IfElse-clause-keeps : goal.run-returns-in_err-run-in-IfElse-clause-keeps
+run-returns-in_err-run-in-IfElse-clause-keeps t c = keeps_then c.args.dag.now c.condition_node-in-IfElse.new.dag c.run.new.dag c.in_ok-test-in-IfElse.ensures.keeps c.run.ensures.keeps
+
+pub run-returns-in_err-branch-in-IfElse-clause-keeps : goal.run-returns-in_err-branch-in-IfElse-clause-keeps
+run-returns-in_err-branch-in-IfElse-clause-keeps t c = keeps_then c.args.dag.now c.run.new.dag c.branch-alloc-in-IfElse.new.dag (keeps_then c.args.dag.now c.condition_node-in-IfElse.new.dag c.run.new.dag c.in_ok-test-in-IfElse.ensures.keeps c.in_ok-run-in-IfElse.ensures.keeps) c.branch-alloc-in-IfElse.ensures.keeps
+
+pub run-returns-in_err-branch-in-IfElse-clause-same : goal.run-returns-in_err-branch-in-IfElse-clause-same
+run-returns-in_err-branch-in-IfElse-clause-same t c = c.branch-alloc-in-IfElse.ensures.same ∙ c.in_ok-run-in-IfElse.ensures.same
+
+pub run-returns-in_ok-branch-in-IfElse-clause-keeps : goal.run-returns-in_ok-branch-in-IfElse-clause-keeps
+run-returns-in_ok-branch-in-IfElse-clause-keeps t c = keeps_then c.args.dag.now c.run.new.dag c.branch-alloc-in-IfElse.new.dag (keeps_then c.args.dag.now c.condition_node-in-IfElse.new.dag c.run.new.dag c.in_ok-test-in-IfElse.ensures.keeps c.in_ok-run-in-IfElse.ensures.keeps) c.in_ok-branch-in-IfElse.ensures.keeps
+
+pub run-returns-in_ok-branch-in-IfElse-clause-same : goal.run-returns-in_ok-branch-in-IfElse-clause-same
+run-returns-in_ok-branch-in-IfElse-clause-same t c = c.in_ok-branch-in-IfElse.ensures.same ∙ c.in_ok-run-in-IfElse.ensures.same
+
+pub run-returns-in_err-run_default-in-Case-clause-keeps : goal.run-returns-in_err-run_default-in-Case-clause-keeps
+run-returns-in_err-run_default-in-Case-clause-keeps t c = keeps_then c.args.dag.now c.case_tests.new.dag c.run_default.new.dag c.in_ok-tests-in-Case.ensures.keeps c.run_default.ensures.keeps
+
+pub run-returns-in_err-run_items-in-Case-clause-keeps : goal.run-returns-in_err-run_items-in-Case-clause-keeps
+run-returns-in_err-run_items-in-Case-clause-keeps t c = keeps_then c.args.dag.now c.run_default.new.dag c.run_items.new.dag (keeps_then c.args.dag.now c.case_tests.new.dag c.run_default.new.dag c.in_ok-tests-in-Case.ensures.keeps c.in_ok-run_default-in-Case.ensures.keeps) c.run_items.ensures.keeps
+
+pub run-returns-in_err-run_items-in-Case-clause-same : goal.run-returns-in_err-run_items-in-Case-clause-same
+run-returns-in_err-run_items-in-Case-clause-same t c = c.run_items.ensures.same ∙ c.in_ok-run_default-in-Case.ensures.same
+
+pub run-returns-in_ok-run_items-in-Case-clause-keeps : goal.run-returns-in_ok-run_items-in-Case-clause-keeps
+run-returns-in_ok-run_items-in-Case-clause-keeps t c = keeps_then c.args.dag.now c.run_default.new.dag c.run_items.new.dag (keeps_then c.args.dag.now c.case_tests.new.dag c.run_default.new.dag c.in_ok-tests-in-Case.ensures.keeps c.in_ok-run_default-in-Case.ensures.keeps) c.in_ok-run_items-in-Case.ensures.keeps
+
+pub run-returns-in_ok-run_items-in-Case-clause-same : goal.run-returns-in_ok-run_items-in-Case-clause-same
+run-returns-in_ok-run_items-in-Case-clause-same t c = c.in_ok-run_items-in-Case.ensures.same ∙ c.in_ok-run_default-in-Case.ensures.same
+
+pub branch-returns-in_err-others-clause-keeps : goal.branch-returns-in_err-others-clause-keeps
+branch-returns-in_err-others-clause-keeps t c = keeps_same c.args.dag.now
+
+pub branch-returns-in_err-run-clause-same : goal.branch-returns-in_err-run-clause-same
+branch-returns-in_err-run-clause-same t c = c.run.ensures.same ∙ c.in_ok-others.ensures.same
+
+pub branch-returns-in_err-join-clause-keeps : goal.branch-returns-in_err-join-clause-keeps
+branch-returns-in_err-join-clause-keeps t c = keeps_then c.args.dag.now c.run.new.dag c.join.new.dag c.in_ok-run.ensures.keeps c.join.ensures.keeps
+
+pub branch-returns-in_err-join-clause-same : goal.branch-returns-in_err-join-clause-same
+branch-returns-in_err-join-clause-same t c = c.join.ensures.same ∙ c.in_ok-run.ensures.same ∙ c.in_ok-others.ensures.same
+
+pub branch-returns-clause-keeps : goal.branch-returns-clause-keeps
+branch-returns-clause-keeps t c = keeps_then c.args.dag.now c.run.new.dag c.join.new.dag c.in_ok-run.ensures.keeps c.in_ok-join.ensures.keeps
+
+pub branch-returns-clause-same : goal.branch-returns-clause-same
+branch-returns-clause-same t c = c.in_ok-join.ensures.same ∙ c.in_ok-run.ensures.same ∙ c.in_ok-others.ensures.same
+
+pub run_row-returns-in_err-run-clause-keeps : goal.run_row-returns-in_err-run-clause-keeps
+run_row-returns-in_err-run-clause-keeps t c = keeps_then c.args.dag.now c.loop-stmt.dag c.run.new.dag c.loop-stmt.invariant.keeps c.run.ensures.keeps
+
+pub run_row-returns-in_err-run-clause-same : goal.run_row-returns-in_err-run-clause-same
+run_row-returns-in_err-run-clause-same t c = c.run.ensures.same ∙ c.loop-stmt.invariant.same
+
+pub run_items-returns-in_err-branch-clause-keeps : goal.run_items-returns-in_err-branch-clause-keeps
+run_items-returns-in_err-branch-clause-keeps t c = keeps_then c.args.dag.now c.loop-left.dag c.branch-alloc.new.dag c.loop-left.invariant.keeps c.branch-alloc.ensures.keeps
+
+pub run_items-returns-in_err-branch-clause-same : goal.run_items-returns-in_err-branch-clause-same
+run_items-returns-in_err-branch-clause-same t c = c.branch-alloc.ensures.same ∙ c.loop-left.invariant.same

@@ -42,3 +42,9 @@ returns-clause-makes c =
     let le : length c.args.labels.now ≤ c.loop-label.label-index = omega (arith, c.loop-label-test.false, c.loop-label.auto.label-index-end) in
     made_same c.loop-label.dag c.loop-label.any 1 _ _ c.loop-label.invariant.any
     (λ e. ap (λ z. bit (list_any (is_match c.args.kind (valued c.args.leaves.now (words e d)) c.args.subject.width c.args.signed (number_at e d c.args.subject.node)) z)) (take_all c.args.labels.now c.loop-label.label-index le))
+
+pub returns-in_err-one-clause-keeps : goal.returns-in_err-one-clause-keeps
+returns-in_err-one-clause-keeps c = keeps_then c.args.dag.now c.loop-label.dag c.label_node.new.dag c.loop-label.invariant.keeps c.label_node.ensures.keeps
+
+pub returns-in_err-any-2-clause-keeps : goal.returns-in_err-any-2-clause-keeps
+returns-in_err-any-2-clause-keeps c = keeps_then c.args.dag.now c.loop-label.dag c.either.new.dag c.loop-label.invariant.keeps (keeps_then c.loop-label.dag c.label_node.new.dag c.either.new.dag c.in_ok-one.ensures.keeps c.either.ensures.keeps)

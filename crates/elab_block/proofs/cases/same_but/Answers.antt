@@ -2,7 +2,7 @@ use Rattle.std.proofs.Common.{◌≡◌, ◌%◌, ◌^◌, ◌<◌, sym, subst, 
 use Rattle.std.specs.Prelude.{nat_eq, bit_or}
 use Rattle.vlog_tree.specs.Value.{bit}
 use Rattle.elab_node.specs.Nodes.{number_at}
-use Rattle.elab_node.proofs.Kept.{made_same, made_node, made_number, number_kept, number_fits}
+use Rattle.elab_node.proofs.Kept.{made_same, made_node, made_number, number_kept, number_fits, keeps_then}
 use Rattle.elab_block.proofs.Matching.{all_bits, masked}
 use Rattle.elab_block.proofs.cases.same_but.Goals as goal
 
@@ -32,3 +32,12 @@ returns-clause-makes c =
     (λ z. bit (nat_eq (left z) (right z)))
     ∙ ap bit (masked a.width c.args.bits (number_at e d a.node) (number_at e d b.node) (number_fits e d a.node a.width fit c.requires.left)
     (subst (λ n. number_at e d b.node < 2 ^ n) (sym c.requires.same) (number_fits e d b.node b.width fit c.requires.right))))
+
+pub returns-in_err-right-clause-keeps : goal.returns-in_err-right-clause-keeps
+returns-in_err-right-clause-keeps c = keeps_then c.args.dag.now c.with_bits.new.dag c.with_bits-2.new.dag c.in_ok-left.ensures.keeps c.with_bits-2.ensures.keeps
+
+pub returns-in_err-number-2-clause-keeps : goal.returns-in_err-number-2-clause-keeps
+returns-in_err-number-2-clause-keeps c = keeps_then c.args.dag.now c.with_bits-2.new.dag c.two-2.new.dag (keeps_then c.args.dag.now c.with_bits.new.dag c.with_bits-2.new.dag c.in_ok-left.ensures.keeps c.in_ok-right.ensures.keeps) c.two-2.ensures.keeps
+
+pub returns-clause-keeps : goal.returns-clause-keeps
+returns-clause-keeps c = keeps_then c.args.dag.now c.with_bits-2.new.dag c.two-2.new.dag (keeps_then c.args.dag.now c.with_bits.new.dag c.with_bits-2.new.dag c.in_ok-left.ensures.keeps c.in_ok-right.ensures.keeps) c.in_ok-number-2.ensures.keeps

@@ -1,6 +1,6 @@
 use Rattle.std.proofs.Common.{◌≡◌, ◌+◌, ◌++◌, ◌<◌, ◌∷◌, [], take, length, sym, subst, ap, ◌∙◌, arith}
 use Rattle.elab_node.specs.Leaves.{declared}
-use Rattle.elab_node.proofs.Kept.{keeps_then}
+use Rattle.elab_node.proofs.Kept.{keeps_same, keeps_then}
 use Rattle.elab_block.specs.Lefts.{AreParts}
 use Rattle.elab_block.proofs.Sides.{each_ready, one_part, more_parts, parts_kept, concat_parts}
 use Rattle.elab_block.proofs.Joins.{take_next}
@@ -37,3 +37,15 @@ targets_of-returns-in_ok-targets-in-Name-clause-parts t c =
 pub targets_of-returns-in_ok-targets-in-Concat-clause-parts : goal.targets_of-returns-in_ok-targets-in-Concat-clause-parts
 targets_of-returns-in_ok-targets-in-Concat-clause-parts t c =
     concat_parts c.args.leaves.now c.row_targets.new.dag c.args.left.now c.in-Concat.lefts c.row.result.now c.in_ok-targets-in-Concat.targets.items c.in-Concat.is c.row.ensures.same c.in_ok-targets-in-Concat.ensures.parts
+
+pub row_targets-returns-in_err-more-clause-keeps : goal.row_targets-returns-in_err-more-clause-keeps
+row_targets-returns-in_err-more-clause-keeps t c = keeps_then c.args.dag.now c.loop-left.dag c.targets_of.new.dag c.loop-left.invariant.keeps c.targets_of.ensures.keeps
+
+pub row_targets-returns-in_err-append-clause-keeps : goal.row_targets-returns-in_err-append-clause-keeps
+row_targets-returns-in_err-append-clause-keeps t c = keeps_then c.args.dag.now c.loop-left.dag c.targets_of.new.dag c.loop-left.invariant.keeps c.in_ok-more.ensures.keeps
+
+pub targets_of-returns-in_err-targets-in-Name-clause-keeps : goal.targets_of-returns-in_err-targets-in-Name-clause-keeps
+targets_of-returns-in_err-targets-in-Name-clause-keeps t c = keeps_same c.args.dag.now
+
+pub targets_of-returns-in_ok-targets-in-Name-clause-keeps : goal.targets_of-returns-in_ok-targets-in-Name-clause-keeps
+targets_of-returns-in_ok-targets-in-Name-clause-keeps t c = keeps_same c.args.dag.now

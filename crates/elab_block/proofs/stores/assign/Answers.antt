@@ -41,3 +41,12 @@ returns-clause-runs c =
     let wide : w ≡ bits_in ts = c.bits-width.ensures ∙ ap bits_in (c.deref.ensures.value ∙ sym c.deref-2.ensures.value) in
     let node = subst (λ z. Makes d c.in_ok-node.node w (λ e. assigned (valued z (words e b)) c.args.right.now w)) c.seen-2.ensures.value c.in_ok-node.ensures.node in
     store_runs r ms c.give.new.state a b d f c.args.left.now c.args.right.now ts w c.in_ok-node.node c.requires.set c.in_ok-targets.ensures.keeps parts wide c.in_ok-node.ensures.keeps node c.in_ok-give.ensures.gives
+
+pub returns-in_err-node-clause-keeps : goal.returns-in_err-node-clause-keeps
+returns-in_err-node-clause-keeps c = keeps_then c.args.dag.now c.targets_of.new.dag c.assigned_node.new.dag c.in_ok-targets.ensures.keeps c.assigned_node.ensures.keeps
+
+pub returns-in_err-give-clause-keeps : goal.returns-in_err-give-clause-keeps
+returns-in_err-give-clause-keeps c = keeps_then c.args.dag.now c.assigned_node.new.dag c.give.new.dag (keeps_then c.args.dag.now c.targets_of.new.dag c.assigned_node.new.dag c.in_ok-targets.ensures.keeps c.in_ok-node.ensures.keeps) c.give.ensures.keeps
+
+pub returns-clause-keeps : goal.returns-clause-keeps
+returns-clause-keeps c = keeps_then c.args.dag.now c.assigned_node.new.dag c.give.new.dag (keeps_then c.args.dag.now c.targets_of.new.dag c.assigned_node.new.dag c.in_ok-targets.ensures.keeps c.in_ok-node.ensures.keeps) c.in_ok-give.ensures.keeps

@@ -30,3 +30,12 @@ returns-clause-makes c =
     made_number e two c.in_ok-bits.bits o.width _ b ∙ (λ r. moved_down (z r) (number_kept e d one c.args.a.node c.args.a.width k c.requires.node r) % 2 ^ o.width) in
     let rest : number_at e two o.node ≡ number_at e d o.node = number_kept e d two o.node o.width (keeps_then d one two k j) c.requires.other in
     λ r. if test r then bits r else rest r)
+
+pub returns-in_err-bits-clause-keeps : goal.returns-in_err-bits-clause-keeps
+returns-in_err-bits-clause-keeps c = keeps_then c.args.dag.now c.hit.new.dag c.moved.new.dag c.in_ok-hit.ensures.keeps c.moved.ensures.keeps
+
+pub returns-in_err-number-clause-keeps : goal.returns-in_err-number-clause-keeps
+returns-in_err-number-clause-keeps c = keeps_then c.args.dag.now c.moved.new.dag c.choice.new.dag (keeps_then c.args.dag.now c.hit.new.dag c.moved.new.dag c.in_ok-hit.ensures.keeps c.in_ok-bits.ensures.keeps) c.choice.ensures.keeps
+
+pub returns-clause-keeps : goal.returns-clause-keeps
+returns-clause-keeps c = keeps_then c.args.dag.now c.moved.new.dag c.choice.new.dag (keeps_then c.args.dag.now c.hit.new.dag c.moved.new.dag c.in_ok-hit.ensures.keeps c.in_ok-bits.ensures.keeps) c.in_ok-number.ensures.keeps

@@ -228,6 +228,185 @@ node_at-returns-in_ok-node-in-Choice-clause-node t c =
     c.in_ok-b-in-Choice.ensures.keeps c.in_ok-b-in-Choice.ensures.ready c.in_ok-node-in-Choice.ensures.keeps c.in-Choice.is c.alone-in-Choice.ensures.same c.operand-in-Choice.ensures.same c.operand-in-Choice-2.ensures.same c.in_ok-condition-in-Choice.ensures.node c.in_ok-a-in-Choice.ensures.node
     c.in_ok-b-in-Choice.ensures.node c.in_ok-node-in-Choice.ensures.makes
 
+-- ---- what is kept, and what the leaves are, at each exit
+
+pub node_at-returns-in_err-node-in-Number-clause-ready : goal.node_at-returns-in_err-node-in-Number-clause-ready
+node_at-returns-in_err-node-in-Number-clause-ready t c = ready_kept c.args.leaves.now c.args.dag.now c.number_node.new.dag c.number_node.ensures.keeps c.requires.ready
+
+pub node_at-returns-in_ok-node-in-Number-clause-ready : goal.node_at-returns-in_ok-node-in-Number-clause-ready
+node_at-returns-in_ok-node-in-Number-clause-ready t c = ready_kept c.args.leaves.now c.args.dag.now c.number_node.new.dag c.in_ok-node-in-Number.ensures.keeps c.requires.ready
+
+pub node_at-returns-in_err-node-in-Name-clause-ready : goal.node_at-returns-in_err-node-in-Name-clause-ready
+node_at-returns-in_err-node-in-Name-clause-ready t c = ready_kept c.args.leaves.now c.args.dag.now c.name_node.new.dag c.name_node.ensures.keeps c.requires.ready
+
+pub node_at-returns-in_ok-node-in-Name-clause-ready : goal.node_at-returns-in_ok-node-in-Name-clause-ready
+node_at-returns-in_ok-node-in-Name-clause-ready t c = ready_kept c.args.leaves.now c.args.dag.now c.name_node.new.dag c.in_ok-node-in-Name.ensures.keeps c.requires.ready
+
+pub node_at-returns-in_err-node-in-Select-clause-keeps : goal.node_at-returns-in_err-node-in-Select-clause-keeps
+node_at-returns-in_err-node-in-Select-clause-keeps t c = keeps_then c.args.dag.now c.own_node.new.dag c.based_bits.new.dag c.in_ok-index-in-Select.ensures.keeps c.based_bits.ensures.keeps
+
+pub node_at-returns-in_err-node-in-Select-clause-ready : goal.node_at-returns-in_err-node-in-Select-clause-ready
+node_at-returns-in_err-node-in-Select-clause-ready t c = ready_kept c.args.leaves.now c.own_node.new.dag c.based_bits.new.dag c.based_bits.ensures.keeps c.in_ok-index-in-Select.ensures.ready
+
+pub node_at-returns-in_ok-node-in-Select-clause-keeps : goal.node_at-returns-in_ok-node-in-Select-clause-keeps
+node_at-returns-in_ok-node-in-Select-clause-keeps t c = keeps_then c.args.dag.now c.own_node.new.dag c.based_bits.new.dag c.in_ok-index-in-Select.ensures.keeps c.in_ok-node-in-Select.ensures.keeps
+
+pub node_at-returns-in_ok-node-in-Select-clause-ready : goal.node_at-returns-in_ok-node-in-Select-clause-ready
+node_at-returns-in_ok-node-in-Select-clause-ready t c = ready_kept c.args.leaves.now c.own_node.new.dag c.based_bits.new.dag c.in_ok-node-in-Select.ensures.keeps c.in_ok-index-in-Select.ensures.ready
+
+pub node_at-returns-in_err-node-in-Part-clause-ready : goal.node_at-returns-in_err-node-in-Part-clause-ready
+node_at-returns-in_err-node-in-Part-clause-ready t c = ready_kept c.args.leaves.now c.args.dag.now c.fixed_bits.new.dag c.fixed_bits.ensures.keeps c.requires.ready
+
+pub node_at-returns-then-is_fixed-clause-ready : goal.node_at-returns-then-is_fixed-clause-ready
+node_at-returns-then-is_fixed-clause-ready t c = ready_kept c.args.leaves.now c.args.dag.now c.fixed_bits.new.dag c.in_ok-node-in-Part.ensures.keeps c.requires.ready
+
+pub node_at-returns-in_err-node-in-Part-2-clause-keeps : goal.node_at-returns-in_err-node-in-Part-2-clause-keeps
+node_at-returns-in_err-node-in-Part-2-clause-keeps t c = keeps_then c.args.dag.now c.own_node-in-Part.new.dag c.based_bits-in-Part.new.dag c.in_ok-base-in-Part.ensures.keeps c.based_bits-in-Part.ensures.keeps
+
+pub node_at-returns-in_err-node-in-Part-2-clause-ready : goal.node_at-returns-in_err-node-in-Part-2-clause-ready
+node_at-returns-in_err-node-in-Part-2-clause-ready t c = ready_kept c.args.leaves.now c.own_node-in-Part.new.dag c.based_bits-in-Part.new.dag c.based_bits-in-Part.ensures.keeps c.in_ok-base-in-Part.ensures.ready
+
+pub node_at-returns-in_ok-node-in-Part-2-clause-keeps : goal.node_at-returns-in_ok-node-in-Part-2-clause-keeps
+node_at-returns-in_ok-node-in-Part-2-clause-keeps t c = keeps_then c.args.dag.now c.own_node-in-Part.new.dag c.based_bits-in-Part.new.dag c.in_ok-base-in-Part.ensures.keeps c.in_ok-node-in-Part-2.ensures.keeps
+
+pub node_at-returns-in_ok-node-in-Part-2-clause-ready : goal.node_at-returns-in_ok-node-in-Part-2-clause-ready
+node_at-returns-in_ok-node-in-Part-2-clause-ready t c = ready_kept c.args.leaves.now c.own_node-in-Part.new.dag c.based_bits-in-Part.new.dag c.in_ok-node-in-Part-2.ensures.keeps c.in_ok-base-in-Part.ensures.ready
+
+pub node_at-returns-in_err-vector-in-ConstantSelect-clause-keeps : goal.node_at-returns-in_err-vector-in-ConstantSelect-clause-keeps
+node_at-returns-in_err-vector-in-ConstantSelect-clause-keeps t c = keeps_then c.args.dag.now c.own_node-in-ConstantSelect.new.dag c.constant_vector.new.dag c.in_ok-index-in-ConstantSelect.ensures.keeps c.constant_vector.ensures.keeps
+
+pub node_at-returns-in_err-vector-in-ConstantSelect-clause-ready : goal.node_at-returns-in_err-vector-in-ConstantSelect-clause-ready
+node_at-returns-in_err-vector-in-ConstantSelect-clause-ready t c = ready_kept c.args.leaves.now c.own_node-in-ConstantSelect.new.dag c.constant_vector.new.dag c.constant_vector.ensures.keeps c.in_ok-index-in-ConstantSelect.ensures.ready
+
+pub node_at-returns-in_err-node-in-ConstantSelect-clause-keeps : goal.node_at-returns-in_err-node-in-ConstantSelect-clause-keeps
+node_at-returns-in_err-node-in-ConstantSelect-clause-keeps t c = keeps_then c.args.dag.now c.constant_vector.new.dag c.based_bits-in-ConstantSelect.new.dag (keeps_then c.args.dag.now c.own_node-in-ConstantSelect.new.dag c.constant_vector.new.dag c.in_ok-index-in-ConstantSelect.ensures.keeps c.in_ok-vector-in-ConstantSelect.ensures.keeps) c.based_bits-in-ConstantSelect.ensures.keeps
+
+pub node_at-returns-in_err-node-in-ConstantSelect-clause-ready : goal.node_at-returns-in_err-node-in-ConstantSelect-clause-ready
+node_at-returns-in_err-node-in-ConstantSelect-clause-ready t c = ready_kept c.args.leaves.now c.constant_vector.new.dag c.based_bits-in-ConstantSelect.new.dag c.based_bits-in-ConstantSelect.ensures.keeps (ready_kept c.args.leaves.now c.own_node-in-ConstantSelect.new.dag c.constant_vector.new.dag c.in_ok-vector-in-ConstantSelect.ensures.keeps c.in_ok-index-in-ConstantSelect.ensures.ready)
+
+pub node_at-returns-in_ok-node-in-ConstantSelect-clause-keeps : goal.node_at-returns-in_ok-node-in-ConstantSelect-clause-keeps
+node_at-returns-in_ok-node-in-ConstantSelect-clause-keeps t c = keeps_then c.args.dag.now c.constant_vector.new.dag c.based_bits-in-ConstantSelect.new.dag (keeps_then c.args.dag.now c.own_node-in-ConstantSelect.new.dag c.constant_vector.new.dag c.in_ok-index-in-ConstantSelect.ensures.keeps c.in_ok-vector-in-ConstantSelect.ensures.keeps) c.in_ok-node-in-ConstantSelect.ensures.keeps
+
+pub node_at-returns-in_ok-node-in-ConstantSelect-clause-ready : goal.node_at-returns-in_ok-node-in-ConstantSelect-clause-ready
+node_at-returns-in_ok-node-in-ConstantSelect-clause-ready t c = ready_kept c.args.leaves.now c.constant_vector.new.dag c.based_bits-in-ConstantSelect.new.dag c.in_ok-node-in-ConstantSelect.ensures.keeps (ready_kept c.args.leaves.now c.own_node-in-ConstantSelect.new.dag c.constant_vector.new.dag c.in_ok-vector-in-ConstantSelect.ensures.keeps c.in_ok-index-in-ConstantSelect.ensures.ready)
+
+pub node_at-returns-in_err-node-in-ConstantPart-clause-ready : goal.node_at-returns-in_err-node-in-ConstantPart-clause-ready
+node_at-returns-in_err-node-in-ConstantPart-clause-ready t c = ready_kept c.args.leaves.now c.args.dag.now c.constant_node.new.dag c.constant_node.ensures.keeps c.requires.ready
+
+pub node_at-returns-then-is_fixed-2-clause-ready : goal.node_at-returns-then-is_fixed-2-clause-ready
+node_at-returns-then-is_fixed-2-clause-ready t c = ready_kept c.args.leaves.now c.args.dag.now c.constant_node.new.dag c.in_ok-node-in-ConstantPart.ensures.keeps c.requires.ready
+
+pub node_at-returns-in_err-vector-in-ConstantPart-clause-keeps : goal.node_at-returns-in_err-vector-in-ConstantPart-clause-keeps
+node_at-returns-in_err-vector-in-ConstantPart-clause-keeps t c = keeps_then c.args.dag.now c.own_node-in-ConstantPart.new.dag c.constant_vector-in-ConstantPart.new.dag c.in_ok-base-in-ConstantPart.ensures.keeps c.constant_vector-in-ConstantPart.ensures.keeps
+
+pub node_at-returns-in_err-vector-in-ConstantPart-clause-ready : goal.node_at-returns-in_err-vector-in-ConstantPart-clause-ready
+node_at-returns-in_err-vector-in-ConstantPart-clause-ready t c = ready_kept c.args.leaves.now c.own_node-in-ConstantPart.new.dag c.constant_vector-in-ConstantPart.new.dag c.constant_vector-in-ConstantPart.ensures.keeps c.in_ok-base-in-ConstantPart.ensures.ready
+
+pub node_at-returns-in_err-node-in-ConstantPart-2-clause-keeps : goal.node_at-returns-in_err-node-in-ConstantPart-2-clause-keeps
+node_at-returns-in_err-node-in-ConstantPart-2-clause-keeps t c = keeps_then c.args.dag.now c.constant_vector-in-ConstantPart.new.dag c.based_bits-in-ConstantPart.new.dag (keeps_then c.args.dag.now c.own_node-in-ConstantPart.new.dag c.constant_vector-in-ConstantPart.new.dag c.in_ok-base-in-ConstantPart.ensures.keeps c.in_ok-vector-in-ConstantPart.ensures.keeps) c.based_bits-in-ConstantPart.ensures.keeps
+
+pub node_at-returns-in_err-node-in-ConstantPart-2-clause-ready : goal.node_at-returns-in_err-node-in-ConstantPart-2-clause-ready
+node_at-returns-in_err-node-in-ConstantPart-2-clause-ready t c = ready_kept c.args.leaves.now c.constant_vector-in-ConstantPart.new.dag c.based_bits-in-ConstantPart.new.dag c.based_bits-in-ConstantPart.ensures.keeps (ready_kept c.args.leaves.now c.own_node-in-ConstantPart.new.dag c.constant_vector-in-ConstantPart.new.dag c.in_ok-vector-in-ConstantPart.ensures.keeps c.in_ok-base-in-ConstantPart.ensures.ready)
+
+pub node_at-returns-in_ok-node-in-ConstantPart-2-clause-keeps : goal.node_at-returns-in_ok-node-in-ConstantPart-2-clause-keeps
+node_at-returns-in_ok-node-in-ConstantPart-2-clause-keeps t c = keeps_then c.args.dag.now c.constant_vector-in-ConstantPart.new.dag c.based_bits-in-ConstantPart.new.dag (keeps_then c.args.dag.now c.own_node-in-ConstantPart.new.dag c.constant_vector-in-ConstantPart.new.dag c.in_ok-base-in-ConstantPart.ensures.keeps c.in_ok-vector-in-ConstantPart.ensures.keeps) c.in_ok-node-in-ConstantPart-2.ensures.keeps
+
+pub node_at-returns-in_ok-node-in-ConstantPart-2-clause-ready : goal.node_at-returns-in_ok-node-in-ConstantPart-2-clause-ready
+node_at-returns-in_ok-node-in-ConstantPart-2-clause-ready t c = ready_kept c.args.leaves.now c.constant_vector-in-ConstantPart.new.dag c.based_bits-in-ConstantPart.new.dag c.in_ok-node-in-ConstantPart-2.ensures.keeps (ready_kept c.args.leaves.now c.own_node-in-ConstantPart.new.dag c.constant_vector-in-ConstantPart.new.dag c.in_ok-vector-in-ConstantPart.ensures.keeps c.in_ok-base-in-ConstantPart.ensures.ready)
+
+pub node_at-returns-in_err-node-in-Cast-clause-keeps : goal.node_at-returns-in_err-node-in-Cast-clause-keeps
+node_at-returns-in_err-node-in-Cast-clause-keeps t c = keeps_then c.args.dag.now c.own_node-in-Cast.new.dag c.extended.new.dag c.in_ok-inner-in-Cast.ensures.keeps c.extended.ensures.keeps
+
+pub node_at-returns-in_err-node-in-Cast-clause-ready : goal.node_at-returns-in_err-node-in-Cast-clause-ready
+node_at-returns-in_err-node-in-Cast-clause-ready t c = ready_kept c.args.leaves.now c.own_node-in-Cast.new.dag c.extended.new.dag c.extended.ensures.keeps c.in_ok-inner-in-Cast.ensures.ready
+
+pub node_at-returns-in_ok-node-in-Cast-clause-keeps : goal.node_at-returns-in_ok-node-in-Cast-clause-keeps
+node_at-returns-in_ok-node-in-Cast-clause-keeps t c = keeps_then c.args.dag.now c.own_node-in-Cast.new.dag c.extended.new.dag c.in_ok-inner-in-Cast.ensures.keeps c.in_ok-node-in-Cast.ensures.keeps
+
+pub node_at-returns-in_ok-node-in-Cast-clause-ready : goal.node_at-returns-in_ok-node-in-Cast-clause-ready
+node_at-returns-in_ok-node-in-Cast-clause-ready t c = ready_kept c.args.leaves.now c.own_node-in-Cast.new.dag c.extended.new.dag c.in_ok-node-in-Cast.ensures.keeps c.in_ok-inner-in-Cast.ensures.ready
+
+pub node_at-returns-in_err-node-in-Concat-clause-keeps : goal.node_at-returns-in_err-node-in-Concat-clause-keeps
+node_at-returns-in_err-node-in-Concat-clause-keeps t c = keeps_then c.args.dag.now c.row_node.new.dag c.extended-in-Concat.new.dag c.in_ok-all-in-Concat.ensures.keeps c.extended-in-Concat.ensures.keeps
+
+pub node_at-returns-in_err-node-in-Concat-clause-ready : goal.node_at-returns-in_err-node-in-Concat-clause-ready
+node_at-returns-in_err-node-in-Concat-clause-ready t c = ready_kept c.args.leaves.now c.row_node.new.dag c.extended-in-Concat.new.dag c.extended-in-Concat.ensures.keeps c.in_ok-all-in-Concat.ensures.ready
+
+pub node_at-returns-in_ok-node-in-Concat-clause-keeps : goal.node_at-returns-in_ok-node-in-Concat-clause-keeps
+node_at-returns-in_ok-node-in-Concat-clause-keeps t c = keeps_then c.args.dag.now c.row_node.new.dag c.extended-in-Concat.new.dag c.in_ok-all-in-Concat.ensures.keeps c.in_ok-node-in-Concat.ensures.keeps
+
+pub node_at-returns-in_ok-node-in-Concat-clause-ready : goal.node_at-returns-in_ok-node-in-Concat-clause-ready
+node_at-returns-in_ok-node-in-Concat-clause-ready t c = ready_kept c.args.leaves.now c.row_node.new.dag c.extended-in-Concat.new.dag c.in_ok-node-in-Concat.ensures.keeps c.in_ok-all-in-Concat.ensures.ready
+
+pub node_at-returns-in_err-all-in-Repeat-clause-keeps : goal.node_at-returns-in_err-all-in-Repeat-clause-keeps
+node_at-returns-in_err-all-in-Repeat-clause-keeps t c = keeps_then c.args.dag.now c.row_node-in-Repeat.new.dag c.copies.new.dag c.in_ok-once-in-Repeat.ensures.keeps c.copies.ensures.keeps
+
+pub node_at-returns-in_err-all-in-Repeat-clause-ready : goal.node_at-returns-in_err-all-in-Repeat-clause-ready
+node_at-returns-in_err-all-in-Repeat-clause-ready t c = ready_kept c.args.leaves.now c.row_node-in-Repeat.new.dag c.copies.new.dag c.copies.ensures.keeps c.in_ok-once-in-Repeat.ensures.ready
+
+pub node_at-returns-in_err-node-in-Repeat-clause-keeps : goal.node_at-returns-in_err-node-in-Repeat-clause-keeps
+node_at-returns-in_err-node-in-Repeat-clause-keeps t c = keeps_then c.args.dag.now c.copies.new.dag c.extended-in-Repeat.new.dag (keeps_then c.args.dag.now c.row_node-in-Repeat.new.dag c.copies.new.dag c.in_ok-once-in-Repeat.ensures.keeps c.in_ok-all-in-Repeat.ensures.keeps) c.extended-in-Repeat.ensures.keeps
+
+pub node_at-returns-in_err-node-in-Repeat-clause-ready : goal.node_at-returns-in_err-node-in-Repeat-clause-ready
+node_at-returns-in_err-node-in-Repeat-clause-ready t c = ready_kept c.args.leaves.now c.copies.new.dag c.extended-in-Repeat.new.dag c.extended-in-Repeat.ensures.keeps (ready_kept c.args.leaves.now c.row_node-in-Repeat.new.dag c.copies.new.dag c.in_ok-all-in-Repeat.ensures.keeps c.in_ok-once-in-Repeat.ensures.ready)
+
+pub node_at-returns-in_ok-node-in-Repeat-clause-keeps : goal.node_at-returns-in_ok-node-in-Repeat-clause-keeps
+node_at-returns-in_ok-node-in-Repeat-clause-keeps t c = keeps_then c.args.dag.now c.copies.new.dag c.extended-in-Repeat.new.dag (keeps_then c.args.dag.now c.row_node-in-Repeat.new.dag c.copies.new.dag c.in_ok-once-in-Repeat.ensures.keeps c.in_ok-all-in-Repeat.ensures.keeps) c.in_ok-node-in-Repeat.ensures.keeps
+
+pub node_at-returns-in_ok-node-in-Repeat-clause-ready : goal.node_at-returns-in_ok-node-in-Repeat-clause-ready
+node_at-returns-in_ok-node-in-Repeat-clause-ready t c = ready_kept c.args.leaves.now c.copies.new.dag c.extended-in-Repeat.new.dag c.in_ok-node-in-Repeat.ensures.keeps (ready_kept c.args.leaves.now c.row_node-in-Repeat.new.dag c.copies.new.dag c.in_ok-all-in-Repeat.ensures.keeps c.in_ok-once-in-Repeat.ensures.ready)
+
+pub node_at-returns-in_err-node-in-Unary-clause-keeps : goal.node_at-returns-in_err-node-in-Unary-clause-keeps
+node_at-returns-in_err-node-in-Unary-clause-keeps t c = keeps_then c.args.dag.now c.node_at-in-Unary.new.dag c.made.new.dag c.in_ok-inner-in-Unary.ensures.keeps c.made.ensures.keeps
+
+pub node_at-returns-in_err-node-in-Unary-clause-ready : goal.node_at-returns-in_err-node-in-Unary-clause-ready
+node_at-returns-in_err-node-in-Unary-clause-ready t c = ready_kept c.args.leaves.now c.node_at-in-Unary.new.dag c.made.new.dag c.made.ensures.keeps c.in_ok-inner-in-Unary.ensures.ready
+
+pub node_at-returns-in_ok-node-in-Unary-clause-keeps : goal.node_at-returns-in_ok-node-in-Unary-clause-keeps
+node_at-returns-in_ok-node-in-Unary-clause-keeps t c = keeps_then c.args.dag.now c.node_at-in-Unary.new.dag c.made.new.dag c.in_ok-inner-in-Unary.ensures.keeps c.in_ok-node-in-Unary.ensures.keeps
+
+pub node_at-returns-in_ok-node-in-Unary-clause-ready : goal.node_at-returns-in_ok-node-in-Unary-clause-ready
+node_at-returns-in_ok-node-in-Unary-clause-ready t c = ready_kept c.args.leaves.now c.node_at-in-Unary.new.dag c.made.new.dag c.in_ok-node-in-Unary.ensures.keeps c.in_ok-inner-in-Unary.ensures.ready
+
+pub node_at-returns-in_err-node-in-Binary-clause-ready : goal.node_at-returns-in_err-node-in-Binary-clause-ready
+node_at-returns-in_err-node-in-Binary-clause-ready t c = ready_kept c.args.leaves.now c.args.dag.now c.constant_node-then-is_division.new.dag c.constant_node-then-is_division.ensures.keeps c.requires.ready
+
+pub node_at-returns-then-is_division-clause-ready : goal.node_at-returns-then-is_division-clause-ready
+node_at-returns-then-is_division-clause-ready t c = ready_kept c.args.leaves.now c.args.dag.now c.constant_node-then-is_division.new.dag c.in_ok-node-in-Binary.ensures.keeps c.requires.ready
+
+pub node_at-returns-in_err-b-in-Binary-clause-keeps : goal.node_at-returns-in_err-b-in-Binary-clause-keeps
+node_at-returns-in_err-b-in-Binary-clause-keeps t c = keeps_then c.args.dag.now c.node_at-in-Binary.new.dag c.node_at-in-Binary-2.new.dag c.in_ok-a-in-Binary.ensures.keeps c.node_at-in-Binary-2.ensures.keeps
+
+pub node_at-returns-in_err-node-in-Binary-2-clause-keeps : goal.node_at-returns-in_err-node-in-Binary-2-clause-keeps
+node_at-returns-in_err-node-in-Binary-2-clause-keeps t c = keeps_then c.args.dag.now c.node_at-in-Binary-2.new.dag c.joined.new.dag (keeps_then c.args.dag.now c.node_at-in-Binary.new.dag c.node_at-in-Binary-2.new.dag c.in_ok-a-in-Binary.ensures.keeps c.in_ok-b-in-Binary.ensures.keeps) c.joined.ensures.keeps
+
+pub node_at-returns-in_err-node-in-Binary-2-clause-ready : goal.node_at-returns-in_err-node-in-Binary-2-clause-ready
+node_at-returns-in_err-node-in-Binary-2-clause-ready t c = ready_kept c.args.leaves.now c.node_at-in-Binary-2.new.dag c.joined.new.dag c.joined.ensures.keeps c.in_ok-b-in-Binary.ensures.ready
+
+pub node_at-returns-in_ok-node-in-Binary-2-clause-keeps : goal.node_at-returns-in_ok-node-in-Binary-2-clause-keeps
+node_at-returns-in_ok-node-in-Binary-2-clause-keeps t c = keeps_then c.args.dag.now c.node_at-in-Binary-2.new.dag c.joined.new.dag (keeps_then c.args.dag.now c.node_at-in-Binary.new.dag c.node_at-in-Binary-2.new.dag c.in_ok-a-in-Binary.ensures.keeps c.in_ok-b-in-Binary.ensures.keeps) c.in_ok-node-in-Binary-2.ensures.keeps
+
+pub node_at-returns-in_ok-node-in-Binary-2-clause-ready : goal.node_at-returns-in_ok-node-in-Binary-2-clause-ready
+node_at-returns-in_ok-node-in-Binary-2-clause-ready t c = ready_kept c.args.leaves.now c.node_at-in-Binary-2.new.dag c.joined.new.dag c.in_ok-node-in-Binary-2.ensures.keeps c.in_ok-b-in-Binary.ensures.ready
+
+pub node_at-returns-in_err-a-in-Choice-clause-keeps : goal.node_at-returns-in_err-a-in-Choice-clause-keeps
+node_at-returns-in_err-a-in-Choice-clause-keeps t c = keeps_then c.args.dag.now c.own_node-in-Choice.new.dag c.node_at-in-Choice.new.dag c.in_ok-condition-in-Choice.ensures.keeps c.node_at-in-Choice.ensures.keeps
+
+pub node_at-returns-in_err-b-in-Choice-clause-keeps : goal.node_at-returns-in_err-b-in-Choice-clause-keeps
+node_at-returns-in_err-b-in-Choice-clause-keeps t c = keeps_then c.args.dag.now c.node_at-in-Choice.new.dag c.node_at-in-Choice-2.new.dag (keeps_then c.args.dag.now c.own_node-in-Choice.new.dag c.node_at-in-Choice.new.dag c.in_ok-condition-in-Choice.ensures.keeps c.in_ok-a-in-Choice.ensures.keeps) c.node_at-in-Choice-2.ensures.keeps
+
+pub node_at-returns-in_err-node-in-Choice-clause-keeps : goal.node_at-returns-in_err-node-in-Choice-clause-keeps
+node_at-returns-in_err-node-in-Choice-clause-keeps t c = keeps_then c.args.dag.now c.node_at-in-Choice-2.new.dag c.chosen.new.dag (keeps_then c.args.dag.now c.node_at-in-Choice.new.dag c.node_at-in-Choice-2.new.dag (keeps_then c.args.dag.now c.own_node-in-Choice.new.dag c.node_at-in-Choice.new.dag c.in_ok-condition-in-Choice.ensures.keeps c.in_ok-a-in-Choice.ensures.keeps) c.in_ok-b-in-Choice.ensures.keeps) c.chosen.ensures.keeps
+
+pub node_at-returns-in_err-node-in-Choice-clause-ready : goal.node_at-returns-in_err-node-in-Choice-clause-ready
+node_at-returns-in_err-node-in-Choice-clause-ready t c = ready_kept c.args.leaves.now c.node_at-in-Choice-2.new.dag c.chosen.new.dag c.chosen.ensures.keeps c.in_ok-b-in-Choice.ensures.ready
+
+pub node_at-returns-in_ok-node-in-Choice-clause-keeps : goal.node_at-returns-in_ok-node-in-Choice-clause-keeps
+node_at-returns-in_ok-node-in-Choice-clause-keeps t c = keeps_then c.args.dag.now c.node_at-in-Choice-2.new.dag c.chosen.new.dag (keeps_then c.args.dag.now c.node_at-in-Choice.new.dag c.node_at-in-Choice-2.new.dag (keeps_then c.args.dag.now c.own_node-in-Choice.new.dag c.node_at-in-Choice.new.dag c.in_ok-condition-in-Choice.ensures.keeps c.in_ok-a-in-Choice.ensures.keeps) c.in_ok-b-in-Choice.ensures.keeps) c.in_ok-node-in-Choice.ensures.keeps
+
+pub node_at-returns-in_ok-node-in-Choice-clause-ready : goal.node_at-returns-in_ok-node-in-Choice-clause-ready
+node_at-returns-in_ok-node-in-Choice-clause-ready t c = ready_kept c.args.leaves.now c.node_at-in-Choice-2.new.dag c.chosen.new.dag c.in_ok-node-in-Choice.ensures.keeps c.in_ok-b-in-Choice.ensures.ready
+
 -- ---- an expression by itself
 
 pub own_node-returns-clause-node : goal.own_node-returns-clause-node
