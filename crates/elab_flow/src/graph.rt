@@ -66,6 +66,25 @@ fn registers(alloc: Global, scope: &Scope<'_>, flat: &Flat) -> Result<Vec<bool>,
     Ok(set)
 }
 
+// What the signals of a module depend on.
+fn dependences_among(
+    alloc: Global,
+    scope: &Scope<'_>,
+    flat: &Flat,
+) -> Result<Vec<Vec<usize>>, AllocError>
+    requires can { CanPass flat.now }
+    requires scope { scope.now ≡ flat.now.signals }
+    ensures size { IfOk result (λ r. length r.items ≡ length flat.now.signals) }
+    ensures vertices { IfOk result (λ r. IsGraph (graph_of r.items)) }
+    ensures depends { IfOk result (λ r. AreDependences flat.now (graph_of r.items)) }
+{
+    let mut edges = assigns_edges(alloc, scope.names(), flat.assigns.as_slice())?;
+    add_blocks_edges(&mut edges, alloc, scope, flat.blocks.as_slice())?;
+    let registers = registers(alloc, scope, flat)?;
+    let graph = graph_from(alloc, &registers, &edges)?;
+    Ok(graph)
+}
+
 /// For each signal the places of those that it depends on within a cycle, in the order of the module's signals: by continuous assignments,
 /// and by the assignments on the paths through combinational blocks. A register depends on none. Refused only for want of memory.
 pub fn dependences(alloc: Global, flat: &Flat) -> Result<Vec<Vec<usize>>, AllocError>
@@ -75,9 +94,5 @@ pub fn dependences(alloc: Global, flat: &Flat) -> Result<Vec<Vec<usize>>, AllocE
     ensures depends { IfOk result (λ r. AreDependences flat.now (graph_of r.items)) }
 {
     let scope = Scope::of(alloc, flat.signals.as_slice())?;
-    let mut edges = assigns_edges(alloc, scope.names(), flat.assigns.as_slice())?;
-    add_blocks_edges(&mut edges, alloc, &scope, flat.blocks.as_slice())?;
-    let registers = registers(alloc, &scope, flat)?;
-    let graph = graph_from(alloc, &registers, &edges)?;
-    Ok(graph)
+    dependences_among(alloc, &scope, flat)
 }

@@ -38,6 +38,28 @@ fn missed_in(
     }
 }
 
+// The same, where the signals are not yet found by their names.
+fn missed_inside(alloc: Global, scope: &Scope<'_>, body: &Stmt) -> Result<Option<usize>, AllocError>
+    requires vectors { AreVectors scope.now }
+    requires body { IsPassable scope.now body.now }
+    ensures some { IfOk result (λ o. IfSome o (λ i. OfSignal scope.now i (Misses (place_over scope.now) body.now))) }
+    ensures none { IfOk result (λ o. IfNone o ((x : Name) → Misses (place_over scope.now) body.now x → ⊥)) }
+{
+    let signals = Declared::of(alloc, scope.list())?;
+    missed_in(alloc, scope, &signals, body)
+}
+
+// The same for the signals of a list.
+fn missed_of_list(alloc: Global, list: &[Signal], body: &Stmt) -> Result<Option<usize>, AllocError>
+    requires vectors { AreVectors list.now }
+    requires body { IsPassable list.now body.now }
+    ensures some { IfOk result (λ o. IfSome o (λ i. OfSignal list.now i (Misses (place_over list.now) body.now))) }
+    ensures none { IfOk result (λ o. IfNone o ((x : Name) → Misses (place_over list.now) body.now x → ⊥)) }
+{
+    let scope = Scope::of(alloc, list)?;
+    missed_inside(alloc, &scope, body)
+}
+
 // The same, found among the signals that the statement names.
 fn missed_among_own(
     alloc: Global,
@@ -50,9 +72,7 @@ fn missed_among_own(
     ensures none { IfOk result (λ o. IfNone o ((x : Name) → Misses (place_over scope.now) body.now x → ⊥)) }
 {
     let own = own_signals(alloc, scope, body)?;
-    let inner = Scope::of(alloc, &own.signals)?;
-    let signals = Declared::of(alloc, &own.signals)?;
-    match missed_in(alloc, &inner, &signals, body)? {
+    match missed_of_list(alloc, &own.signals, body)? {
         Some(place) => Ok(Some(whole_place(&own.places, place))),
         None => Ok(None),
     }
@@ -100,19 +120,28 @@ pub fn name_at(alloc: Global, signals: &[Signal], place: usize) -> Result<Text, 
     Ok(name)
 }
 
+// The name of such a signal.
+fn latch_in(alloc: Global, scope: &Scope<'_>, flat: &Flat) -> Result<Option<Text>, AllocError>
+    requires can { CanPass flat.now }
+    requires scope { scope.now ≡ flat.now.signals }
+    ensures some { IfOk result (λ o. IfSome o (λ x. Stands flat.now (f.Latch x))) }
+    ensures none { IfOk result (λ o. IfNone o ((x : Name) → Stands flat.now (f.Latch x) → ⊥)) }
+{
+    match missed_of(alloc, scope, flat.blocks.as_slice())? {
+        Some(place) => {
+            let name = name_at(alloc, scope.list(), place)?;
+            Ok(Some(name))
+        }
+        None => Ok(None),
+    }
+}
+
 /// A signal of which a combinational block drives a bit that some path through it doesn't set. Refused only for want of memory.
 pub fn latch_of(alloc: Global, flat: &Flat) -> Result<Option<Text>, AllocError>
     requires { CanPass flat.now }
     ensures some { IfOk result (λ o. IfSome o (λ x. Stands flat.now (f.Latch x))) }
     ensures none { IfOk result (λ o. IfNone o ((x : Name) → Stands flat.now (f.Latch x) → ⊥)) }
 {
-    let list = flat.signals.as_slice();
-    let scope = Scope::of(alloc, list)?;
-    match missed_of(alloc, &scope, flat.blocks.as_slice())? {
-        Some(place) => {
-            let name = name_at(alloc, list, place)?;
-            Ok(Some(name))
-        }
-        None => Ok(None),
-    }
+    let scope = Scope::of(alloc, flat.signals.as_slice())?;
+    latch_in(alloc, &scope, flat)
 }

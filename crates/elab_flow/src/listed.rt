@@ -63,6 +63,22 @@ fn unlisted_by(
     Ok(place)
 }
 
+// The same for the signals of a list.
+fn unlisted_of_list(
+    alloc: Global,
+    list: &[Signal],
+    body: &Stmt,
+    listed: &[Text],
+) -> Result<Option<usize>, AllocError>
+    requires vectors { AreVectors list.now }
+    requires body { IsPassable list.now body.now }
+    ensures some { IfOk result (λ o. IfSome o (λ i. OfSignal list.now i (ReadsBesides (place_over list.now) body.now listed.now))) }
+    ensures none { IfOk result (λ o. IfNone o ((x : Name) → ReadsBesides (place_over list.now) body.now listed.now x → ⊥)) }
+{
+    let scope = Scope::of(alloc, list)?;
+    unlisted_by(alloc, &scope, body, listed)
+}
+
 // The same, found among the signals that the statement names.
 fn unlisted_among_own(
     alloc: Global,
@@ -76,8 +92,7 @@ fn unlisted_among_own(
     ensures none { IfOk result (λ o. IfNone o ((x : Name) → ReadsBesides (place_over scope.now) body.now listed.now x → ⊥)) }
 {
     let own = own_signals(alloc, scope, body)?;
-    let inner = Scope::of(alloc, &own.signals)?;
-    match unlisted_by(alloc, &inner, body, listed)? {
+    match unlisted_of_list(alloc, &own.signals, body, listed)? {
         Some(place) => Ok(Some(whole_place(&own.places, place))),
         None => Ok(None),
     }
@@ -125,6 +140,22 @@ fn unlisted_of(
     Ok(None)
 }
 
+// The name of such a signal.
+fn unlisted_name(alloc: Global, scope: &Scope<'_>, flat: &Flat) -> Result<Option<Text>, AllocError>
+    requires can { CanPass flat.now }
+    requires scope { scope.now ≡ flat.now.signals }
+    ensures some { IfOk result (λ o. IfSome o (λ x. Stands flat.now (f.Sensitivity x))) }
+    ensures none { IfOk result (λ o. IfNone o ((x : Name) → Stands flat.now (f.Sensitivity x) → ⊥)) }
+{
+    match unlisted_of(alloc, scope, flat.blocks.as_slice())? {
+        Some(place) => {
+            let name = name_at(alloc, scope.list(), place)?;
+            Ok(Some(name))
+        }
+        None => Ok(None),
+    }
+}
+
 /// A signal that a combinational block with a list of names reads on some path where it hasn't set all of it, though the list leaves it
 /// out. Refused only for want of memory.
 pub fn unlisted_in(alloc: Global, flat: &Flat) -> Result<Option<Text>, AllocError>
@@ -132,13 +163,6 @@ pub fn unlisted_in(alloc: Global, flat: &Flat) -> Result<Option<Text>, AllocErro
     ensures some { IfOk result (λ o. IfSome o (λ x. Stands flat.now (f.Sensitivity x))) }
     ensures none { IfOk result (λ o. IfNone o ((x : Name) → Stands flat.now (f.Sensitivity x) → ⊥)) }
 {
-    let list = flat.signals.as_slice();
-    let scope = Scope::of(alloc, list)?;
-    match unlisted_of(alloc, &scope, flat.blocks.as_slice())? {
-        Some(place) => {
-            let name = name_at(alloc, list, place)?;
-            Ok(Some(name))
-        }
-        None => Ok(None),
-    }
+    let scope = Scope::of(alloc, flat.signals.as_slice())?;
+    unlisted_name(alloc, &scope, flat)
 }

@@ -1,3 +1,4 @@
+pub mod Pairs
 pub mod Exprs
 pub mod Lefts
 pub mod Stmts

@@ -5,6 +5,7 @@ ghost use Rattle.vlog_tree.specs.declared.expr.Expr.TheVariants as e;
 ghost use Rattle.vlog_tree.specs.Valuation.{meaning_of};
 ghost use Rattle.flat_laws.specs.Moved.{number_for, under, moved, moved_name, moved_select, moved_part};
 
+use crate::pair::both;
 use outside::Text;
 use sqlite_items::{Boxed, Items};
 use std::alloc::{AllocError, Global};
@@ -86,7 +87,10 @@ impl Mover<'_> {
     {
         match self.meaning(name) {
             Some(constant) => Ok(Expr::ConstantSelect(constant, index)),
-            None => Ok(Expr::Select(self.under(name)?, index)),
+            None => {
+                let (name, index) = both(self.under(name), Ok(index))?;
+                Ok(Expr::Select(name, index))
+            }
         }
     }
 
@@ -101,7 +105,10 @@ impl Mover<'_> {
     {
         match self.meaning(name) {
             Some(constant) => Ok(Expr::ConstantPart(constant, span, a, b)),
-            None => Ok(Expr::Part(self.under(name)?, span, a, b)),
+            None => {
+                let (name, (a, b)) = both(self.under(name), Ok((a, b)))?;
+                Ok(Expr::Part(name, span, a, b))
+            }
         }
     }
 
@@ -115,32 +122,32 @@ impl Mover<'_> {
             Expr::Name(name) => self.name(name),
             Expr::Select(name, index) => self.select(name, self.boxed(index.get())?),
             Expr::Part(name, span, a, b) => {
-                let a = self.boxed(a.get())?;
-                self.part(name, *span, a, self.boxed(b.get())?)
+                let (a, b) = both(self.boxed(a.get()), self.boxed(b.get()))?;
+                self.part(name, *span, a, b)
             }
             Expr::ConstantSelect(vector, index) => {
                 Ok(Expr::ConstantSelect(*vector, self.boxed(index.get())?))
             }
             Expr::ConstantPart(vector, span, a, b) => {
-                let a = self.boxed(a.get())?;
-                Ok(Expr::ConstantPart(*vector, *span, a, self.boxed(b.get())?))
+                let (a, b) = both(self.boxed(a.get()), self.boxed(b.get()))?;
+                Ok(Expr::ConstantPart(*vector, *span, a, b))
             }
             Expr::Cast(cast, inner) => Ok(Expr::Cast(*cast, self.boxed(inner.get())?)),
             Expr::Paren(inner) => Ok(Expr::Paren(self.boxed(inner.get())?)),
             Expr::Concat(parts) => Ok(Expr::Concat(self.exprs(parts.as_slice())?)),
             Expr::Repeat(count, parts) => {
-                let count = self.boxed(count.get())?;
-                Ok(Expr::Repeat(count, self.exprs(parts.as_slice())?))
+                let (count, parts) = both(self.boxed(count.get()), self.exprs(parts.as_slice()))?;
+                Ok(Expr::Repeat(count, parts))
             }
             Expr::Unary(op, a) => Ok(Expr::Unary(*op, self.boxed(a.get())?)),
             Expr::Binary(op, a, b) => {
-                let a = self.boxed(a.get())?;
-                Ok(Expr::Binary(*op, a, self.boxed(b.get())?))
+                let (a, b) = both(self.boxed(a.get()), self.boxed(b.get()))?;
+                Ok(Expr::Binary(*op, a, b))
             }
             Expr::Choice(condition, a, b) => {
-                let condition = self.boxed(condition.get())?;
-                let a = self.boxed(a.get())?;
-                self.choice(b.get(), condition, a)
+                let ends = both(self.boxed(a.get()), self.boxed(b.get()));
+                let (condition, (a, b)) = both(self.boxed(condition.get()), ends)?;
+                Ok(Expr::Choice(condition, a, b))
             }
         }
     }
@@ -150,19 +157,6 @@ impl Mover<'_> {
         ensures { IfOk result (λ r. r ≡ moved self.now.prefix.now self.now.params.now expr.now) }
     {
         Boxed::new(self.alloc, self.expr(expr)?)
-    }
-
-    /// The choice whose last operand is this one.
-    #[cycle(expr)]
-    fn choice(
-        &self,
-        last: &Expr,
-        condition: Boxed<Expr>,
-        first: Boxed<Expr>,
-    ) -> Result<Expr, AllocError>
-        ensures { IfOk result (λ r. r ≡ e.Choice condition first (moved self.now.prefix.now self.now.params.now last.now)) }
-    {
-        Ok(Expr::Choice(condition, first, self.boxed(last)?))
     }
 
     /// Expressions of the scope.

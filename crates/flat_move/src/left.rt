@@ -4,6 +4,7 @@ ghost use Rattle.std.specs.Prelude.{◌≡◌, IfOk, map};
 ghost use Rattle.flat_laws.specs.Moved.{moved_left};
 
 use crate::expr::Mover;
+use crate::pair::both;
 use sqlite_items::Items;
 use std::alloc::{AllocError, Global};
 use vlog_tree::{Lval, Valuation};
@@ -17,13 +18,13 @@ impl Mover<'_> {
         match left {
             Lval::Name(name) => Ok(Lval::Name(self.text(name.bytes())?)),
             Lval::Select(name, index) => {
-                let index = self.expr(index)?;
-                Ok(Lval::Select(self.text(name.bytes())?, index))
+                let (name, index) = both(self.text(name.bytes()), self.expr(index))?;
+                Ok(Lval::Select(name, index))
             }
             Lval::Part(name, span, a, b) => {
-                let a = self.expr(a)?;
-                let b = self.expr(b)?;
-                Ok(Lval::Part(self.text(name.bytes())?, *span, a, b))
+                let ends = both(self.expr(a), self.expr(b));
+                let (name, (a, b)) = both(self.text(name.bytes()), ends)?;
+                Ok(Lval::Part(name, *span, a, b))
             }
             Lval::Concat(parts) => Ok(Lval::Concat(self.lefts(parts.as_slice())?)),
         }

@@ -3,10 +3,12 @@
 
 mod expr;
 mod left;
+mod pair;
 mod stmt;
 mod text;
 
 pub use expr::{Mover, moved_expr};
 pub use left::moved_left;
+pub use pair::both;
 pub use stmt::moved_stmt;
 pub use text::{moved_block, moved_link, moved_signal};

@@ -6,6 +6,7 @@ ghost use Rattle.flat_laws.specs.Moved.{moved, moved_left, moved_labels, moved_s
 ghost use Rattle.flat_move.specs.Cases.{moved_case};
 
 use crate::expr::Mover;
+use crate::pair::both;
 use outside::Text;
 use sqlite_items::{Boxed, Items};
 use std::alloc::{AllocError, Global};
@@ -41,8 +42,9 @@ impl Mover<'_> {
             Stmt::Block(name, stmts) => self.block(stmts.as_slice(), name),
             Stmt::If(condition, body) => self.if_only(body.get(), condition),
             Stmt::IfElse(condition, body, other) => {
-                let body = self.branch(body.get())?;
-                self.if_else(other.get(), condition, body)
+                let branches = both(self.branch(body.get()), self.branch(other.get()));
+                let (condition, (body, other)) = both(self.expr(condition), branches)?;
+                Ok(Stmt::IfElse(condition, body, other))
             }
             Stmt::Case(kind, subject, items) => self.case(items.as_slice(), *kind, subject),
             Stmt::Blocking(left, right) => self.blocking(left, right),
@@ -53,15 +55,15 @@ impl Mover<'_> {
     fn blocking(&self, left: &Lval, right: &Expr) -> Result<Stmt, AllocError>
         ensures { IfOk result (λ r. r ≡ s.Blocking (moved_left self.now.prefix.now self.now.params.now left.now) (moved self.now.prefix.now self.now.params.now right.now)) }
     {
-        let left = self.left(left)?;
-        Ok(Stmt::Blocking(left, self.expr(right)?))
+        let (left, right) = both(self.left(left), self.expr(right))?;
+        Ok(Stmt::Blocking(left, right))
     }
 
     fn nonblocking(&self, left: &Lval, right: &Expr) -> Result<Stmt, AllocError>
         ensures { IfOk result (λ r. r ≡ s.Nonblocking (moved_left self.now.prefix.now self.now.params.now left.now) (moved self.now.prefix.now self.now.params.now right.now)) }
     {
-        let left = self.left(left)?;
-        Ok(Stmt::Nonblocking(left, self.expr(right)?))
+        let (left, right) = both(self.left(left), self.expr(right))?;
+        Ok(Stmt::Nonblocking(left, right))
     }
 
     #[cycle(stmt)]
@@ -75,33 +77,24 @@ impl Mover<'_> {
     fn block(&self, stmts: &[Stmt], name: &Option<Text>) -> Result<Stmt, AllocError>
         ensures { IfOk result (λ r. r ≡ s.Block name.now (map (moved_stmt self.now.prefix.now self.now.params.now) stmts.now)) }
     {
-        let stmts = self.stmts(stmts)?;
-        Ok(Stmt::Block(copied(self.alloc, name)?, stmts))
+        let (name, stmts) = both(copied(self.alloc, name), self.stmts(stmts))?;
+        Ok(Stmt::Block(name, stmts))
     }
 
     #[cycle(stmt)]
     fn if_only(&self, body: &Stmt, condition: &Expr) -> Result<Stmt, AllocError>
         ensures { IfOk result (λ r. r ≡ s.If (moved self.now.prefix.now self.now.params.now condition.now) (moved_stmt self.now.prefix.now self.now.params.now body.now)) }
     {
-        let body = self.branch(body)?;
-        Ok(Stmt::If(self.expr(condition)?, body))
-    }
-
-    /// The `if` with this statement behind its `else`.
-    #[cycle(stmt)]
-    fn if_else(&self, other: &Stmt, condition: &Expr, body: Boxed<Stmt>) -> Result<Stmt, AllocError>
-        ensures { IfOk result (λ r. r ≡ s.IfElse (moved self.now.prefix.now self.now.params.now condition.now) body (moved_stmt self.now.prefix.now self.now.params.now other.now)) }
-    {
-        let other = self.branch(other)?;
-        Ok(Stmt::IfElse(self.expr(condition)?, body, other))
+        let (condition, body) = both(self.expr(condition), self.branch(body))?;
+        Ok(Stmt::If(condition, body))
     }
 
     #[cycle(stmt)]
     fn case(&self, items: &[CaseItem], kind: CaseKind, subject: &Expr) -> Result<Stmt, AllocError>
         ensures { IfOk result (λ r. r ≡ s.Case kind (moved self.now.prefix.now self.now.params.now subject.now) (map (moved_case self.now.prefix.now self.now.params.now) items.now)) }
     {
-        let items = self.cases(items)?;
-        Ok(Stmt::Case(kind, self.expr(subject)?, items))
+        let (subject, items) = both(self.expr(subject), self.cases(items))?;
+        Ok(Stmt::Case(kind, subject, items))
     }
 
     /// Statements of the scope.
@@ -123,8 +116,7 @@ impl Mover<'_> {
     {
         let mut all = Items::new(self.alloc);
         for item in items {
-            let labels = self.labels(&item.labels)?;
-            let body = self.stmt(&item.body)?;
+            let (labels, body) = both(self.labels(&item.labels), self.stmt(&item.body))?;
             all.push(CaseItem { labels, body })?;
         }
         Ok(all)

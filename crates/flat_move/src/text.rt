@@ -6,6 +6,7 @@ ghost use Rattle.flat_laws.specs.Moved.{moved_signal};
 ghost use Rattle.flat_laws.specs.Flattened.{moved_link, moved_names, moved_block};
 
 use crate::expr::{Mover, joined};
+use crate::pair::both;
 use outside::Text;
 use sqlite_items::Items;
 use std::alloc::{AllocError, Global};
@@ -75,10 +76,11 @@ pub fn moved_block(
         prefix,
         params,
     };
+    let (names, body) = both(moved_names(alloc, prefix, events), mover.stmt(body))?;
     Ok(Always {
         clocked: is_clocked(events),
-        names: moved_names(alloc, prefix, events)?,
-        body: mover.stmt(body)?,
+        names,
+        body,
     })
 }
 
@@ -98,8 +100,6 @@ pub fn moved_link(
           right = right.now;
         })) }
 {
-    Ok(Assign {
-        left: into.left(left)?,
-        right: from.expr(right)?,
-    })
+    let (left, right) = both(into.left(left), from.expr(right))?;
+    Ok(Assign { left, right })
 }

@@ -1,7 +1,8 @@
-use Rattle.std.proofs.Common.{refl}
-use Rattle.std.proofs.lemmas.Result.{IfOk-weaker}
+use Rattle.std.proofs.Common.{◌≡◌, Ok, refl}
+use Rattle.std.proofs.lemmas.Result.{IfOk-weaker, IfOk-at_ok}
 use Rattle.vlog_tree.specs.declared.stmt.Stmt.TheVariants as s
 use Rattle.flat_move.proofs.Stmts.{block_moved, case_moved, if_moved, if_else_moved, blocking_moved, nonblocking_moved}
+use Rattle.flat_move.proofs.Pairs.{made}
 use Rattle.flat_move.proofs.expr.Mover.+stmt.Goals as goal
 
 pub stmt-returns-in-Block : goal.stmt-returns-in-Block
@@ -16,12 +17,13 @@ stmt-returns-in-If t c =
     (λ r h. if_moved c.args.self.now.prefix.now c.args.self.now.params.now c.args.stmt.now c.in-If.condition _ c.in-If.body _ _ r c.in-If.is refl c.get.ensures refl h)
     c.if_only.ensures
 
-pub stmt-returns-in_ok-body-in-IfElse : goal.stmt-returns-in_ok-body-in-IfElse
-stmt-returns-in_ok-body-in-IfElse t c =
-    IfOk-weaker c.if_else.result _ _
-    (λ r h. if_else_moved c.args.self.now.prefix.now c.args.self.now.params.now c.args.stmt.now c.in-IfElse.condition _ c.in-IfElse.body _ _ c.in-IfElse.other _ _ r
-    c.in-IfElse.is refl c.get-in-IfElse.ensures c.in_ok-body-in-IfElse.ensures c.get-in-IfElse-2.ensures refl h)
-    c.if_else.ensures
+pub stmt-returns-in_ok-condition-in-IfElse : goal.stmt-returns-in_ok-condition-in-IfElse
+stmt-returns-in_ok-condition-in-IfElse t c =
+    let all = c.in_ok-condition-in-IfElse.ensures in
+    if_else_moved c.args.self.now.prefix.now c.args.self.now.params.now c.args.stmt.now c.in-IfElse.condition _ c.in-IfElse.body _ _ c.in-IfElse.other _ _ _
+    c.in-IfElse.is (made _ _ _ all.first c.expr.ensures) c.get-in-IfElse.ensures
+    (made _ _ _ (IfOk-at_ok (λ p. c.branch-self.result ≡ Ok p.0) all.second c.both-branches.ensures.first) c.branch-self.ensures) c.get-in-IfElse-2.ensures
+    (made _ _ _ (IfOk-at_ok (λ p. c.branch-self-in-IfElse.result ≡ Ok p.1) all.second c.both-branches.ensures.second) c.branch-self-in-IfElse.ensures) refl
 
 pub stmt-returns-in-Case : goal.stmt-returns-in-Case
 stmt-returns-in-Case t c =
@@ -42,13 +44,10 @@ stmt-returns-in-Nonblocking t c =
     c.nonblocking.ensures
 
 pub block-returns : goal.block-returns
-block-returns t c = λ z. s.Block (c.in_ok-copied.ensures z) (c.in_ok-stmts.ensures z)
+block-returns t c = λ z. s.Block (made _ _ _ c.in_ok-name.ensures.first c.copied.ensures z) (made _ _ _ c.in_ok-name.ensures.second c.stmts.ensures z)
 
 pub if_only-returns : goal.if_only-returns
-if_only-returns t c = λ z. s.If (c.in_ok-expr.ensures z) (c.in_ok-body.ensures z)
-
-pub if_else-returns : goal.if_else-returns
-if_else-returns t c = λ z. s.IfElse (c.in_ok-expr.ensures z) c.args.body (c.in_ok-other.ensures z)
+if_only-returns t c = λ z. s.If (made _ _ _ c.in_ok-condition.ensures.first c.expr.ensures z) (made _ _ _ c.in_ok-condition.ensures.second c.branch-self.ensures z)
 
 pub case-returns : goal.case-returns
-case-returns t c = λ z. s.Case c.args.kind (c.in_ok-expr.ensures z) (c.in_ok-items.ensures z)
+case-returns t c = λ z. s.Case c.args.kind (made _ _ _ c.in_ok-subject.ensures.first c.expr.ensures z) (made _ _ _ c.in_ok-subject.ensures.second c.cases.ensures z)
