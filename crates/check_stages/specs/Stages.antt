@@ -10,7 +10,7 @@ use Rattle.flat_faults.specs.Stands.{Stands as StandsFlat}
 use Rattle.flat_ready.specs.Handed.{HasClocks, HasNoMemories, HasTopPorts, IsFlattened}
 use Rattle.elab_faults.specs.declared.fault.ElabFault.{ElabFault}
 use Rattle.elaborate.specs.Asked.{IsFaultOf}
-use Rattle.elaborate.specs.Parts.{HasHeader}
+use Rattle.elaborate.specs.Parts.{HasSignals}
 use Rattle.word_design.specs.Designs.{HasRunsOf, Parts}
 use Rattle.set_tree.specs.declared.set.Set.{Set}
 use Rattle.binding.specs.declared.fault.BindFault.{BindFault}
@@ -43,13 +43,13 @@ pub record IsPlainFlatOf (ms : List Module) (top : Name) (flat : Flat) : Type 0 
   pub clocks : HasClocks ms top flat
   pub plain : HasNoMemories flat
 
--- it has no fault of elaboration, and the design has its runs and its header
+-- it has no fault of elaboration, and the design has its runs, its signals and its header
 pub record IsDesignOf (ms : List Module) (top : Name) (d : Parts) : Type 0 where
   pub flat : Flat
   pub flat_of : IsPlainFlatOf ms top flat
   pub clean : (fault : ElabFault) → IsFaultOf flat fault → ⊥
   pub runs : HasRunsOf flat d
-  pub header : HasHeader flat d
+  pub signals : HasSignals flat d
 
 -- the set of one text fits the design of the other's modules from the set's block
 pub record IsBoundOf (text set_text : List ℕ) (b : Pair) : Type 0 where

@@ -1,6 +1,7 @@
 -- What the texts of modules and of sets are to a check, and why they are refused.
 use Rattle.std.specs.Prelude.{ℕ, ◌≢◌, ◌<◌, ◌≤◌, List, length}
 use Rattle.vlog_tree.specs.declared.module.Module.{Module}
+use Rattle.vlog_tree.specs.Modules.{file_height}
 use Rattle.vlog_lex.specs.declared.error.ReadFault.TheVariants as r
 use Rattle.vlog_read.specs.Texts.{RefusesText, SpellsModules}
 use Rattle.set_tree.specs.declared.set.Set.{Set}
@@ -14,10 +15,11 @@ use Rattle.check_faults.specs.declared.fault.SetStop.TheVariants as t
 use Rattle.check_faults.specs.declared.fault.CheckFault.{CheckFault}
 use Rattle.check_faults.specs.declared.fault.CheckFault.TheVariants as f
 
--- a text of at most 1,048,576 bytes that spells modules
+-- a text of at most 1,048,576 bytes that spells modules of a height of at most 500
 pub record IsModuleText (text : List ℕ) (ms : List Module) : Type 0 where
   pub short : length text ≤ 1048576
   pub spelt : SpellsModules text ms
+  pub low : file_height ms ≤ 500
 
 -- one that spells a set with a sound structure
 pub record IsSetText (text : List ℕ) (set : Set) : Type 0 where

@@ -33,13 +33,13 @@ use Rattle.elab_step.proofs.Solving.{bool_cases, kept}
 use Rattle.elab_step.proofs.Fitting.{found_signal}
 use Rattle.elab_step.proofs.Cycles.{own_holder}
 use Rattle.elab_drive.proofs.Naming.{among_of, of_among}
-use Rattle.elaborate.specs.Parts.{zip3, own_net, net_of, net_node, register_of, net_at, input_of, output_of, input_name, HasHeader}
+use Rattle.elaborate.specs.Parts.{zip3, own_net, net_of, net_node, register_of, net_at, input_of, output_of, input_name, net_size, signal_size, AreRegistersOf, HasSignals}
 use Rattle.elaborate.specs.Sources.{signal_names, clocked_names, flags_among}
 use Rattle.elab_block.specs.Standing.{AreShown}
 use Rattle.elab_step.proofs.Boards.{same_leaves}
 use Rattle.elab_step.proofs.Solutions.{AreFlags, begun_shown}
 use Rattle.elaborate.proofs.Lists.{pairs_differ, distinct_both}
-use Rattle.elaborate.proofs.Tracks.{Known, Row, net_part, register_part, signal_name, Track, Rows, track_of, nets_names, register_name, registers_distinct, place_row, free_row, solved_to, edge_of, tracks_of, AreRegisters, nets_flagged, registers_flagged}
+use Rattle.elaborate.proofs.Tracks.{Known, Row, net_part, register_part, signal_name, Track, Tracks, Rows, track_of, nets_names, register_name, registers_distinct, place_row, free_row, solved_to, edge_of, tracks_of, AreRegisters, nets_flagged, registers_flagged}
 
 -- ---- what isn't solved stays
 
@@ -391,8 +391,39 @@ module _ (k : Known) (can : CanElaborate k.flat) (order : IsNetOrder k.flat (Dep
       ap (λ z. map net_name (z ++ flat_map input ps)) w.3 ∙ (λ i. named i ∷ rest i) ∙ ap (λ (b : Bool). (if b then [] else p.name ∷ []) ++ flat_map input_name ps) (sym e))
       (bool_cases p.output)
 
-  pub has_header : HasHeader k.flat (made (flat_map output_of k.flat.ports) k.flat.clock k.flat.asyncs)
-  has_header = record { inputs = inputs_named k.flat.ports (λ p m. m); outputs = refl; clock = refl; asyncs = refl }
+  -- each signal has its length
+  net_sizes : (vs : List Row) → Tracks k vs → map net_size (map net_of (map net_part vs)) ≡ map signal_size (map (λ (w : Row). w.signal) vs)
+  net_sizes [] h = refl
+  net_sizes (w ∷ vs) h = λ i. (h.0.begun.name i, h.0.begun.width i) ∷ net_sizes vs h.1 i
+
+  -- the registers stand in the order of the signals
+  skipped : (g : Signal) (hs : List Signal) (xs : List Register) → (IsRegister k.flat g.name → ⊥) → AreRegistersOf k.flat hs xs → AreRegistersOf k.flat (g ∷ hs) xs
+  skipped g hs [] n h = (n, h)
+  skipped g hs (x ∷ xs) n h = inr (n, h)
+
+  registers_in_order : (vs : List Row) → Tracks k vs → AreRegistersOf k.flat (map (λ (w : Row). w.signal) vs) (flat_map register_of (map register_part vs))
+  registers_in_order [] h = tt
+  registers_in_order (w ∷ vs) h = by w.register refl (registers_in_order vs h.1)
+    where
+      by : (r : Bool) → w.register ≡ r → AreRegistersOf k.flat (map (λ (v : Row). v.signal) vs) (flat_map register_of (map register_part vs))
+          → AreRegistersOf k.flat (w.signal ∷ map (λ (v : Row). v.signal) vs) (register_of (r, w.begun, w.later) ++ flat_map register_of (map register_part vs))
+      by true e rest = inl (h.0.yes e, h.0.begun.name, h.0.begun.width, rest)
+      by false e rest =
+          skipped w.signal (map (λ (v : Row). v.signal) vs) (flat_map register_of (map register_part vs)) (λ m. let u : true ≡ false = sym (h.0.no m) ∙ e in cc) rest
+
+  pub has_signals : HasSignals k.flat (made (flat_map output_of k.flat.ports) k.flat.clock k.flat.asyncs)
+  has_signals = record {
+    design = is_design (flat_map output_of k.flat.ports) k.flat.clock k.flat.asyncs;
+    nets = ap (λ z. map net_size (map net_of z)) rs.net_parts ∙ net_sizes ws rs.tracks ∙ sym (ap (map signal_size) rs.signals);
+    registers = subst
+        (λ gs. AreRegistersOf k.flat gs all_registers)
+        (sym rs.signals)
+        (subst (λ z. AreRegistersOf k.flat (map (λ (w : Row). w.signal) ws) (flat_map register_of z)) (sym rs.register_parts) (registers_in_order ws rs.tracks));
+    inputs = inputs_named k.flat.ports (λ p m. m);
+    outputs = refl;
+    clock = refl;
+    asyncs = refl;
+  }
 
 -- the rows of a solution
 pub rows_of : (f : Flat) (xs : List Name) (ns : List Node) (ts rs : List Bool) (first now next : List Leaf) → CanElaborate f → IsSolution f xs ts ns first now next → ts ≡ flags_among xs f.signals → rs ≡ flags_among (clocked_names f) f.signals
@@ -422,7 +453,7 @@ rows_of f xs ns ts rs first now next can is nets registers =
 pub design_made : (f : Flat) (xs : List Name) (ns : List Node) (ts rs : List Bool) (first now next : List Leaf) → CanElaborate f → IsNetOrder f (DependsOn f) xs → IsSolution f xs ts ns first now next
     → ts ≡ flags_among xs f.signals → rs ≡ flags_among (clocked_names f) f.signals → FitFrom [] ns → IsDistinct ns → ((x : Name) → IsInput f x → IsRegister f x → ⊥)
     → (d : Parts) → d.nodes ≡ ns → d.registers ≡ flat_map register_of (zip3 rs first next) → d.inputs ≡ flat_map (input_of (signal_names f.signals) first) f.ports → d.nets ≡ map net_of (zip3 ts first now)
-    → d.outputs ≡ flat_map output_of f.ports → d.clock ≡ f.clock → d.asyncs ≡ f.asyncs → IsDesign d × IsSolved f xs d × HasHeader f d
+    → d.outputs ≡ flat_map output_of f.ports → d.clock ≡ f.clock → d.asyncs ≡ f.asyncs → IsDesign d × IsSolved f xs d × HasSignals f d
 design_made f xs ns ts rs first now next can order is nets registers fit distinct apart d a b i n o c r =
     let k : Known = record { flat = f; order = xs; nodes = ns; nets = ts; registers = rs; first = first; now = now; next = next } in
     let rows = rows_of f xs ns ts rs first now next can is nets registers in
@@ -430,5 +461,5 @@ design_made f xs ns ts rs first now next can order is nets registers fit distinc
     let e : whole ≡ d = λ j. record { nodes = sym a j; registers = sym b j; inputs = sym i j; nets = sym n j; outputs = sym o j; clock = sym c j; asyncs = sym r j } in (
       subst IsDesign e (is_design k can order rows fit distinct is.frees apart (flat_map output_of f.ports) f.clock f.asyncs),
       subst (IsSolved f xs) e (is_solved k can order rows fit distinct is.frees apart (flat_map output_of f.ports) f.clock f.asyncs),
-      subst (HasHeader f) e (has_header k can order rows fit distinct is.frees apart),
+      subst (HasSignals f) e (has_signals k can order rows fit distinct is.frees apart),
     )

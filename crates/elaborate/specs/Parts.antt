@@ -1,13 +1,15 @@
 -- The parts of a design, from the leaves of a module's signals: as they are begun, as nets are solved, and after the edge.
-use Rattle.std.specs.Prelude.{◌≡◌, ℕ, Bool, if◌then◌else◌, List, [], ◌∷◌, map, drop, Option, Some, None}
+use Rattle.std.specs.Prelude.{◌≡◌, ◌⊎◌, ℕ, Bool, if◌then◌else◌, List, [], ◌∷◌, map, drop, Option, Some, None}
 use Rattle.std.specs.List.{flat_map}
 use Rattle.vlog_runs.specs.declared.flat.Flat.{Flat}
+use Rattle.vlog_runs.specs.declared.flat.Signal.{Signal}
 use Rattle.vlog_runs.specs.declared.flat.TopPort.{TopPort}
 use Rattle.vlog_runs.specs.Places.{Name}
+use Rattle.vlog_runs.specs.Cycles.{IsRegister}
 use Rattle.flat_scopes.specs.Finding.{place_in}
 use Rattle.word_design.specs.declared.design.Net.{Net}
 use Rattle.word_design.specs.declared.design.Register.{Register}
-use Rattle.word_design.specs.Designs.{Parts}
+use Rattle.word_design.specs.Designs.{IsDesign, Parts}
 use Rattle.elab_node.specs.declared.leaves.Leaf.{Leaf}
 
 -- the first elements of three lists, the second ones, and so on
@@ -52,8 +54,27 @@ output_of p = if p.output then p.name ∷ [] else []
 abbrev pub input_name : TopPort → List Name
 input_name p = if p.output then [] else p.name ∷ []
 
--- a design has the inputs and the outputs of a module, in the order of its header, and its clock and resets
-pub record HasHeader (f : Flat) (d : Parts) : Type 0 where
+-- a name and its length in bits
+abbrev pub net_size : Net → Name × ℕ
+net_size n = (n.name, n.width)
+
+abbrev pub signal_size : Signal → Name × ℕ
+signal_size g = (g.name, g.width)
+
+-- of these signals those that a clocked block assigns, each with its length, in their order
+abbrev pub AreRegistersOf : Flat → List Signal → List Register → Type 0
+AreRegistersOf f [] [] = Unit {0}
+AreRegistersOf f [] (r ∷ rs) = ⊥
+AreRegistersOf f (g ∷ gs) [] = (IsRegister f g.name → ⊥) × AreRegistersOf f gs []
+AreRegistersOf f (g ∷ gs) (r ∷ rs) =
+    (IsRegister f g.name × (r.name ≡ g.name) × (r.width ≡ g.width) × AreRegistersOf f gs rs) ⊎ ((IsRegister f g.name → ⊥) × AreRegistersOf f gs (r ∷ rs))
+
+-- a design has the signals of a module, each with its length, and its registers, both in the order in which the module declares them; the inputs,
+-- each one of the signals, and the outputs in the order of its header; and its clock and resets
+pub record HasSignals (f : Flat) (d : Parts) : Type 0 where
+  pub design : IsDesign d
+  pub nets : map net_size d.nets ≡ map signal_size f.signals
+  pub registers : AreRegistersOf f f.signals d.registers
   pub inputs : map (λ (n : Net). n.name) d.inputs ≡ flat_map input_name f.ports
   pub outputs : d.outputs ≡ flat_map output_of f.ports
   pub clock : d.clock ≡ f.clock

@@ -7,7 +7,7 @@ ghost use Rattle.elab_faults.specs.Drivers.{DependsOn};
 ghost use Rattle.elab_step.specs.Asked.{CanElaborate};
 ghost use Rattle.elab_step.specs.Boards.{names_of, IsSolution, IsSolved};
 ghost use Rattle.elab_step.specs.Solving.{IsNetOrder};
-ghost use Rattle.elaborate.specs.Parts.{HasHeader};
+ghost use Rattle.elaborate.specs.Parts.{HasSignals};
 ghost use Rattle.elaborate.specs.Sources.{signal_names, clocked_names, flags_among};
 
 use crate::parts::{asyncs_of, clock_of, inputs_of, nets_of, outputs_of, registers_of};
@@ -36,7 +36,7 @@ pub fn design_of(
     requires apart { (x : Name) → IsInput flat.now x → IsRegister flat.now x → ⊥ }
     requires solution { IsSolution flat.now (names_of flat.now.signals order.now) nets.now solution.dag solution.begun solution.now solution.next }
     ensures solved { IfOk result (λ d. IsSolved flat.now (names_of flat.now.signals order.now) d) }
-    ensures header { IfOk result (λ d. HasHeader flat.now d) }
+    ensures signals { IfOk result (λ d. HasSignals flat.now d) }
 {
     // the nodes of a dag fit, and no two are the same
     let _nodes = solution.dag.nodes();

@@ -12,7 +12,7 @@ ghost use Rattle.elab_flow.specs.Edges.{AreDependences};
 ghost use Rattle.elab_step.specs.Asked.{CanElaborate, IsFaultless};
 ghost use Rattle.elab_step.specs.Boards.{name_of};
 ghost use Rattle.elaborate.specs.Ordering.{source_names, unflagged};
-ghost use Rattle.elaborate.specs.Parts.{HasHeader, input_name};
+ghost use Rattle.elaborate.specs.Parts.{HasSignals, input_name};
 ghost use Rattle.elaborate.specs.Sources.{flags_among};
 
 use crate::flags::{flags_among, name_at};
@@ -93,7 +93,7 @@ pub fn design_by_graph(
     requires depends { AreDependences flat.now (graph_of graph.now) }
     requires apart { (x : Name) → IsInput flat.now x → IsRegister flat.now x → ⊥ }
     ensures runs { IsFaultless flat.now → IfOk result (λ d. HasRunsOf flat.now d) }
-    ensures header { IfOk result (λ d. HasHeader flat.now d) }
+    ensures signals { IfOk result (λ d. HasSignals flat.now d) }
     ensures acyclic { IfOk result (λ d. (x : Name) → Stands flat.now (f.Loop x) → ⊥) }
     ensures fault { IfErr result (λ e. (e ≡ f.Memory) ⊎ Stands flat.now e) }
 {

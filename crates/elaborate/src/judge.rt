@@ -7,7 +7,7 @@ ghost use Rattle.elab_faults.specs.declared.fault.ElabFault.TheVariants as f;
 ghost use Rattle.elab_step.specs.Asked.{CanElaborate};
 ghost use Rattle.flat_ready.specs.Handed.{AreNumbered};
 ghost use Rattle.elaborate.specs.Asked.{IsFaultOf, IsCleanButLoops, HasNoFault};
-ghost use Rattle.elaborate.specs.Parts.{HasHeader};
+ghost use Rattle.elaborate.specs.Parts.{HasSignals};
 
 use crate::graph::design_by_graph;
 use crate::inputs::assigned_input;
@@ -56,7 +56,7 @@ pub fn elaborate(alloc: Global, flat: &Flat) -> Result<Design, ElabFault>
     requires can { CanElaborate flat.now }
     requires numbers { AreNumbered flat.now }
     ensures runs { IfOk result (λ d. HasRunsOf flat.now d) }
-    ensures header { IfOk result (λ d. HasHeader flat.now d) }
+    ensures signals { IfOk result (λ d. HasSignals flat.now d) }
     ensures clean { IfOk result (λ d. HasNoFault flat.now) }
     ensures fault { IfErr result (λ e. (e ≡ f.Memory) ⊎ IsFaultOf flat.now e) }
 {

@@ -7,7 +7,7 @@ ghost use Rattle.elab_faults.specs.Drivers.{DependsOn};
 ghost use Rattle.elab_step.specs.Asked.{CanElaborate, IsFaultless};
 ghost use Rattle.elab_step.specs.Boards.{names_of, IsSolved};
 ghost use Rattle.elab_step.specs.Solving.{IsNetOrder};
-ghost use Rattle.elaborate.specs.Parts.{HasHeader};
+ghost use Rattle.elaborate.specs.Parts.{HasSignals};
 
 use crate::design::design_of;
 use crate::flags::{flags_among, names_at, register_flags, signal_names};
@@ -27,7 +27,7 @@ pub fn design_in_order(alloc: Global, flat: &Flat, order: &[usize]) -> Result<De
     requires apart { (x : Name) → IsInput flat.now x → IsRegister flat.now x → ⊥ }
     ensures solved { IfOk result (λ d. IsSolved flat.now (names_of flat.now.signals order.now) d) }
     ensures runs { IsFaultless flat.now → IfOk result (λ d. HasRunsOf flat.now d) }
-    ensures header { IfOk result (λ d. HasHeader flat.now d) }
+    ensures signals { IfOk result (λ d. HasSignals flat.now d) }
 {
     solved_designs_have_the_modules_runs();
     let signals = flat.signals.as_slice();

@@ -69,8 +69,8 @@ returns-clause-solved c =
     (ap (λ (z : Parts). z.nets) e ∙ c.in_ok-all_nets.ensures) (ap (λ (z : Parts). z.outputs) e ∙ c.in_ok-outputs.ensures ∙ ap (flat_map output_of) c.as_slice-2.ensures)
     (ap (λ (z : Parts). z.clock) e ∙ c.in_ok-clock.ensures) (ap (λ (z : Parts). z.asyncs) e ∙ c.in_ok-asyncs.ensures ∙ c.as_slice-3.ensures)).1
 
-pub returns-clause-header : goal.returns-clause-header
-returns-clause-header c =
+pub returns-clause-signals : goal.returns-clause-signals
+returns-clause-signals c =
     let f = c.args.flat.now in
     let r = c.requires in
     let n = c.nodes-nodes.ensures in
