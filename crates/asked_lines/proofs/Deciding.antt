@@ -1,6 +1,7 @@
 -- What decided obligations say of lines.
 use Rattle.std.proofs.Common.{◌≡◌, ℕ, List, [], ◌∷◌, Option, sym, ap, ◌∙◌, subst}
 use Rattle.std.specs.List.{AllZip}
+use Rattle.std.specs.Prelude.{◌≢◌}
 use Rattle.set_tree.specs.declared.line.Line.{Line}
 use Rattle.word_core.specs.Words.{Bits}
 use Rattle.word_dag.specs.declared.ob.Named.{Named}
@@ -13,8 +14,11 @@ use Rattle.binding.specs.Binding.{Pair}
 use Rattle.verdicts.specs.declared.decide.Decided.{Decided}
 use Rattle.verdicts.specs.declared.decide.Evidence.{Evidence}
 use Rattle.verdicts.specs.declared.decide.Evidence.TheVariants as e
+use Rattle.verdicts.specs.Ample.{IsVerdict}
 use Rattle.verdicts.specs.Shown.{IsDecided, IsShown}
+use Rattle.verdicts.proofs.Sparing.{is_verdict}
 use Rattle.reports.specs.declared.book.Verdict.{Verdict}
+use Rattle.reports.specs.declared.book.Verdict.TheVariants as v
 use Rattle.reports.specs.Lines.{verdict_of}
 use Rattle.line_obs.specs.Obligations.{IsBroken, IsObOf}
 use Rattle.replay.specs.declared.shown.Shown.{Shown}
@@ -39,15 +43,22 @@ says budget b line named ob (e.Values us) shown =
     ob.shown (naming_from nodes us.items) (ap (λ (w : Bits). w.value) same ∙ shown.root)
 says budget b line named ob (e.Chain steps) shown = tt
 
+-- evidence that decides an obligation is no spent budget
+not_spent : (evidence : Evidence) → IsVerdict evidence → verdict_of evidence ≢ v.Spent
+not_spent (e.Derivation steps) h = λ same. let no : v.Proved ≡ v.Spent = same in cc
+not_spent (e.Values us) h = λ same. let no : v.Refuted ≡ v.Spent = same in cc
+not_spent (e.Chain steps) h = absurd h
+
 -- a line of the book as it was decided
-pub told_line : (budget : ℕ) (b : Pair) (line : Line) (d : Decided) (v : Verdict) (o : Option Shown) → v ≡ verdict_of d.evidence → IsTraceOf b line d.ob d.evidence o → IsObDecided budget b line d
-    → IsDecidedOn budget b line (record { name = d.name; verdict = v; ob = d.ob; evidence = d.evidence; trace = o })
-told_line budget b line d v o verdict traced h = record {
+pub told_line : (budget : ℕ) (b : Pair) (line : Line) (d : Decided) (u : Verdict) (o : Option Shown) → u ≡ verdict_of d.evidence → IsTraceOf b line d.ob d.evidence o → IsObDecided budget b line d
+    → IsDecidedOn budget b line (record { name = d.name; verdict = u; ob = d.ob; evidence = d.evidence; trace = o })
+told_line budget b line d u o verdict traced h = record {
   name = h.decided.name ∙ h.of_line.name;
   named = h.named;
   of_line = h.of_line;
   ob = h.decided.ob;
   shown = shown_decided budget b line d h;
+  ample = λ ample same. not_spent d.evidence (is_verdict budget d.ob d.evidence (shown_decided budget b line d h) ample) (sym verdict ∙ same);
   verdict = verdict;
   traced = traced;
   says = subst (λ (z : Verdict). Says (IsBroken b line) z) (sym verdict) (says budget b line h.named h.of_line d.evidence h.decided.shown);

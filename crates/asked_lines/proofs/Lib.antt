@@ -1,3 +1,4 @@
+pub mod Carrying
 pub mod Deciding
 pub mod Finding
 pub mod Promising

@@ -1,12 +1,13 @@
 -- The lines that are asked for, and how they were decided.
-use Rattle.std.specs.Prelude.{◌≡◌, ℕ, List, [], ◌∷◌}
-use Rattle.std.specs.List.{AllZip, Contains}
+use Rattle.std.specs.Prelude.{◌≡◌, ◌≢◌, ◌⊎◌, ℕ, true, List, [], ◌∷◌, IfSome}
+use Rattle.std.specs.List.{All, AllZip, Contains}
 use Rattle.vlog_tree.specs.declared.module.Module.{Module}
 use Rattle.set_tree.specs.declared.line.Line.{Line}
 use Rattle.set_tree.specs.declared.set.Set.{Set}
 use Rattle.set_tree.specs.Report.{design_lines}
 use Rattle.word_dag.specs.declared.ob.Named.{Named}
 use Rattle.line_designs.specs.Promises.{IsRefutable}
+use Rattle.job_pool.specs.Ample.{IsAmple}
 use Rattle.line_laws.specs.Names.{line_name}
 use Rattle.binding.specs.Binding.{Pair}
 use Rattle.verdicts.specs.Shown.{IsShown}
@@ -17,7 +18,7 @@ use Rattle.reports.specs.declared.which.Which.{Which}
 use Rattle.reports.specs.declared.which.Which.TheVariants as w
 use Rattle.reports.specs.Lines.{verdict_of}
 use Rattle.line_obs.specs.Obligations.{IsBroken, IsObOf, all_lines}
-use Rattle.asked_lines.specs.Traces.{IsTraceOf}
+use Rattle.asked_lines.specs.Traces.{IsTraceOf, ShowsModules, is_on_design}
 
 -- the line of a name
 pub record IsLineNamed (set : Set) (name : List ℕ) (line : Line) : Type 0 where
@@ -36,14 +37,15 @@ Says P v.Proved = P → ⊥
 Says P v.Refuted = P
 Says P v.Spent = Unit {0}
 
--- A line of a report as it was decided: its obligation is one of the line, what shows its verdict is within the budget, and the verdict is right of
--- what it is to violate the line; where it is refuted it has a counterexample
+-- A line of a report as it was decided: its obligation is one of the line, what shows its verdict is within the budget, an ample budget isn't spent,
+-- and the verdict is right of what it is to violate the line; where it is refuted it has a counterexample
 pub record IsDecidedBy (Violated : Line → Type 0) (budget : ℕ) (b : Pair) (line : Line) (d : Told) : Type 0 where
   pub name : d.name ≡ line_name b.set line
   pub named : Named
   pub of_line : IsObOf b line named
   pub ob : d.ob ≡ named.ob
   pub shown : IsShown budget d.ob d.evidence
+  pub ample : IsAmple budget d.ob → d.verdict ≢ v.Spent
   pub verdict : d.verdict ≡ verdict_of d.evidence
   pub traced : IsTraceOf b line d.ob d.evidence d.trace
   pub says : Says (Violated line) d.verdict
@@ -52,9 +54,20 @@ pub record IsDecidedBy (Violated : Line → Type 0) (budget : ℕ) (b : Pair) (l
 abbrev pub IsDecidedOn : ℕ → Pair → Line → Told → Type 0
 IsDecidedOn budget b line d = IsDecidedBy (IsBroken b) budget b line d
 
--- right of modules
-abbrev pub IsLineOf : ℕ → List Module → Pair → Line → Told → Type 0
-IsLineOf budget ms b line d = IsDecidedBy (IsRefutable ms b.set.block b.set) budget b line d
+-- right of modules; and where a line on the design is refuted, what is shown is a segment of the modules that violates it
+pub record IsLineOf (budget : ℕ) (ms : List Module) (b : Pair) (line : Line) (d : Told) : Type 0 where
+  pub decided : IsDecidedBy (IsRefutable ms b.set.block b.set) budget b line d
+  pub shows : is_on_design line ≡ true → IfSome d.trace (ShowsModules ms b line)
+
+-- the line stands among lines, and was decided as proved
+abbrev pub IsProvedAmong : Line → List Line → List Told → Type 0
+IsProvedAmong line [] ds = ⊥
+IsProvedAmong line (x ∷ xs) [] = ⊥
+IsProvedAmong line (x ∷ xs) (d ∷ ds) = ((line ≡ x) × (d.verdict ≡ v.Proved)) ⊎ IsProvedAmong line xs ds
+
+-- each line on the design does
+abbrev pub ProvesDesignLines : Set → List Line → List Told → Type 0
+ProvesDesignLines set lines ds = All (λ line. IsProvedAmong line lines ds) (design_lines set)
 
 -- the lines that are asked for, each decided on the design
 pub record AreDecided (budget : ℕ) (b : Pair) (which : Which) (ds : List Told) : Type 0 where

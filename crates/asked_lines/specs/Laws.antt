@@ -13,10 +13,8 @@ use Rattle.binding.specs.Binding.{Pair}
 use Rattle.line_designs.specs.Promises.{HoldsInRuns, SignsOff}
 use Rattle.reports.specs.declared.book.Line.{Line as Told}
 use Rattle.reports.specs.declared.which.Which.{Which}
-use Rattle.reports.specs.declared.which.Which.TheVariants as w
-use Rattle.reports.specs.Lines.{all_proved}
 use Rattle.reports.specs.Reports.{is_complete}
-use Rattle.asked_lines.specs.Decided.{AreAsked, IsDecidedOn, IsLineOf}
+use Rattle.asked_lines.specs.Decided.{AreAsked, IsDecidedOn, IsLineOf, ProvesDesignLines}
 
 -- modules are from their top a module without instances whose runs the design has: the verdicts are right of the modules
 abbrev pub DecidedOfModules : Type 0
@@ -24,13 +22,13 @@ DecidedOfModules =
     (budget : ℕ) (ms : List Module) (f : Flat) (b : Pair) → KeepsRuns ms b.set.block f → HasRunsOf f b.design →
     (lines : List Line) (ds : List Told) → AllZip (IsDecidedOn budget b) lines ds → AllZip (IsLineOf budget ms b) lines ds
 
--- Where the lines on the design were asked for and all are proved, every constrained run of the modules from reset satisfies the set. Where all
--- lines were, and are proved, the set is complete too
-pub record Promises (ms : List Module) (set : Set) (which : Which) (ds : List Told) : Type 0 where
-  pub satisfied : which ≡ w.Ops → all_proved ds ≡ true → HoldsInRuns ms set.block set
+-- Where each line on the design is among the lines that were asked for and is proved, every constrained run of the modules from reset satisfies the
+-- set. Where all lines were asked for, and are proved, the set is complete too
+pub record Promises (ms : List Module) (set : Set) (which : Which) (lines : List Line) (ds : List Told) : Type 0 where
+  pub satisfied : ProvesDesignLines set lines ds → HoldsInRuns ms set.block set
   pub signed_off : is_complete which ds ≡ true → SignsOff ms set.block set
 
 abbrev pub ProvedLinesPromise : Type 0
 ProvedLinesPromise =
     (budget : ℕ) (ms : List Module) (b : Pair) → IsSound (meaning_of b.set) b.set →
-    (which : Which) (lines : List Line) (ds : List Told) → AreAsked which b.set lines → AllZip (IsLineOf budget ms b) lines ds → Promises ms b.set which ds
+    (which : Which) (lines : List Line) (ds : List Told) → AreAsked which b.set lines → AllZip (IsLineOf budget ms b) lines ds → Promises ms b.set which lines ds

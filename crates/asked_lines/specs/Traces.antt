@@ -1,14 +1,17 @@
 -- What is shown of decided lines.
-use Rattle.std.specs.Prelude.{◌≡◌, Bool, true, false, Option, Some, None}
+use Rattle.std.specs.Prelude.{◌≡◌, ◌++◌, Bool, true, false, List, length, Option, Some, None}
+use Rattle.vlog_tree.specs.declared.module.Module.{Module}
 use Rattle.set_tree.specs.declared.line.Line.{Line}
 use Rattle.set_tree.specs.declared.line.Line.TheVariants.{Base, Step, Reset, Operation, End, Split, SameEnd, Choose, Hand, Determine}
 use Rattle.set_tree.specs.Formulas.{meaning_of}
+use Rattle.set_tree.specs.Runs.{trace_of}
+use Rattle.set_designs.specs.Designs.{CycleFrom, design_from}
 use Rattle.word_dag.specs.Nodes.{Naming, Parts}
 use Rattle.word_names.specs.Names.{naming_from}
 use Rattle.binding.specs.Binding.{Pair}
 use Rattle.replay.specs.declared.shown.Shown.{Shown}
-use Rattle.replay.specs.Segments.{ShowsSegment}
-use Rattle.replay.specs.Windows.{ShowsNamedWindows, ShowsWindows}
+use Rattle.replay.specs.Segments.{AreViolatingCycles, ShowsSegment, first_values}
+use Rattle.replay.specs.Windows.{ShowsNamedWindows, ShowsWindows, declared_names}
 use Rattle.verdicts.specs.declared.decide.Evidence.{Evidence}
 use Rattle.verdicts.specs.declared.decide.Evidence.TheVariants as e
 
@@ -43,3 +46,14 @@ IsTraceOf b line ob (e.Derivation steps) o = o ≡ None
 IsTraceOf b line ob (e.Values us) None = ⊥
 IsTraceOf b line ob (e.Values us) (Some shown) = ShowsLine b line (naming_from ob.nodes us.items) shown
 IsTraceOf b line ob (e.Chain steps) o = o ≡ None
+
+-- What is shown is a segment of modules that violates the line: the values of the registers in its first cycle, and its rows
+pub record ShowsModules (ms : List Module) (b : Pair) (line : Line) (shown : Shown) : Type 0 where
+  pub resets : List (CycleFrom ms b.set.block)
+  pub cycles : List (CycleFrom ms b.set.block)
+  pub violating : AreViolatingCycles (design_from ms b.set.block b.set) (meaning_of b.set) b.set line resets cycles
+  pub start : shown.start ≡ first_values b.design (resets ++ cycles)
+  pub before : shown.before ≡ length resets
+  pub names : shown.first.names ≡ declared_names b.set
+  pub rows : shown.first.rows ≡ trace_of (design_from ms b.set.block b.set) (resets ++ cycles)
+  pub second : shown.second ≡ None

@@ -7,3 +7,6 @@ mod Standing
 mod Telling
 mod Traces
 mod Refusing
+mod Agreeing
+mod Excluding
+mod Repeating

@@ -10,7 +10,7 @@ use Rattle.desk_core.specs.States.{IsSoundSign}
 use Rattle.desk_core.proofs.Standing.{is_of}
 
 pub sound_means : (sign : Sign) → IsSoundSign sign → AreSignedOff sign.module sign.set
-sound_means sign sound = let is = sound.report.is_report in record { bound = is.bound; from = is.from; signed_off = is.signed_off sound.complete }
+sound_means sign sound = let is = sound.report.is_report in record { bound = is.bound; from = is.from; runs = is.runs; signed_off = is.signed_off sound.complete }
 
 pub each_means : SignOffsMean
 each_means t d = λ k x lt. sound_means _ (d.signs k x lt)

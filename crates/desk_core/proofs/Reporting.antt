@@ -14,6 +14,7 @@ use Rattle.reports.specs.declared.which.Which.{Which}
 use Rattle.reports.specs.Reports.{is_complete, report_text}
 use Rattle.asked_lines.specs.Decided.{AreDecided}
 use Rattle.asked_lines.specs.Settled.{AddsProofsOf, AreObsOf}
+use Rattle.line_designs.proofs.Existing.{bound_modules_run}
 use Rattle.asked_lines.proofs.Promising.{decided_of_modules, proved_lines_promise}
 use Rattle.desk_core.specs.Checks.{AreDecidedOf, AreObsOfTexts, IsReport, RefusesAsked, Refuses}
 
@@ -32,6 +33,7 @@ is_report text set_text b which budget ds r bound decided told verdicts complete
       text = told;
       verdicts = verdicts;
       complete = complete;
+      runs = bound_modules_run bound.modules b.set.block design.flat b.design b.set design.flat_of.keeps design.runs design.signals.design bound.fits;
       satisfied = promises.satisfied;
       signed_off = λ is. promises.signed_off (sym complete ∙ is);
     }

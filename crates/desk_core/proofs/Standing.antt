@@ -154,14 +154,14 @@ is_of_swapped x y =
     ap₂ (λ (b c : Bool). b && c) (bytes_swapped y.block x.block)
     (ap₂ (λ (b c : Bool). b && c) (bytes_swapped y.module x.module) (bytes_swapped y.set x.set))
 
-abbrev number_of : Option Sign → Option ℕ
+abbrev pub number_of : Option Sign → Option ℕ
 number_of found = option_map (λ s. s.number) found
 
-record IsPassed (b : Bool) (rest : Option Sign) : Type 0 where
-  not_it : b ≡ false
-  after : number_of rest ≡ None
+pub record IsPassed (b : Bool) (rest : Option Sign) : Type 0 where
+  pub not_it : b ≡ false
+  pub after : number_of rest ≡ None
 
-passed : (b : Bool) (s : Sign) (rest : Option Sign) → number_of (cond b (Some s) rest) ≡ None → IsPassed b rest
+pub passed : (b : Bool) (s : Sign) (rest : Option Sign) → number_of (cond b (Some s) rest) ≡ None → IsPassed b rest
 passed true s rest none = let clash : ◌≡◌ {A = Option ℕ} (Some s.number) None = none in absurd (cc)
 passed false s rest none = record { not_it = refl; after = none }
 

@@ -3,6 +3,7 @@ use Rattle.std.specs.Prelude.{◌≡◌, ℕ, true, List, map}
 use Rattle.std.specs.List.{AllZip}
 use Rattle.set_tree.specs.declared.line.Line.{Line}
 use Rattle.set_tree.specs.declared.set.Set.{Set}
+use Rattle.line_designs.specs.Existence.{HasRunsFromReset}
 use Rattle.line_designs.specs.Promises.{HoldsInRuns, SignsOff}
 use Rattle.word_dag.specs.Nodes.{Parts}
 use Rattle.binding.specs.Binding.{Pair}
@@ -12,13 +13,11 @@ use Rattle.check_stages.specs.Stages.{IsBoundOf, Refuses as StageRefuses}
 use Rattle.reports.specs.declared.book.Line.{Line as Told}
 use Rattle.reports.specs.declared.report.Report.{Report}
 use Rattle.reports.specs.declared.which.Which.{Which}
-use Rattle.reports.specs.declared.which.Which.TheVariants as w
-use Rattle.reports.specs.Lines.{all_proved}
 use Rattle.reports.specs.Reports.{is_complete, report_text}
 use Rattle.asked_lines.specs.declared.fault.LineFault.TheVariants as l
 use Rattle.asked_lines.specs.Asked.{RefusesLines}
 use Rattle.asked_lines.specs.Settled.{AreObsOf}
-use Rattle.asked_lines.specs.Decided.{AreAsked, AreDecided, IsLineOf}
+use Rattle.asked_lines.specs.Decided.{AreAsked, AreDecided, IsLineOf, ProvesDesignLines}
 
 -- The report of two texts: its lines are those asked for, each decided rightly, and its text tells them.
 pub record IsReport (module_text set_text : List ℕ) (which : Which) (budget : ℕ) (decided : List Told) (r : Report) : Type 0 where
@@ -30,8 +29,10 @@ pub record IsReport (module_text set_text : List ℕ) (which : Which) (budget : 
   pub text : r.text ≡ report_text which decided
   pub verdicts : r.verdicts.items ≡ map (λ d. d.verdict) decided
   pub complete : r.complete ≡ is_complete which decided
-  -- where all of these lines are proved, every constrained run of the modules from reset satisfies the set; and where they are all lines, the set is complete
-  pub satisfied : which ≡ w.Ops → all_proved decided ≡ true → HoldsInRuns from.modules bound.set.block bound.set
+  -- the modules have runs from reset; where each line on the design is among these lines and proved, every constrained one satisfies the set; and where
+  -- all lines are, the set is complete
+  pub runs : HasRunsFromReset from.modules bound.set.block bound.design bound.set
+  pub satisfied : ProvesDesignLines bound.set lines decided → HoldsInRuns from.modules bound.set.block bound.set
   pub signed_off : r.complete ≡ true → SignsOff from.modules bound.set.block bound.set
 
 -- no line has the name that was asked for; or the keeper of the proofs of those that were failed, or memory ran out

@@ -4,3 +4,5 @@ pub mod Steps
 pub mod States
 pub mod Quiet
 pub mod Signed
+pub mod Agreed
+pub mod Again

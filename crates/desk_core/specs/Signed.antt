@@ -1,15 +1,18 @@
 -- What a sign-off says of its two texts.
 use Rattle.std.specs.Prelude.{◌≡◌, ℕ, List, All, Some}
 use Rattle.outside.specs.Tables.{Tables, sign_number}
+use Rattle.line_designs.specs.Existence.{HasRunsFromReset}
 use Rattle.line_designs.specs.Promises.{SignsOff}
 use Rattle.binding.specs.Binding.{Pair}
 use Rattle.check_stages.specs.Stages.{IsBoundOf}
 use Rattle.desk_core.specs.States.{IsDesk}
 
--- the texts are of modules and of a set that fits their design; every constrained run of the modules from reset satisfies the set, and the set is complete
+-- the texts are of modules and of a set that fits their design; the modules have runs from reset, every constrained one satisfies the set, and the set is
+-- complete
 pub record AreSignedOff (m s : List ℕ) : Type 0 where
   pub bound : Pair
   pub from : IsBoundOf m s bound
+  pub runs : HasRunsFromReset from.modules bound.set.block bound.design bound.set
   pub signed_off : SignsOff from.modules bound.set.block bound.set
 
 abbrev pub SignOffsMean : Type 0

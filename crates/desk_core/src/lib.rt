@@ -12,6 +12,6 @@ mod signing;
 
 pub use acting::act;
 pub use checking::check;
-pub use law::sign_offs_mean;
+pub use law::{commands_repeat, empty_tables_are_a_desk, reports_agree, sign_offs_mean};
 pub use proof_store::Settings;
 pub use reports::{Book, Line, Report, Verdict, Which};

@@ -4,3 +4,4 @@ mod Moves
 mod Rows
 mod Steps
 mod Sums
+pub mod Sparing

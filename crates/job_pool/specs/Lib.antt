@@ -2,3 +2,4 @@ pub mod Evidence
 pub mod Jobs
 pub mod Rule
 pub mod Seats
+pub mod Ample

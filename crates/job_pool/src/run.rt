@@ -1,6 +1,7 @@
 // All jobs.
 ghost use Rattle.std.specs.Prelude.{◌≡◌, ℕ, ◌+◌, ◌^◌, ◌<◌, ◌≤◌, length, IfOk};
 ghost use Rattle.std.specs.List.{AllZip, range_with_len};
+ghost use Rattle.job_pool.specs.Ample.{DecidesIfAmple};
 ghost use Rattle.job_pool.specs.Evidence.{IsEvidence};
 
 use crate::order::{below, ordered};
@@ -22,8 +23,9 @@ pub struct Ran {
 }
 
 /// Decides each obligation once, by this many workers in threads of their own, each drawing numbers of jobs from one shared
-/// word until its number is past the last job. A job is to find `budget` conflicts at most. A worker enters the gate before each
-/// job that it drew. Refused where a worker, or what is made of their ends, wants memory; each worker is joined first.
+/// word until its number is past the last job. A job is to find `budget` conflicts at most, and with `3 ^ v` of them, v being the
+/// number of variables of its clauses, it is decided. A worker enters the gate before each job that it drew. Refused where a
+/// worker, or what is made of their ends, wants memory; each worker is joined first.
 pub fn run_jobs<R: Threads + Sync, G: Gate + Sync>(
     rt: &R,
     alloc: Global,
@@ -36,6 +38,7 @@ pub fn run_jobs<R: Threads + Sync, G: Gate + Sync>(
     requires workers { (0 < workers) × (workers ≤ 64) }
     requires jobs { (0 < length obs.now) × (length obs.now < 2 ^ 32) }
     ensures ends { IfOk result (λ ran. AllZip (IsEvidence budget) obs.now ran.ends.items) }
+    ensures ample { IfOk result (λ ran. AllZip (DecidesIfAmple budget) obs.now ran.ends.items) }
     ensures draws { IfOk result (λ ran. ran.draws.items ≡ range_with_len 0 (length obs.now + workers)) }
 {
     let each = obs.len() as u64 + 1;

@@ -29,22 +29,22 @@ module _ {A B : Type 0} (d : Design A) (e : Design B) (to : A → B) (follows : 
   run [] h = tt
   run (a ∷ cs) h = (goes_on a cs h.0, run cs h.1)
 
-  trace : (cs : List A) → trace_of e (map to cs) ≡ trace_of d cs
+  pub trace : (cs : List A) → trace_of e (map to cs) ≡ trace_of d cs
   trace [] = refl
   trace (a ∷ cs) = λ r. rows a r ∷ trace cs r
 
   levels : (t : Bool) (cs : List A) → All (λ c. d.is_reset c ≡ t) cs → All (λ c. e.is_reset c ≡ t) (map to cs)
   levels t cs h = All-map (λ c. e.is_reset c ≡ t) to cs (All-weaker (λ c. d.is_reset c ≡ t) (λ c. e.is_reset (to c) ≡ t) (λ a k. resets a ∙ k) cs h)
 
-  map_append : (xs ys : List A) → map to (xs ++ ys) ≡ map to xs ++ map to ys
+  pub map_append : (xs ys : List A) → map to (xs ++ ys) ≡ map to xs ++ map to ys
   map_append [] ys = refl
   map_append (x ∷ xs) ys = ap (λ zs. to x ∷ zs) (map_append xs ys)
 
-  size : (cs : List A) → length (map to cs) ≡ length cs
+  pub size : (cs : List A) → length (map to cs) ≡ length cs
   size [] = refl
   size (a ∷ cs) = ap (λ n. suc n) (size cs)
 
-  segment : (m : Meaning) (set : Set) (end : ℕ) (cs : List A) → IsSegment d m set end cs → IsSegment e m set end (map to cs)
+  pub segment : (m : Meaning) (set : Set) (end : ℕ) (cs : List A) → IsSegment d m set end cs → IsSegment e m set end (map to cs)
   segment m set end cs h = record {
     run = run cs h.run;
     inactive = levels false cs h.inactive;
@@ -52,14 +52,17 @@ module _ {A B : Type 0} (d : Design A) (e : Design B) (to : A → B) (follows : 
     invariants = subst (λ zs. MeetsInvariants m set zs) (sym (trace cs)) h.invariants;
   }
 
-  reset_segment : (m : Meaning) (set : Set) (end : ℕ) (rs cs : List A) → IsResetSegment d m set end rs cs → IsResetSegment e m set end (map to rs) (map to cs)
+  pub from_reset : (set : Set) (rs cs : List A) → IsRunFromReset d set rs cs → IsRunFromReset e set (map to rs) (map to cs)
+  from_reset set rs cs h = record {
+    run = subst (λ zs. IsRun e zs) (map_append rs cs) (run (rs ++ cs) h.run);
+    count = size rs ∙ h.count;
+    active = levels true rs h.active;
+    inactive = levels false cs h.inactive;
+  }
+
+  pub reset_segment : (m : Meaning) (set : Set) (end : ℕ) (rs cs : List A) → IsResetSegment d m set end rs cs → IsResetSegment e m set end (map to rs) (map to cs)
   reset_segment m set end rs cs h = record {
-    from_reset = record {
-      run = subst (λ zs. IsRun e zs) (map_append rs cs) (run (rs ++ cs) h.from_reset.run);
-      count = size rs ∙ h.from_reset.count;
-      active = levels true rs h.from_reset.active;
-      inactive = levels false cs h.from_reset.inactive;
-    };
+    from_reset = from_reset set rs cs h.from_reset;
     window = subst (λ zs. IsWindow m set end zs) (sym (trace cs)) h.window;
   }
 
@@ -87,16 +90,20 @@ module _ {A B : Type 0} (d : Design A) (e : Design B) (to : A → B) (follows : 
 
 -- ---- a design of words, and the modules
 
-abbrev to_modules : (ms : List Module) (top : Name) (f : Flat) (d : Parts) → KeepsRuns ms top f → HasRunsOf f d → DesignCycle d → CycleFrom ms top
+abbrev pub to_modules : (ms : List Module) (top : Name) (f : Flat) (d : Parts) → KeepsRuns ms top f → HasRunsOf f d → DesignCycle d → CycleFrom ms top
 to_modules ms top f d k h c = (c.0, (k.cycle c.0).0 ((h.cycle c.0).1 c.1))
 
 abbrev to_design : (ms : List Module) (top : Name) (f : Flat) (d : Parts) → KeepsRuns ms top f → HasRunsOf f d → CycleFrom ms top → DesignCycle d
 to_design ms top f d k h c = (c.0, (h.cycle c.0).0 ((k.cycle c.0).1 c.1))
 
+pub steps_to_modules : (ms : List Module) (top : Name) (f : Flat) (d : Parts) (set : Set) (k : KeepsRuns ms top f) (h : HasRunsOf f d) → (a b : DesignCycle d) → (word_design d set).follows a b
+    → (design_from ms top set).follows (to_modules ms top f d k h a) (to_modules ms top f d k h b)
+steps_to_modules ms top f d set k h a b step = (k.follows a.0 b.0).0 ((h.follows a.0 b.0 ((h.cycle a.0).1 a.1) ((h.cycle b.0).1 b.1)).1 step)
+
 pub lines_are_the_modules : LinesAreTheModules
 lines_are_the_modules ms top f d m set k h line = (
   carried (word_design d set) (design_from ms top set) (to_modules ms top f d k h)
-      (λ a b step. (k.follows a.0 b.0).0 ((h.follows a.0 b.0 ((h.cycle a.0).1 a.1) ((h.cycle b.0).1 b.1)).1 step)) (λ a. refl) (λ a. refl) m set line,
+      (steps_to_modules ms top f d set k h) (λ a. refl) (λ a. refl) m set line,
   carried (design_from ms top set) (word_design d set) (to_design ms top f d k h)
       (λ a b step. (h.follows a.0 b.0 ((k.cycle a.0).1 a.1) ((k.cycle b.0).1 b.1)).0 ((k.follows a.0 b.0).1 step)) (λ a. refl) (λ a. refl) m set line,
 )

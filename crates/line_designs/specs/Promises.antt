@@ -1,5 +1,5 @@
 -- What lines say of the modules whose design they were decided on.
-use Rattle.std.specs.Prelude.{◌↔◌, ◌++◌, List}
+use Rattle.std.specs.Prelude.{◌↔◌, List}
 use Rattle.vlog_tree.specs.declared.module.Module.{Module}
 use Rattle.vlog_runs.specs.declared.flat.Flat.{Flat}
 use Rattle.vlog_runs.specs.Places.{Name}

@@ -1,4 +1,5 @@
 // The laws.
+ghost use Rattle.line_designs.specs.Existence.{BoundModulesRun};
 ghost use Rattle.line_designs.specs.Promises.{CleanDesignLinesHold, CleanReportsSignOff, LinesAreTheModules};
 
 /// A line is violated of a design of words exactly where it is of the modules, where a module without instances has the modules' cycles and the
@@ -12,4 +13,10 @@ pub fn lines_are_the_modules()
 pub fn reports_are_promises()
     ensures design { CleanDesignLinesHold }
     ensures report { CleanReportsSignOff }
+{}
+
+/// Modules whose runs a design has that a set fits have a run from reset of every length, whatever values the registers begin with and the inputs
+/// take. So what is promised of each run is a promise about some.
+pub fn bound_modules_run()
+    ensures { BoundModulesRun }
 {}

@@ -2,6 +2,7 @@
 ghost use Rattle.std.specs.Prelude.{◌≡◌, ◌+◌, ◌^◌, ◌<◌, ◌≤◌, Err, IfOk, IfSome, filter, length, map, count_by};
 ghost use Rattle.std.specs.List.{AllZip};
 ghost use Rattle.outside.specs.Faults.{Rose};
+ghost use Rattle.verdicts.specs.Ample.{DecidesIfAmple};
 ghost use Rattle.verdicts.specs.Shown.{IsDecided, ob_of};
 ghost use Rattle.proof_store.specs.Counts.{FirstRose, NoneFalls, draws_of};
 ghost use Rattle.proof_store.specs.Kept.{CountsKept};
@@ -103,8 +104,9 @@ fn count_true(flags: &[bool]) -> u64
 ///
 /// The keeper is asked for the row under each obligation's text. It counts as kept where it is a record of a derivation of the empty clause
 /// from the obligation's clauses; a row that isn't one is no fault. What isn't kept is offered to the helpers, and of their claims only those
-/// that pass count. The rest is decided by workers, each obligation within the budget of steps; where nothing is left, none is started. Then the
-/// new proofs are put under the obligations' texts, where a record can be made of them and neither it nor the text has more than 16,777,216 bytes.
+/// that pass count. The rest is decided by workers, each obligation within the budget of steps; where nothing is left, none is started. A budget of
+/// `3 ^ v` steps, v being the number of variables of an obligation's clauses, decides it. Then the new proofs are put under the obligations' texts,
+/// where a record can be made of them and neither it nor the text has more than 16,777,216 bytes.
 ///
 /// It is refused with `Keeper` only where the keeper's count of faults rose in this call, or stands at its last value, and with `Memory` for want
 /// of memory alone. Then each row of the proofs that differs from before is a proof of one of these obligations under its text.
@@ -119,6 +121,7 @@ pub fn settle<R: Threads + Sync, K: Keeper, H: Helper, G: Gate + Sync>(
 ) -> Result<Settled, StoreFault>
     requires jobs { length named.now < 2 ^ 32 }
     ensures decided { IfOk result (λ s. AllZip (IsDecided settings.now.budget) named.now s.decided.items) }
+    ensures ample { IfOk result (λ s. AllZip (DecidesIfAmple settings.now.budget) named.now s.decided.items) }
 
     // Where the evidence comes from.
     ensures counts { IfOk result (λ s. s.kept + s.helped + s.solved ≡ length named.now) }

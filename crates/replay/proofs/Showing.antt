@@ -56,7 +56,7 @@ module _ (d : Parts) (h : IsDesign d) (set : Set) (fits : Fits d set) (e : Namin
       rows_hold d h set fits k e 0 (resets ++ cycles) (all_hold d h set fits k e (resets ++ cycles) run.run run.named levels) ∙ ap (rows_from d set k e 0) whole
 
   module _ (m : Meaning) (shown : Shown) where
-    shows_run : (line : Line) (k end : ℕ) (resets cycles : Segment) → AreViolatingCycles d m set line resets cycles → IsNamedRun d set k e resets cycles → length cycles ≡ end + 1 → ShowsNamed d set e k end shown → ShowsSegment d m set line e shown
+    shows_run : (line : Line) (k end : ℕ) (resets cycles : Segment) → AreViolatingCycles (word_design d set) m set line resets cycles → IsNamedRun d set k e resets cycles → length cycles ≡ end + 1 → ShowsNamed d set e k end shown → ShowsSegment d m set line e shown
     shows_run line k end resets cycles violating run size told =
         let count = run.count in
         let some : 0 < length (resets ++ cycles) = let whole = length-append resets cycles in omega (arith, whole, size) in record {
@@ -74,12 +74,12 @@ module _ (d : Parts) (h : IsDesign d) (set : Set) (fits : Fits d set) (e : Namin
     cycles_count : (end : ℕ) (cycles : Segment) → IsWindow m set end (trace_of (word_design d set) cycles) → length cycles ≡ end + 1
     cycles_count end cycles window = sym (length-map cycles (word_design d set).row) ∙ window.size
 
-    after_reset : (line : Line) (end : ℕ) (resets cycles : Segment) → AreViolatingCycles d m set line resets cycles → IsNamedBy d set set.cycles e (resets ++ cycles) → IsResetSegment (word_design d set) m set end resets cycles → ShowsNamed d set e set.cycles end shown → ShowsSegment d m set line e shown
+    after_reset : (line : Line) (end : ℕ) (resets cycles : Segment) → AreViolatingCycles (word_design d set) m set line resets cycles → IsNamedBy d set set.cycles e (resets ++ cycles) → IsResetSegment (word_design d set) m set end resets cycles → ShowsNamed d set e set.cycles end shown → ShowsSegment d m set line e shown
     after_reset line end resets cycles violating named segment told =
         let run = segment.from_reset in
         shows_run line set.cycles end resets cycles violating (record { run = run.run; count = run.count; active = run.active; inactive = run.inactive; named = named }) (cycles_count end cycles segment.window) told
 
-    from_any : (line : Line) (end : ℕ) (cycles : Segment) → AreViolatingCycles d m set line [] cycles → IsNamedBy d set 0 e cycles → IsSegment (word_design d set) m set end cycles → ShowsNamed d set e 0 end shown → ShowsSegment d m set line e shown
+    from_any : (line : Line) (end : ℕ) (cycles : Segment) → AreViolatingCycles (word_design d set) m set line [] cycles → IsNamedBy d set 0 e cycles → IsSegment (word_design d set) m set end cycles → ShowsNamed d set e 0 end shown → ShowsSegment d m set line e shown
     from_any line end cycles violating named segment told =
         shows_run line 0 end [] cycles violating (record { run = segment.run; count = refl; active = All-nil (λ c. (word_design d set).is_reset c ≡ true); inactive = segment.inactive; named = named }) (cycles_count end cycles segment.window) told
 

@@ -6,8 +6,8 @@ use Rattle.set_tree.specs.declared.set.Rule.{Rule}
 use Rattle.set_tree.specs.declared.set.Set.{Set}
 use Rattle.set_tree.specs.Meaning.{Meaning}
 use Rattle.set_tree.specs.Parts.{window_of}
-use Rattle.set_tree.specs.Runs.{ViolatesBase, ViolatesStep, ViolatesReset, ViolatesOperation, trace_of}
-use Rattle.vlog_runs.specs.Places.{Name}
+use Rattle.set_tree.specs.Runs.{Design, ViolatesBase, ViolatesStep, ViolatesReset, ViolatesOperation, trace_of}
+use Rattle.vlog_runs.specs.Places.{Cycle, Name}
 use Rattle.word_core.specs.Words.{Bits}
 use Rattle.word_dag.specs.Nodes.{Naming, dag_values}
 use Rattle.word_design.specs.declared.design.Register.{Register}
@@ -24,11 +24,11 @@ use Rattle.replay.specs.Windows.{declared_names}
 -- ---- what is shown
 
 -- reset cycles, where the line has them, and the cycles from cycle 0 on violate the line
-abbrev pub AreViolatingCycles : (d : Parts) → Meaning → Set → Line → List (DesignCycle d) → List (DesignCycle d) → Type 0
-AreViolatingCycles d m set (Base i) resets cycles = (rule : Rule) × (slice_get set.invariants i ≡ Some rule) × ViolatesBase (word_design d set) m set rule resets cycles
-AreViolatingCycles d m set (Step i) resets cycles = (resets ≡ []) × (rule : Rule) × (slice_get set.invariants i ≡ Some rule) × ViolatesStep (word_design d set) m set rule cycles
-AreViolatingCycles d m set Reset resets cycles = ViolatesReset (word_design d set) m set resets cycles
-AreViolatingCycles d m set (Operation p) resets cycles = (resets ≡ []) × ViolatesOperation (word_design d set) m set p cycles
+abbrev pub AreViolatingCycles : {C : Type 0} → Design C → Meaning → Set → Line → List C → List C → Type 0
+AreViolatingCycles d m set (Base i) resets cycles = (rule : Rule) × (slice_get set.invariants i ≡ Some rule) × ViolatesBase d m set rule resets cycles
+AreViolatingCycles d m set (Step i) resets cycles = (resets ≡ []) × (rule : Rule) × (slice_get set.invariants i ≡ Some rule) × ViolatesStep d m set rule cycles
+AreViolatingCycles d m set Reset resets cycles = ViolatesReset d m set resets cycles
+AreViolatingCycles d m set (Operation p) resets cycles = (resets ≡ []) × ViolatesOperation d m set p cycles
 AreViolatingCycles d m set (End p) resets cycles = ⊥
 AreViolatingCycles d m set (Split p) resets cycles = ⊥
 AreViolatingCycles d m set (SameEnd p) resets cycles = ⊥
@@ -40,7 +40,7 @@ abbrev pub started : Name → ℕ → Start
 started x u = record { name = x; value = u }
 
 -- the registers' values in the first of some cycles
-abbrev pub first_values : (d : Parts) → List (DesignCycle d) → List Start
+abbrev pub first_values : {P : Cycle → Type 0} → Parts → List ((c : Cycle) × P c) → List Start
 first_values d [] = []
 first_values d (c ∷ cycles) = map (λ (r : Register). started r.name (c.0 r.name)) d.registers
 
@@ -48,7 +48,7 @@ first_values d (c ∷ cycles) = map (λ (r : Register). started r.name (c.0 r.na
 pub record ShowsSegment (d : Parts) (m : Meaning) (set : Set) (line : Line) (e : Naming) (shown : Shown) : Type 0 where
   pub resets : List (DesignCycle d)
   pub cycles : List (DesignCycle d)
-  pub violating : AreViolatingCycles d m set line resets cycles
+  pub violating : AreViolatingCycles (word_design d set) m set line resets cycles
   pub named : IsNamedBy d set (length resets) e (resets ++ cycles)
   pub start : shown.start ≡ first_values d (resets ++ cycles)
   pub before : shown.before ≡ length resets

@@ -1,2 +1,3 @@
 mod Deciding
 mod Looping
+pub mod Sparing

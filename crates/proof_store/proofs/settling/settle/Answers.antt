@@ -1,6 +1,7 @@
 use Rattle.std.proofs.Common.{◌-◌, length, arith}
 use Rattle.proof_store.proofs.Placed.{all_show}
 use Rattle.proof_store.proofs.Wholes.{adds, flags_long, flags_tell, in_all, kept_counted, proofs_known, rose_all}
+use Rattle.verdicts.proofs.Sparing.{all_verdicts}
 use Rattle.proof_store.proofs.settling.settle.Goals as goal
 
 pub decide_rest-requires-clause-shown : goal.decide_rest-requires-clause-shown
@@ -53,6 +54,9 @@ overflow_sub-helped-2 g c =
     let all = t.all in
     let few = t.few in
     omega (arith, all, few)
+
+pub returns-clause-ample : goal.returns-clause-ample
+returns-clause-ample g c = all_verdicts c.args.settings.now.budget c.args.named.now c.in_ok-whole.whole.decided.items c.in_ok-whole.ensures.decided
 
 pub returns-clause-counts : goal.returns-clause-counts
 returns-clause-counts g c =

@@ -1,0 +1,5 @@
+mod Words
+mod Plain
+mod Placed
+mod Coded
+pub mod Known
