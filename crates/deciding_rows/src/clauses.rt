@@ -166,31 +166,34 @@ fn count_held(alloc: Global, ob: &Ob) -> Result<(u64, u64), AllocError> {
     Ok((held, ones))
 }
 
+const SHAPES: &[Shape] = &[
+    Shape::Two(Op::Add),
+    Shape::Two(Op::Sub),
+    Shape::Two(Op::Mul),
+    Shape::Two(Op::And),
+    Shape::Two(Op::Or),
+    Shape::Two(Op::Xor),
+    Shape::Two(Op::Shl),
+    Shape::Two(Op::Shr),
+    Shape::Two(Op::Sar),
+    Shape::Two(Op::Ult),
+    Shape::Two(Op::Slt),
+    Shape::Two(Op::Eq),
+    Shape::Two(Op::Concat),
+    Shape::Not,
+    Shape::Slice,
+    Shape::Zext,
+    Shape::Sext,
+    Shape::Mux,
+];
+
 // Each of the 2^5 values of the words of 2, 2 and 1 bits has one word of 4 bits that equals the node's.
 #[test]
 fn clauses_hold_where_the_root_is_1(rt: HostRuntime) -> Result<(), Fail> {
-    for shape in [
-        Shape::Two(Op::Add),
-        Shape::Two(Op::Sub),
-        Shape::Two(Op::Mul),
-        Shape::Two(Op::And),
-        Shape::Two(Op::Or),
-        Shape::Two(Op::Xor),
-        Shape::Two(Op::Shl),
-        Shape::Two(Op::Shr),
-        Shape::Two(Op::Sar),
-        Shape::Two(Op::Ult),
-        Shape::Two(Op::Slt),
-        Shape::Two(Op::Eq),
-        Shape::Two(Op::Concat),
-        Shape::Not,
-        Shape::Slice,
-        Shape::Zext,
-        Shape::Sext,
-        Shape::Mux,
-    ] {
-        let ob = compared(rt.alloc(), shape)?;
-        assert_eq!(rt; count_held(rt.alloc(), &ob)?, (32, 32), "{shape:?}");
+    for shape in SHAPES {
+        let ob = compared(rt.alloc(), *shape)?;
+        let held = count_held(rt.alloc(), &ob)?;
+        assert_eq!(rt; held, (32, 32), "{shape:?}");
     }
     Ok(())
 }

@@ -3,14 +3,15 @@ use cnf_build::build;
 use helper_box::{Claim, Helper, Sampler, Table, Units, offer_all};
 use outside::Text;
 use std::alloc::{AllocError, Global};
+use std::process::Abort;
 use std::test::Fail;
 use word_core::Word;
 use word_dag::{Node, Ob, Op};
 
-// Claims of everything that no values make its root 1.
+/// Claims of everything that no values make its root 1.
 #[derive(Drop)]
-struct Liar {
-    offers: u64,
+pub struct Liar {
+    pub offers: u64,
 }
 
 impl Helper for Liar {
@@ -46,48 +47,83 @@ fn is_word(alloc: Global, word: Word) -> Result<Ob, AllocError> {
     Ok(Ob::new(nodes, 2))
 }
 
-fn zero(alloc: Global) -> Result<Ob, AllocError> {
+/// An obligation whose root is never 1.
+pub fn zero(alloc: Global) -> Result<Ob, AllocError> {
     let mut nodes = Vec::new(alloc);
     nodes.push(Node::Const(Word::new(1, 0)))?;
     Ok(Ob::new(nodes, 0))
 }
 
-fn helpers(alloc: Global) -> Result<Vec<Box<dyn Helper>>, AllocError> {
-    let mut all: Vec<Box<dyn Helper>> = Vec::new(alloc);
+// A liar, who is asked first, and the three helpers of the program.
+fn add_helpers(alloc: Global, all: &mut Vec<Box<dyn Helper>>) -> Result<(), AllocError> {
     all.push(Box::new(alloc, Liar { offers: 0 })?)?;
     all.push(Box::new(alloc, Sampler::new(1, 1_000))?)?;
     all.push(Box::new(alloc, Table::new())?)?;
     all.push(Box::new(alloc, Units::new())?)?;
-    Ok(all)
+    Ok(())
 }
 
-// What is claimed, and how often each helper was asked by then.
-fn asked(alloc: Global, ob: &Ob, of: [u64; 4]) -> Result<(Claim, bool), AllocError> {
-    let mut all = helpers(alloc)?;
+// What is claimed: the value of the one free word, that there are none, or nothing.
+#[derive(Clone, Copy, Debug, PartialEq, Eq)]
+enum Claimed {
+    Value(u64),
+    Unsat,
+    Nothing,
+}
+
+fn kind_of(claim: &Claim) -> Claimed {
+    match claim {
+        Claim::Values(values) => Claimed::Value(values.first().copied().unwrap_or(0)),
+        Claim::Unsat(_) => Claimed::Unsat,
+        Claim::Nothing => Claimed::Nothing,
+    }
+}
+
+// What is claimed of an obligation, where each helper was asked so often by then.
+fn offered(
+    alloc: Global,
+    ob: &Ob,
+    helpers: &mut Vec<Box<dyn Helper>>,
+    asked: [u64; 4],
+) -> Result<Option<Claimed>, AllocError> {
     let built = build(alloc, ob)?;
-    let claim = offer_all(&mut all, alloc, ob, &built.cnf)?;
-    let so_often = all.iter().zip(of.iter()).all(|(h, n)| h.offers() == *n);
-    Ok((claim, so_often))
+    let claim = offer_all(helpers, alloc, ob, &built.cnf)?;
+    let so_often = helpers
+        .iter()
+        .zip(asked.iter())
+        .all(|(helper, count)| helper.offers() == *count);
+    Ok(if so_often {
+        Some(kind_of(&claim))
+    } else {
+        None
+    })
+}
+
+// Wants this claim, and that each helper was asked so often.
+fn claims(
+    rt: &(impl Abort + AllocGlobal),
+    ob: &Ob,
+    asked: [u64; 4],
+    want: Claimed,
+) -> Result<(), Fail> {
+    let mut helpers: Vec<Box<dyn Helper>> = Vec::new(rt.alloc());
+    add_helpers(rt.alloc(), &mut helpers)?;
+    let claim = offered(rt.alloc(), ob, &mut helpers, asked)?;
+    assert_eq!(rt; claim, Some(want));
+    Ok(())
 }
 
 #[test]
 fn the_first_claim_that_passes_is_taken(rt: HostRuntime) -> Result<(), Fail> {
-    let alloc: Global = rt.alloc();
-    // the sampler finds a value of one bit
-    let (claim, so_often) = asked(alloc, &is_word(alloc, Word::new(1, 1))?, [1, 1, 0, 0])?;
-    assert!(rt; so_often && matches!(claim, Claim::Values(_)));
-    // the table finds the one value of twelve bits
-    let (claim, so_often) = asked(alloc, &is_word(alloc, Word::new(12, 2_741))?, [1, 1, 1, 0])?;
-    assert!(rt; so_often);
-    let Claim::Values(values) = claim else {
-        panic!(rt; "no values");
-    };
-    assert!(rt; values.as_slice() == [2_741].as_slice());
-    // nobody finds that of forty
-    let (claim, so_often) = asked(alloc, &is_word(alloc, Word::new(40, 5))?, [1, 1, 1, 1])?;
-    assert!(rt; so_often && matches!(claim, Claim::Nothing));
-    // propagation alone refutes a constant 0
-    let (claim, so_often) = asked(alloc, &zero(alloc)?, [1, 1, 1, 1])?;
-    assert!(rt; so_often && matches!(claim, Claim::Unsat(_)));
-    Ok(())
+    // The sampler finds a value of one bit, the table the one value of twelve bits, and nobody that of forty.
+    for (word, asked, want) in [
+        (Word::new(1, 1), [1, 1, 0, 0], Claimed::Value(1)),
+        (Word::new(12, 2_741), [1, 1, 1, 0], Claimed::Value(2_741)),
+        (Word::new(40, 5), [1, 1, 1, 1], Claimed::Nothing),
+    ] {
+        let ob = is_word(rt.alloc(), word)?;
+        claims(&rt, &ob, asked, want)?;
+    }
+    // Propagation alone refutes a constant 0.
+    claims(&rt, &zero(rt.alloc())?, [1, 1, 1, 1], Claimed::Unsat)
 }

@@ -1,4 +1,4 @@
-//! Rows of the deciding layer: words, their clauses, derivations, their records, the solver, helpers and the workers.
+//! Rows of the deciding layer: words, their clauses, derivations, their records, the solver, helpers, the workers, and obligations settled over a keeper.
 #![tactic(auto)]
 
 #[cfg(test)]
@@ -11,6 +11,8 @@ mod helpers;
 mod jobs;
 #[cfg(test)]
 mod records;
+#[cfg(test)]
+mod settling;
 #[cfg(test)]
 mod solver;
 #[cfg(test)]

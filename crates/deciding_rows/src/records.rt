@@ -4,7 +4,7 @@ use std::test::Fail;
 use step_records::{fits_version_1, read_steps, record_fits, write_steps, write_steps_1};
 
 // Records of the same steps in both versions: an empty clause; two steps; none; the greatest variable and the greatest hint of the second version.
-const RECORDS: [(&[u8], &[u8]); 4] = [
+const RECORDS: &[(&[u8], &[u8])] = &[
     (
         b"\x44\x31\0\0\0\x01\0\0\0\0\0\0\0\x01\0\0\0\0\0\0\0\x05",
         b"\x44\x32\x01\x00\x01\x05",
@@ -22,7 +22,7 @@ const RECORDS: [(&[u8], &[u8]); 4] = [
 
 // Bytes that are no record, the second version's first: cut, and with a byte behind; a varint that ends in 0, one of eleven bytes, one of 2^64; a distance of 0
 // as a lower one, and a hint below 0; a variable twice; a hint and a variable of 2^62; no version; the first version cut, and with a variable twice.
-const NO_RECORDS: [&[u8]; 16] = [
+const NO_RECORDS: &[&[u8]] = &[
     b"\x44\x32\x01\x00\x01",
     b"\x44\x32\x01\x00\x01\x05\x00",
     b"\x44\x32\x01\x00\x01\x85\x00",

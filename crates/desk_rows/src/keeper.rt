@@ -1,6 +1,6 @@
-// A keeper over SQL tables.
+// Keepers in memory and over SQL tables.
 use keeper_sql::SqlKeeper;
-use outside::{Block, Keeper, OutFault, Text, TraceText, Traces};
+use outside::{Block, Keeper, MemKeeper, OutFault, Sign, Text, TraceText, Traces};
 use std::alloc::{AllocError, Global};
 use std::fs;
 use std::process::Abort;
@@ -23,12 +23,17 @@ fn text_if_any(alloc: Global, bytes: Option<&[u8]>) -> Result<Option<Text>, Allo
     }
 }
 
-fn traces_of(alloc: Global, row: &Row<'_>) -> Result<Traces, AllocError> {
-    let mut traces = Vec::new(alloc);
+fn add_traces(alloc: Global, traces: &mut Vec<TraceText>, row: &Row<'_>) -> Result<(), AllocError> {
     for line in row.lines {
         let text = Text::copy(alloc, row.name)?;
         traces.push(TraceText { line: *line, text })?;
     }
+    Ok(())
+}
+
+fn traces_of(alloc: Global, row: &Row<'_>) -> Result<Traces, AllocError> {
+    let mut traces = Vec::new(alloc);
+    add_traces(alloc, &mut traces, row)?;
     Ok(Traces::new(traces))
 }
 
@@ -67,87 +72,142 @@ fn is_of(block: &Block, row: &Row<'_>) -> bool {
 }
 
 /// Whether the keeper has this row.
-fn has(alloc: Global, keeper: &mut SqlKeeper, row: &Row<'_>) -> Result<bool, OutFault> {
+fn has<K: Keeper>(alloc: Global, keeper: &mut K, row: &Row<'_>) -> Result<bool, OutFault> {
     match keeper.block(alloc, row.name)? {
         Some(block) => Ok(is_of(&block, row)),
         None => Ok(false),
     }
 }
 
-fn put(alloc: Global, keeper: &mut SqlKeeper, row: &Row<'_>) -> Result<(), OutFault> {
-    keeper.put_block(alloc, row.name, &block_of(alloc, row)?)
+fn put<K: Keeper>(alloc: Global, keeper: &mut K, row: &Row<'_>) -> Result<(), OutFault> {
+    let block = block_of(alloc, row)?;
+    keeper.put_block(alloc, row.name, &block)
+}
+
+fn add_all(all: &mut Text, texts: &[Text]) -> Result<(), AllocError> {
+    for text in texts {
+        all.append(b" ")?;
+        all.append(text.bytes())?;
+    }
+    Ok(())
 }
 
 /// These texts, each behind a space.
 fn joined(alloc: Global, texts: &[Text]) -> Result<Text, AllocError> {
     let mut all = Text::copy(alloc, b"")?;
-    for text in texts {
-        all.append(b" ")?;
-        all.append(text.bytes())?;
-    }
+    add_all(&mut all, texts)?;
     Ok(all)
 }
 
-/// The proofs' keys, each behind a space, as a walk from the least one finds them.
-fn walked(alloc: Global, keeper: &mut SqlKeeper) -> Result<Text, OutFault> {
-    let mut keys = Vec::new(alloc);
-    let mut next = keeper.proof_key_after(alloc, None)?;
+// Adds the keys of proofs in their order.
+fn walk<K: Keeper>(alloc: Global, keeper: &mut K, keys: &mut Vec<Text>) -> Result<(), OutFault> {
     for _ in 0..9 {
-        let Some(key) = next else { break };
-        next = keeper.proof_key_after(alloc, Some(key.bytes()))?;
+        let above = keys.last().map(|key| key.bytes());
+        let Some(key) = keeper.proof_key_after(alloc, above)? else {
+            break
+        };
         keys.push(key)?;
     }
+    Ok(())
+}
+
+/// The proofs' keys, each behind a space, as a walk from the least one finds them.
+fn walked<K: Keeper>(alloc: Global, keeper: &mut K) -> Result<Text, OutFault> {
+    let mut keys = Vec::new(alloc);
+    walk(alloc, keeper, &mut keys)?;
     Ok(joined(alloc, &keys)?)
 }
 
-fn blocks(rt: &impl Abort, alloc: Global, keeper: &mut SqlKeeper) -> Result<(), Fail> {
-    let plain = Row {
+/// Rows as they are put, the second one in place of the first.
+const PUT: &[Row] = &[
+    Row {
+        name: b"b",
+        module: None,
+        set: None,
+        report: None,
+        lines: &[3, 1, 4294967295],
+    },
+    Row {
         name: b"b",
         module: Some(b"module \xff\x00"),
         set: Some(b""),
         report: Some(b"report"),
         lines: &[3, 1, 4294967295],
-    };
-    let bare = Row {
+    },
+    Row {
+        name: b"a",
         module: None,
         set: None,
         report: None,
-        ..plain
-    };
-    let lined = Row {
-        name: b"a",
         lines: &[7],
-        ..bare
-    };
-    let short = Row {
+    },
+    Row {
         name: b"ab",
-        lines: &plain.lines[..0],
-        ..plain
-    };
-    for row in [bare, lined, plain, short] {
-        put(alloc, keeper, &row)?;
-        assert!(rt; has(alloc, keeper, &row)?);
+        module: Some(b"module \xff\x00"),
+        set: Some(b""),
+        report: Some(b"report"),
+        lines: &[],
+    },
+];
+
+fn keeps<K: Keeper>(rt: &impl Abort, alloc: Global, keeper: &mut K) -> Result<(), Fail> {
+    for row in PUT.iter().skip(1) {
+        assert!(rt; has(alloc, keeper, row)?);
     }
-    for row in [lined, plain, short] {
-        assert!(rt; has(alloc, keeper, &row)?);
-    }
-    let names = joined(alloc, &keeper.names(alloc)?)?;
-    assert!(rt; names.bytes() == b" a ab b".as_slice());
-    assert!(rt; keeper.block(alloc, b"c")?.is_none());
     Ok(())
 }
 
-fn proofs(rt: &impl Abort, alloc: Global, keeper: &mut SqlKeeper) -> Result<(), Fail> {
-    for (key, bytes) in [
-        ("key", "1"),
-        ("", "2"),
-        ("\u{7f}", "3"),
-        ("k", "4"),
-        ("key", "5"),
-    ] {
+fn names_are<K: Keeper>(
+    rt: &impl Abort,
+    alloc: Global,
+    keeper: &mut K,
+    want: &[u8],
+) -> Result<(), Fail> {
+    let names = joined(alloc, &keeper.names(alloc)?)?;
+    assert!(rt; names.bytes() == want);
+    Ok(())
+}
+
+fn puts<K: Keeper>(rt: &impl Abort, alloc: Global, keeper: &mut K) -> Result<(), Fail> {
+    for row in PUT {
+        put(alloc, keeper, row)?;
+        assert!(rt; has(alloc, keeper, row)?);
+    }
+    Ok(())
+}
+
+fn blocks<K: Keeper>(rt: &impl Abort, alloc: Global, keeper: &mut K) -> Result<(), Fail> {
+    puts(rt, alloc, keeper)?;
+    keeps(rt, alloc, keeper)?;
+    assert!(rt; keeper.block(alloc, b"c")?.is_none());
+    names_are(rt, alloc, keeper, b" a ab b")
+}
+
+// Whether this is kept under a key.
+fn is_kept<K: Keeper>(
+    alloc: Global,
+    keeper: &mut K,
+    key: &[u8],
+    bytes: &[u8],
+) -> Result<bool, OutFault> {
+    match keeper.proof(alloc, key)? {
+        Some(kept) => Ok(kept.as_slice() == bytes),
+        None => Ok(false),
+    }
+}
+
+const PROOFS: &[(&str, &str)] = &[
+    ("key", "1"),
+    ("", "2"),
+    ("\u{7f}", "3"),
+    ("k", "4"),
+    ("key", "5"),
+];
+
+fn proofs<K: Keeper>(rt: &impl Abort, alloc: Global, keeper: &mut K) -> Result<(), Fail> {
+    for (key, bytes) in PROOFS {
         keeper.put_proof(alloc, key.as_bytes(), bytes.as_bytes())?;
-        let kept = keeper.proof(alloc, key.as_bytes())?.ok_or("no row")?;
-        assert!(rt; kept.as_slice() == bytes.as_bytes());
+        assert!(rt; is_kept(alloc, keeper, key.as_bytes(), bytes.as_bytes())?);
     }
     assert!(rt; keeper.proof(alloc, b"ke")?.is_none());
     let keys = walked(alloc, keeper)?;
@@ -155,49 +215,97 @@ fn proofs(rt: &impl Abort, alloc: Global, keeper: &mut SqlKeeper) -> Result<(), 
     Ok(())
 }
 
-fn signs(rt: &impl Abort, alloc: Global, keeper: &mut SqlKeeper) -> Result<(), Fail> {
-    for (block, number) in [("c1", 1), ("c2", 2), ("c1", 3)] {
-        let put = keeper.put_sign(alloc, block.as_bytes(), b"m", b"s", b"signed off")?;
-        assert_eq!(rt; put, number);
-    }
-    for (block, set, want) in [
-        ("c1", "s", Some(1)),
-        ("c2", "s", Some(2)),
-        ("c1", "t", None),
-    ] {
-        let found = keeper.find_sign(alloc, block.as_bytes(), b"m", set.as_bytes())?;
-        assert_eq!(rt; found, want);
-    }
+const SIGNED: &[(&str, u64)] = &[("c1", 1), ("c2", 2), ("c1", 3)];
+
+const FOUND: &[(&str, &str, Option<u64>)] = &[
+    ("c1", "s", Some(1)),
+    ("c2", "s", Some(2)),
+    ("c1", "t", None),
+];
+
+// Whether a sign-off has this number and block, and the texts of the rows.
+fn is_sign(sign: &Sign, block: &str, number: u64) -> bool {
+    sign.number == number
+        && sign.block.bytes() == block.as_bytes()
+        && sign.module.bytes() == b"m".as_slice()
+        && sign.set.bytes() == b"s".as_slice()
+        && sign.report.bytes() == b"signed off".as_slice()
+}
+
+fn signs_stand<K: Keeper>(rt: &impl Abort, alloc: Global, keeper: &mut K) -> Result<(), Fail> {
     let signs = keeper.signs(alloc)?;
-    assert_eq!(rt; signs.len(), 3);
-    let second = &signs[1];
-    assert!(rt; second.number == 2 && second.block.bytes() == b"c2".as_slice());
-    assert!(rt; second.module.bytes() == b"m".as_slice() && second.set.bytes() == b"s".as_slice());
-    assert!(rt; second.report.bytes() == b"signed off".as_slice() && signs[2].number == 3);
+    assert!(rt; signs.len() == SIGNED.len());
+    for (sign, (block, number)) in signs.iter().zip(SIGNED) {
+        assert!(rt; is_sign(sign, block, *number));
+    }
     Ok(())
+}
+
+fn signs<K: Keeper>(rt: &impl Abort, alloc: Global, keeper: &mut K) -> Result<(), Fail> {
+    for (block, number) in SIGNED {
+        let put = keeper.put_sign(alloc, block.as_bytes(), b"m", b"s", b"signed off")?;
+        assert!(rt; put == *number);
+    }
+    for (block, set, want) in FOUND {
+        let found = keeper.find_sign(alloc, block.as_bytes(), b"m", set.as_bytes())?;
+        assert!(rt; found == *want);
+    }
+    signs_stand(rt, alloc, keeper)
+}
+
+fn tables<K: Keeper>(rt: &impl Abort, alloc: Global, keeper: &mut K) -> Result<(), Fail> {
+    blocks(rt, alloc, keeper)?;
+    proofs(rt, alloc, keeper)?;
+    signs(rt, alloc, keeper)
+}
+
+#[test]
+fn a_keeper_in_memory_has_what_was_put(rt: HostRuntime) -> Result<(), Fail> {
+    let alloc = rt.alloc();
+    tables(&rt, alloc, &mut MemKeeper::new(alloc, Vec::new(alloc)))
 }
 
 #[test]
 fn tables_in_memory_have_what_was_put(rt: HostRuntime) -> Result<(), Fail> {
     let alloc = rt.alloc();
-    let mut keeper = SqlKeeper::in_memory(alloc)?;
-    blocks(&rt, alloc, &mut keeper)?;
-    proofs(&rt, alloc, &mut keeper)?;
-    signs(&rt, alloc, &mut keeper)
+    tables(&rt, alloc, &mut SqlKeeper::in_memory(alloc)?)
+}
+
+// The first call fails, and later on the second one.
+fn failing_calls(rt: &impl Abort, alloc: Global, keeper: &mut MemKeeper) -> Result<(), Fail> {
+    assert!(rt; keeper.put_proof(alloc, b"k", b"1") == Err(OutFault::Failed));
+    keeper.put_proof(alloc, b"k", b"4")?;
+    keeper.set_fails([2].as_slice().to_vec(alloc)?);
+    assert!(rt; is_kept(alloc, keeper, b"k", b"4")?);
+    assert!(rt; keeper.proof(alloc, b"k").is_err());
+    Ok(())
+}
+
+#[test]
+fn a_keeper_in_memory_fails_where_it_is_to(rt: HostRuntime) -> Result<(), Fail> {
+    let alloc = rt.alloc();
+    let mut keeper = MemKeeper::new(alloc, [1].as_slice().to_vec(alloc)?);
+    failing_calls(&rt, alloc, &mut keeper)
+}
+
+const PATH: &str = "keeper_rows.db";
+
+fn put_in_file(rt: &HostRuntime, alloc: Global) -> Result<(), Fail> {
+    let mut keeper = SqlKeeper::over(rt, PATH)?;
+    keeper.put_proof(alloc, b"key", b"bytes")?;
+    Ok(())
+}
+
+fn is_in_file(rt: &HostRuntime, alloc: Global) -> Result<bool, Fail> {
+    let mut keeper = SqlKeeper::over(rt, PATH)?;
+    Ok(is_kept(alloc, &mut keeper, b"key", b"bytes")?)
 }
 
 #[test]
 fn a_file_is_opened_with_its_rows(rt: HostRuntime) -> Result<(), Fail> {
-    let path = "keeper_rows.db";
-    let alloc = rt.alloc();
-    let mut keeper = SqlKeeper::over(&rt, path)?;
-    keeper.put_proof(alloc, b"key", b"bytes")?;
-    drop(keeper);
-    let mut again = SqlKeeper::over(&rt, path)?;
-    let kept = again.proof(alloc, b"key")?.ok_or("no row")?;
-    assert!(rt; kept.as_slice() == b"bytes".as_slice());
-    drop(again);
-    fs::remove_file(&rt, path)?;
+    put_in_file(&rt, rt.alloc())?;
+    assert!(rt; is_in_file(&rt, rt.alloc())?);
+    fs::remove_file(&rt, PATH)?;
     let _ = fs::remove_file(&rt, "keeper_rows.db-wal");
     Ok(())
 }

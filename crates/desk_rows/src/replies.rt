@@ -26,69 +26,81 @@ const JSON: &str = "application/json";
 
 const TEXT: &str = "text/plain";
 
+/// The status, phrase, kind and body of a reply.
+type Want<'a> = (u16, &'a str, &'a str, &'a str);
+
+/// Wants this reply.
+fn replied(rt: &(impl Abort + AllocGlobal), reply: &Reply, want: Want<'_>) -> Result<(), Fail> {
+    let (status, phrase, kind, body) = want;
+    let told = is(rt.alloc(), reply, status, phrase, kind, body)?;
+    assert!(rt; told, "{body}");
+    Ok(())
+}
+
+const REFUSALS: &[(Refusal, u16, &str, &str)] = &[
+    (Refusal::Head, 400, "Bad Request", "{\"error\":\"head\"}"),
+    (
+        Refusal::LargeHead,
+        431,
+        "Request Header Fields Too Large",
+        "{\"error\":\"large head\"}",
+    ),
+    (
+        Refusal::Coding,
+        501,
+        "Not Implemented",
+        "{\"error\":\"coding\"}",
+    ),
+    (
+        Refusal::Length,
+        400,
+        "Bad Request",
+        "{\"error\":\"length\"}",
+    ),
+    (
+        Refusal::NoLength,
+        411,
+        "Length Required",
+        "{\"error\":\"no length\"}",
+    ),
+    (
+        Refusal::Long,
+        413,
+        "Content Too Large",
+        "{\"error\":\"long\"}",
+    ),
+    (
+        Refusal::NoRoute,
+        404,
+        "Not Found",
+        "{\"error\":\"no route\"}",
+    ),
+    (
+        Refusal::Method,
+        405,
+        "Method Not Allowed",
+        "{\"error\":\"method\"}",
+    ),
+    (Refusal::Name, 400, "Bad Request", "{\"error\":\"name\"}"),
+];
+
+fn refused(rt: &(impl Abort + AllocGlobal), refusal: Refusal, want: Want<'_>) -> Result<(), Fail> {
+    replied(rt, &refusal_reply(rt.alloc(), refusal)?, want)
+}
+
 #[test]
 fn each_refusal_has_its_reply(rt: HostRuntime) -> Result<(), Fail> {
-    let alloc = rt.alloc();
-    for (refusal, status, phrase, body) in [
-        (Refusal::Head, 400, "Bad Request", "{\"error\":\"head\"}"),
-        (
-            Refusal::LargeHead,
-            431,
-            "Request Header Fields Too Large",
-            "{\"error\":\"large head\"}",
-        ),
-        (
-            Refusal::Coding,
-            501,
-            "Not Implemented",
-            "{\"error\":\"coding\"}",
-        ),
-        (
-            Refusal::Length,
-            400,
-            "Bad Request",
-            "{\"error\":\"length\"}",
-        ),
-        (
-            Refusal::NoLength,
-            411,
-            "Length Required",
-            "{\"error\":\"no length\"}",
-        ),
-        (
-            Refusal::Long,
-            413,
-            "Content Too Large",
-            "{\"error\":\"long\"}",
-        ),
-        (
-            Refusal::NoRoute,
-            404,
-            "Not Found",
-            "{\"error\":\"no route\"}",
-        ),
-        (
-            Refusal::Method,
-            405,
-            "Method Not Allowed",
-            "{\"error\":\"method\"}",
-        ),
-        (Refusal::Name, 400, "Bad Request", "{\"error\":\"name\"}"),
-    ] {
-        let reply = refusal_reply(alloc, refusal)?;
-        assert!(rt; is(alloc, &reply, status, phrase, JSON, body)?, "{body}");
+    for (refusal, status, phrase, body) in REFUSALS {
+        refused(&rt, *refusal, (*status, phrase, JSON, body))?;
     }
-    let reply = keeper_reply(alloc)?;
-    assert!(rt;
-        is(
-            alloc,
-            &reply,
-            503,
-            "Service Unavailable",
-            JSON,
-            "{\"error\":\"keeper\"}"
-        )?
-    );
+    Ok(())
+}
+
+#[test]
+fn a_desk_that_fails_has_its_reply(rt: HostRuntime) -> Result<(), Fail> {
+    let body = "{\"error\":\"keeper\"}";
+    let keeper = keeper_reply(rt.alloc())?;
+    replied(&rt, &keeper, (503, "Service Unavailable", JSON, body))?;
     assert!(rt;
         STARVED
             == b"HTTP/1.1 507 Insufficient Storage\r\nContent-Length: 0\r\nConnection: close\r\n\r\n".as_slice()
@@ -96,18 +108,11 @@ fn each_refusal_has_its_reply(rt: HostRuntime) -> Result<(), Fail> {
     Ok(())
 }
 
-/// Wants a reply to an answer: its status, phrase, kind and body.
-fn told(
-    rt: &(impl Abort + AllocGlobal),
-    answer: Answer,
-    want: (u16, &str, &str, &str),
-) -> Result<(), Fail> {
-    let alloc = rt.alloc();
-    let (status, phrase, kind, body) = want;
-    let reply = reply_of(alloc, &answer);
+/// Wants this reply to an answer.
+fn told(rt: &(impl Abort + AllocGlobal), answer: Answer, want: Want<'_>) -> Result<(), Fail> {
+    let reply = reply_of(rt.alloc(), &answer);
     drop(answer);
-    assert!(rt; is(alloc, &reply?, status, phrase, kind, body)?, "{body}");
-    Ok(())
+    replied(rt, &reply?, want)
 }
 
 /// Wants that there is not what is asked for.

@@ -31,33 +31,35 @@ fn port(alloc: Global, sent: &[u8]) -> Result<MemPort, Fail> {
     Ok(port)
 }
 
+const HEADS: &[(&str, Option<Refusal>)] = &[
+    ("\0", Some(Refusal::Head)),
+    (
+        "PUT /x HTTP/1.1\nTransfer-Encoding: x\nContent-Length: a\n\n",
+        Some(Refusal::Coding),
+    ),
+    (
+        "PUT /x HTTP/1.1\nContent-Length: 1\nContent-Length: 2\n\n",
+        Some(Refusal::Length),
+    ),
+    ("PUT /x HTTP/1.1\n\n", Some(Refusal::NoLength)),
+    (
+        "GET /x HTTP/1.1\nContent-Length: 1048577\n\n",
+        Some(Refusal::Long),
+    ),
+    (
+        "PUT /x HTTP/1.1\nContent-Length: 1048576\n\n",
+        Some(Refusal::NoRoute),
+    ),
+    ("POST /blocks HTTP/1.1\n\n", Some(Refusal::Method)),
+    ("POST /blocks/a%20b/sign HTTP/1.1\n\n", Some(Refusal::Name)),
+    ("POST /blocks/a_b/sign HTTP/1.1\n\n", None),
+];
+
 #[test]
 fn a_head_is_refused_by_its_first_cause(rt: HostRuntime) -> Result<(), Fail> {
-    let alloc = rt.alloc();
-    for (sent, want) in [
-        ("\0", Some(Refusal::Head)),
-        (
-            "PUT /x HTTP/1.1\nTransfer-Encoding: x\nContent-Length: a\n\n",
-            Some(Refusal::Coding),
-        ),
-        (
-            "PUT /x HTTP/1.1\nContent-Length: 1\nContent-Length: 2\n\n",
-            Some(Refusal::Length),
-        ),
-        ("PUT /x HTTP/1.1\n\n", Some(Refusal::NoLength)),
-        (
-            "GET /x HTTP/1.1\nContent-Length: 1048577\n\n",
-            Some(Refusal::Long),
-        ),
-        (
-            "PUT /x HTTP/1.1\nContent-Length: 1048576\n\n",
-            Some(Refusal::NoRoute),
-        ),
-        ("POST /blocks HTTP/1.1\n\n", Some(Refusal::Method)),
-        ("POST /blocks/a%20b/sign HTTP/1.1\n\n", Some(Refusal::Name)),
-        ("POST /blocks/a_b/sign HTTP/1.1\n\n", None),
-    ] {
-        assert_eq!(rt; refusal(alloc, sent.as_bytes())?, want, "{sent}");
+    for (sent, want) in HEADS {
+        let refused = refusal(rt.alloc(), sent.as_bytes())?;
+        assert_eq!(rt; refused, *want, "{sent}");
     }
     Ok(())
 }

@@ -1,0 +1,328 @@
+// Obligations settled over a keeper, and rows of kept proofs moved.
+use crate::helpers::{Liar, zero};
+use helper_box::{Helper, Table};
+use outside::{Keeper, MemKeeper, QuietGate, Text};
+use proof_store::{Settings, Settled, StoreFault, migrate, settle};
+use std::alloc::{AllocError, Global};
+use std::process::Abort;
+use std::test::Fail;
+use std::thread::Threads;
+use step_records::{fits_version_1, read_steps, write_steps_1};
+use verdicts::Evidence;
+use word_core::Word;
+use word_dag::{Named, Node, Ob, Op, text};
+
+// A word is less than another and also greater.
+fn between(alloc: Global) -> Result<Ob, AllocError> {
+    let mut nodes = Vec::new(alloc);
+    nodes.push(Node::Free {
+        name: Text::copy(alloc, b"a")?,
+        width: 4,
+        side: 0,
+        cycle: 0,
+    })?;
+    nodes.push(Node::Free {
+        name: Text::copy(alloc, b"b")?,
+        width: 4,
+        side: 0,
+        cycle: 0,
+    })?;
+    nodes.push(Node::Two {
+        op: Op::Ult,
+        width: 1,
+        a: 0,
+        b: 1,
+    })?;
+    nodes.push(Node::Two {
+        op: Op::Ult,
+        width: 1,
+        a: 1,
+        b: 0,
+    })?;
+    nodes.push(Node::Two {
+        op: Op::And,
+        width: 1,
+        a: 2,
+        b: 3,
+    })?;
+    Ok(Ob::new(nodes, 4))
+}
+
+// A word is 5.
+fn five(alloc: Global) -> Result<Ob, AllocError> {
+    let mut nodes = Vec::new(alloc);
+    nodes.push(Node::Free {
+        name: Text::copy(alloc, b"x")?,
+        width: 4,
+        side: 0,
+        cycle: 0,
+    })?;
+    nodes.push(Node::Const(Word::new(4, 5)))?;
+    nodes.push(Node::Two {
+        op: Op::Eq,
+        width: 1,
+        a: 0,
+        b: 1,
+    })?;
+    Ok(Ob::new(nodes, 2))
+}
+
+fn named(alloc: Global, name: &[u8], ob: Ob) -> Result<Named, AllocError> {
+    Ok(Named {
+        name: Text::copy(alloc, name)?,
+        ob,
+    })
+}
+
+// What an obligation's end is shown by.
+#[derive(Clone, Copy, Debug, PartialEq, Eq)]
+enum End {
+    Derivation,
+    Values,
+    Chain,
+}
+
+fn end_of(evidence: &Evidence) -> End {
+    match evidence {
+        Evidence::Derivation(_) => End::Derivation,
+        Evidence::Values(_) => End::Values,
+        Evidence::Chain(_) => End::Chain,
+    }
+}
+
+// How many are kept, helped and solved, and how many numbers were drawn.
+fn counts(settled: &Settled) -> (u64, u64, u64, usize) {
+    (
+        settled.kept,
+        settled.helped,
+        settled.solved,
+        settled.draws.len(),
+    )
+}
+
+// Whether the obligations end so, in their order.
+fn end_so(settled: &Settled, ends: &[End]) -> bool {
+    settled.decided.len() == ends.len()
+        && settled
+            .decided
+            .iter()
+            .zip(ends.iter())
+            .all(|(one, end)| end_of(&one.evidence) == *end)
+}
+
+const SETTINGS: Settings = Settings {
+    budget: 1_000,
+    workers: 2,
+};
+
+// Settles at most three obligations.
+fn settled(
+    rt: &(impl Threads + Sync + Abort + AllocGlobal),
+    obs: &[Named],
+    keeper: &mut MemKeeper,
+    helpers: &mut Vec<Box<dyn Helper>>,
+) -> Result<Settled, StoreFault> {
+    assert!(rt; obs.len() <= 3);
+    settle(rt, rt.alloc(), obs, keeper, helpers, &SETTINGS, &QuietGate)
+}
+
+// How many are kept, helped and solved, how many numbers are drawn, and the ends.
+type Want<'a> = ((u64, u64, u64, usize), &'a [End]);
+
+// Settles obligations, and wants what comes of them.
+fn settles(
+    rt: &(impl Threads + Sync + Abort + AllocGlobal),
+    obs: &[Named],
+    keeper: &mut MemKeeper,
+    helpers: &mut Vec<Box<dyn Helper>>,
+    want: Want<'_>,
+) -> Result<(), Fail> {
+    let settled = settled(rt, obs, keeper, helpers)?;
+    assert_eq!(rt; counts(&settled), want.0);
+    assert!(rt; end_so(&settled, want.1));
+    Ok(())
+}
+
+const ENDS: &[End] = &[End::Derivation, End::Derivation, End::Values];
+
+const TWO_ENDS: &[End] = &[End::Derivation, End::Derivation];
+
+// Two obligations whose root is never 1, and one whose root is 1 at one value.
+fn add_three(alloc: Global, all: &mut Vec<Named>) -> Result<(), AllocError> {
+    all.push(named(alloc, b"zero", zero(alloc)?)?)?;
+    all.push(named(alloc, b"between", between(alloc)?)?)?;
+    all.push(named(alloc, b"five", five(alloc)?)?)?;
+    Ok(())
+}
+
+fn three(alloc: Global) -> Result<Vec<Named>, AllocError> {
+    let mut all = Vec::new(alloc);
+    add_three(alloc, &mut all)?;
+    Ok(all)
+}
+
+// The row of an obligation gets another first byte.
+fn spoil(alloc: Global, keeper: &mut MemKeeper, ob: &Ob) -> Result<(), Fail> {
+    let key = text(alloc, ob)?;
+    let mut bytes = keeper.proof(alloc, &key)?.ok_or("not kept")?;
+    if let Some(first) = bytes.first_mut() {
+        *first ^= 1;
+    }
+    keeper.put_proof(alloc, &key, &bytes)?;
+    Ok(())
+}
+
+// The second row is damaged before the third turn.
+fn settled_again(
+    rt: &(impl Threads + Sync + Abort + AllocGlobal),
+    obs: &[Named],
+    keeper: &mut MemKeeper,
+    helpers: &mut Vec<Box<dyn Helper>>,
+) -> Result<(), Fail> {
+    settles(rt, obs, keeper, helpers, ((0, 0, 3, 5), ENDS))?;
+    settles(rt, obs, keeper, helpers, ((2, 0, 1, 3), ENDS))?;
+    assert!(rt; obs.len() == 3);
+    spoil(rt.alloc(), keeper, &obs[1].ob)?;
+    settles(rt, obs, keeper, helpers, ((1, 0, 2, 4), ENDS))?;
+    settles(rt, obs, keeper, helpers, ((2, 0, 1, 3), ENDS))
+}
+
+#[test]
+fn proofs_are_kept_and_checked_again(rt: HostRuntime) -> Result<(), Fail> {
+    let alloc: Global = rt.alloc();
+    let obs = three(alloc)?;
+    let mut keeper = MemKeeper::new(alloc, Vec::new(alloc));
+    settled_again(&rt, &obs, &mut keeper, &mut Vec::new(alloc))
+}
+
+#[test]
+fn with_all_kept_no_number_is_drawn(rt: HostRuntime) -> Result<(), Fail> {
+    let alloc: Global = rt.alloc();
+    let mut obs = three(alloc)?;
+    obs.truncate(2);
+    let mut keeper = MemKeeper::new(alloc, Vec::new(alloc));
+    for want in [(0, 0, 2, 4), (2, 0, 0, 0)] {
+        settles(
+            &rt,
+            &obs,
+            &mut keeper,
+            &mut Vec::new(alloc),
+            (want, TWO_ENDS),
+        )?;
+    }
+    Ok(())
+}
+
+// Settles obligations over an empty keeper, and wants what comes of them and how often the liar was asked by then.
+fn helped(
+    rt: &(impl Threads + Sync + Abort + AllocGlobal),
+    obs: &[Named],
+    helpers: &mut Vec<Box<dyn Helper>>,
+    want: Want<'_>,
+    asked: u64,
+) -> Result<(), Fail> {
+    let mut keeper = MemKeeper::new(rt.alloc(), Vec::new(rt.alloc()));
+    settles(rt, obs, &mut keeper, helpers, want)?;
+    let so_often = helpers
+        .first()
+        .is_some_and(|helper| helper.offers() == asked);
+    assert!(rt; so_often);
+    Ok(())
+}
+
+fn helped_by_a_table(
+    rt: &(impl Threads + Sync + Abort + AllocGlobal),
+    obs: &[Named],
+    helpers: &mut Vec<Box<dyn Helper>>,
+) -> Result<(), Fail> {
+    let alloc: Global = rt.alloc();
+    helpers.push(Box::new(alloc, Liar { offers: 0 })?)?;
+    helped(rt, obs, helpers, ((0, 0, 3, 5), ENDS), 3)?;
+    helpers.push(Box::new(alloc, Table::new())?)?;
+    helped(rt, obs, helpers, ((0, 1, 2, 4), ENDS), 6)?;
+    let last = helpers.last().is_some_and(|helper| helper.offers() == 3);
+    assert!(rt; last);
+    Ok(())
+}
+
+#[test]
+fn claims_that_pass_count(rt: HostRuntime) -> Result<(), Fail> {
+    let alloc: Global = rt.alloc();
+    helped_by_a_table(&rt, &three(alloc)?, &mut Vec::new(alloc))
+}
+
+// Whether the keeper fails where this call of it does.
+fn fails(
+    rt: &(impl Threads + Sync + Abort + AllocGlobal),
+    obs: &[Named],
+    call: u64,
+) -> Result<bool, Fail> {
+    let alloc: Global = rt.alloc();
+    let mut keeper = MemKeeper::new(alloc, [call].as_slice().to_vec(alloc)?);
+    match settled(rt, obs, &mut keeper, &mut Vec::new(alloc)) {
+        Ok(_) => Ok(false),
+        Err(StoreFault::Keeper) => Ok(true),
+        Err(StoreFault::Memory) => Err(AllocError)?,
+    }
+}
+
+// Each of the calls that the keeper gets fails in turn; the first is answered without a fault where no call fails.
+#[test]
+fn a_keeper_that_fails_is_told(rt: HostRuntime) -> Result<(), Fail> {
+    let obs = three(rt.alloc())?;
+    for call in 1..7u64 {
+        let failed = fails(&rt, &obs, call)?;
+        assert!(rt; failed == (call < 6));
+    }
+    Ok(())
+}
+
+// Puts the record of an obligation's proof again as one of version 1.
+fn put_first(alloc: Global, keeper: &mut MemKeeper, ob: &Ob) -> Result<(), Fail> {
+    let key = text(alloc, ob)?;
+    let bytes = keeper.proof(alloc, &key)?.ok_or("not kept")?;
+    let steps = read_steps(alloc, &bytes)?.ok_or("no record")?;
+    if fits_version_1(&steps) {
+        let first = write_steps_1(alloc, &steps)?;
+        keeper.put_proof(alloc, &key, &first)?;
+    }
+    Ok(())
+}
+
+// At most so many rows are come to; how many were moved and left, and whether there are more.
+const MOVES: &[(u64, (u64, u64, bool))] = &[
+    (1, (1, 0, true)),
+    (9, (1, 1, false)),
+    (2, (0, 2, true)),
+];
+
+fn moves(rt: &(impl Abort + AllocGlobal), keeper: &mut MemKeeper) -> Result<(), Fail> {
+    for (most, want) in MOVES {
+        assert!(rt; 0 < *most);
+        let moved = migrate(rt.alloc(), keeper, *most)?;
+        assert_eq!(rt; (moved.moved, moved.left, moved.more), *want);
+    }
+    Ok(())
+}
+
+// Settles three obligations, moves their rows from the first version, and settles them again.
+fn settled_and_moved(
+    rt: &(impl Threads + Sync + Abort + AllocGlobal),
+    obs: &[Named],
+    keeper: &mut MemKeeper,
+) -> Result<(), Fail> {
+    let alloc: Global = rt.alloc();
+    settles(rt, obs, keeper, &mut Vec::new(alloc), ((0, 0, 3, 5), ENDS))?;
+    assert!(rt; obs.len() == 3);
+    put_first(alloc, keeper, &obs[0].ob)?;
+    put_first(alloc, keeper, &obs[1].ob)?;
+    moves(rt, keeper)?;
+    settles(rt, obs, keeper, &mut Vec::new(alloc), ((2, 0, 1, 3), ENDS))
+}
+
+#[test]
+fn rows_are_moved(rt: HostRuntime) -> Result<(), Fail> {
+    let alloc: Global = rt.alloc();
+    let obs = three(alloc)?;
+    settled_and_moved(&rt, &obs, &mut MemKeeper::new(alloc, Vec::new(alloc)))
+}

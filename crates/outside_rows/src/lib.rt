@@ -1,5 +1,0 @@
-//! Rows of what a program reaches outside itself.
-#![tactic(auto)]
-
-#[cfg(test)]
-mod rows;

@@ -1,6 +1,0 @@
-use Rattle.std.proofs.Common.{◌≡◌, refl, arith}
-use Rattle.signoff.proofs.Answering.{adds_none, both_answered, no_module_answered, no_set_answered, refusal_other}
-use Rattle.signoff.proofs.run.job_answer.Goals as goal
-
-pub returns-in-Both-clause-answer : goal.returns-in-Both-clause-answer
-returns-in-Both-clause-answer g c = both_answered c.judged.result c.args.job.now c.args.read.now _ _ _ _ c.in-Both.is c.judged.ensures.answer

@@ -1,0 +1,328 @@
+-- What is answered, and with which status.
+use Rattle.std.proofs.Common.{◌≡◌, ◌<◌, List, [], ℕ, sym, ap, ◌∙◌, subst, inl, inr, ⊎_elim, Ok, Err, Option, Some, None, Bool, true, false, refl, arith}
+use Rattle.std.specs.Prelude.{◌≢◌, ◌^◌, ◌++◌, ◌⊎◌, IfOk, Result, codes, if◌then◌else◌}
+use Rattle.std.specs.List.{list_any}
+use Rattle.std.specs.Io.KnownBytes.{Appends}
+use Rattle.outside.specs.Faults.{Rose}
+use Rattle.outside.specs.Tables.{Tables}
+use Rattle.proof_store.specs.declared.moving.Moved.{Moved}
+use Rattle.proof_store.specs.Moves.{MovesRows, Walks}
+use Rattle.proof_store.specs.Stored.{AddsProofs, Told}
+use Rattle.word_dag.specs.Nodes.{Parts}
+use Rattle.check_faults.specs.declared.fault.CheckFault.{CheckFault}
+use Rattle.check_faults.specs.declared.fault.CheckFault.TheVariants as f
+use Rattle.fault_texts.specs.Texts.{fault_line, status_of}
+use Rattle.reports.specs.declared.book.Book.{Book}
+use Rattle.reports.specs.declared.book.Verdict.{Verdict}
+use Rattle.reports.specs.declared.report.Report.{Report}
+use Rattle.reports.specs.declared.which.Which.{Which}
+use Rattle.reports.specs.declared.which.Which.TheVariants as w
+use Rattle.asked_lines.specs.Settled.{AddsProofsOf}
+use Rattle.desk_core.specs.Checks.{AreObsOfTexts, Refuses}
+use Rattle.http_connection.specs.declared.serve.ServeFault.{ServeFault}
+use Rattle.http_connection.specs.declared.serve.ServeFault.TheVariants.{Memory, Next}
+use Rattle.desk_http.specs.Serving.{Line as Wires, ServesMany, State, StopsWithin, none}
+use Rattle.demo_gen.specs.Texts.{module_text, set_text}
+use Rattle.command_words.specs.declared.action.Command.{Command}
+use Rattle.command_words.specs.declared.action.Command.TheVariants as c
+use Rattle.command_words.specs.declared.action.Job.{Job}
+use Rattle.command_words.specs.declared.action.Service.{Service}
+use Rattle.signoff_call.specs.declared.answer.Answer.{Answer}
+use Rattle.signoff_call.specs.declared.files.Read.{Read}
+use Rattle.signoff_call.specs.declared.files.Read.TheVariants.{Both, NoModule, NoSet}
+use Rattle.signoff_call.specs.Run.{AddsSome, Answers, AnswersJob, AnswersMove, AnswersService, AnswersTexts, AppendsPrefix, Around, Delivers, IsRead, LeavesRows, LeavesServed, Reads, RefusesBy, RefusesTexts, ReportsTexts, Stores, around, done, is_refuted, is_spent, moved_text, refusal, refused_status, report_bytes, reported, served_text, stores, stores_of, summary, which_of}
+
+pub both_answered : {E : Type 0} (r : Result Answer E) (j : Job) (read : Read) (m s : List ℕ) (book : Book) (st : Stores) → read ≡ Both m s →
+    IfOk r (AnswersTexts m s (which_of j.asked) j.budget j.workers (report_bytes j.asked book.lines.items) book st) → IfOk r (AnswersJob j read book st)
+both_answered r j read m s book st is h = subst (λ (z : Read). IfOk r (AnswersJob j z book st)) (sym is) h
+
+pub turned_answered : {E : Type 0} (r : Result Answer E) (m s : List ℕ) (which : Which) (budget workers : ℕ) (said : Report → List ℕ) (book : Book) (st : Stores) (fault : CheckFault) →
+    Refuses m s which fault → book.lines.items ≡ [] → AddsProofsOf (AreObsOfTexts m s which) st.before st.after → IfOk r (λ _. fault ≢ f.Memory) →
+    IfOk r (λ a. a ≡ refusal (status_of fault) (fault_line fault)) → IfOk r (AnswersTexts m s which budget workers said book st)
+turned_answered (Ok a) m s which budget workers said book st fault refuses empty left memory line =
+    inl (record { fault = fault; refuses = refuses; no_memory = memory; empty = empty; left = left; answer_is = line })
+turned_answered (Err e) m s which budget workers said book st fault refuses empty left memory line = tt
+
+pub adds_some : (OfCall : List Parts → Type 0) (before after : Option Tables) → AddsProofsOf OfCall before after → AddsSome before after
+adds_some OfCall before after h = (h.0, h.2)
+
+-- of the faults only a keeper's has the status 8
+is_keeper : (fault : CheckFault) (P : Type 0) → (fault ≡ f.Keeper → P) → status_of fault ≡ 8 → P
+is_keeper (f.Module fault) P rose h = let no : 3 ≡ 8 = h in absurd (omega arith)
+is_keeper (f.Set stop) P rose h = let no : 4 ≡ 8 = h in absurd (omega arith)
+is_keeper (f.Bind fault) P rose h = let no : 5 ≡ 8 = h in absurd (omega arith)
+is_keeper f.NoLine P rose h = let no : 2 ≡ 8 = h in absurd (omega arith)
+is_keeper f.Keeper P rose h = rose refl
+is_keeper f.Memory P rose h = let no : 70 ≡ 8 = h in absurd (omega arith)
+
+pub turned_keeper : {E : Type 0} (r : Result Answer E) (fault : CheckFault) (P : Type 0) → (fault ≡ f.Keeper → P) → IfOk r (λ a. a ≡ refusal (status_of fault) (fault_line fault)) →
+    IfOk r (λ a. a.status ≡ 8 → P)
+turned_keeper (Ok a) fault P rose line = λ is. is_keeper fault P rose (sym (ap (λ (z : Answer). z.status) line) ∙ is)
+turned_keeper (Err e) fault P rose line = tt
+
+no_8 : (a b : Bool) (n : ℕ) → n ≡ 8 → (if a then 1 else if b then 10 else 0) ≡ n → ⊥
+no_8 true b n eight h = let is : 1 ≡ n = h in omega arith
+no_8 false true n eight h = let is : 10 ≡ n = h in omega arith
+no_8 false false n eight h = let is : 0 ≡ n = h in omega arith
+
+-- no report has it
+pub reported_keeper : (a : Answer) (vs : List Verdict) (bytes : List ℕ) (P : Type 0) → a ≡ reported vs bytes → a.status ≡ 8 → P
+reported_keeper a vs bytes P same is = absurd (no_8 (list_any is_refuted vs) (list_any is_spent vs) a.status is (sym (ap (λ (z : Answer). z.status) same)))
+
+-- ---- what nothing adds
+
+told_none : (t : Option Tables) → Told (AddsProofs []) t t
+told_none (Some t) = record { blocks = refl; signs = refl; proofs = λ key. inl refl }
+told_none None = tt
+
+pub adds_none : (t : Option Tables) → AddsSome t t
+adds_none t = ([], told_none t)
+
+-- ---- statuses that a check of texts doesn't answer
+
+-- 6, 7 or 9
+pub record IsApart (n : ℕ) : Type 0 where
+  pub low : 5 < n
+  pub high : n < 10
+  pub not_8 : n ≡ 8 → ⊥
+
+apart_6 : IsApart 6
+apart_6 = record { low = omega arith; high = omega arith; not_8 = λ h. omega arith }
+
+apart_7 : IsApart 7
+apart_7 = record { low = omega arith; high = omega arith; not_8 = λ h. omega arith }
+
+apart_9 : IsApart 9
+apart_9 = record { low = omega arith; high = omega arith; not_8 = λ h. omega arith }
+
+fault_other : (fault : CheckFault) (n : ℕ) → IsApart n → status_of fault ≡ n → ⊥
+fault_other (f.Module fault) n p h = let is : 3 ≡ n = h in let low : 5 < n = p.low in omega arith
+fault_other (f.Set stop) n p h = let is : 4 ≡ n = h in let low : 5 < n = p.low in omega arith
+fault_other (f.Bind fault) n p h = let is : 5 ≡ n = h in let low : 5 < n = p.low in omega arith
+fault_other f.NoLine n p h = let is : 2 ≡ n = h in let low : 5 < n = p.low in omega arith
+fault_other f.Keeper n p h = p.not_8 (sym h)
+fault_other f.Memory n p h = let is : 70 ≡ n = h in let high : n < 10 = p.high in omega arith
+
+verdicts_other : (a b : Bool) (n : ℕ) → IsApart n → (if a then 1 else if b then 10 else 0) ≡ n → ⊥
+verdicts_other true b n p h = let is : 1 ≡ n = h in let low : 5 < n = p.low in omega arith
+verdicts_other false true n p h = let is : 10 ≡ n = h in let high : n < 10 = p.high in omega arith
+verdicts_other false false n p h = let is : 0 ≡ n = h in let low : 5 < n = p.low in omega arith
+
+done_other : (n : ℕ) → IsApart n → 0 ≡ n → ⊥
+done_other n p is = let low : 5 < n = p.low in omega arith
+
+usage_apart : (n : ℕ) → IsApart n → 2 ≡ n → ⊥
+usage_apart n p is = let low : 5 < n = p.low in omega arith
+
+status_is : (a b : Answer) (n : ℕ) → a ≡ b → a.status ≡ n → b.status ≡ n
+status_is a b n same is = sym (ap (λ (z : Answer). z.status) same) ∙ is
+
+texts_other : (m s : List ℕ) (which : Which) (budget workers : ℕ) (said : Report → List ℕ) (book : Book) (st : Stores) (a : Answer) (n : ℕ) → IsApart n →
+    AnswersTexts m s which budget workers said book st a → a.status ≡ n → ⊥
+texts_other m s which budget workers said book st a n p h is = ⊎_elim
+    (λ (r : RefusesTexts m s which book st a). fault_other r.fault n p (status_is a (refusal (status_of r.fault) (fault_line r.fault)) n r.answer_is is))
+    (λ (r : ReportsTexts m s which budget workers said book st a). verdicts_other (list_any is_refuted r.report.verdicts.items) (list_any is_spent r.report.verdicts.items) n p
+    (status_is a (reported r.report.verdicts.items (said r.report)) n r.answer_is is)) h
+
+job_other : (j : Job) (read : Read) (book : Book) (st : Stores) (a : Answer) (n : ℕ) → IsApart n → (6 ≡ n → ⊥) → AnswersJob j read book st a → a.status ≡ n → ⊥
+job_other j NoModule book st a n p not_6 h is = not_6 (status_is a (refusal 6 (codes "read: " ++ j.module)) n h.answer_is is)
+job_other j NoSet book st a n p not_6 h is = not_6 (status_is a (refusal 6 (codes "read: " ++ j.set)) n h.answer_is is)
+job_other j (Both m s) book st a n p not_6 h is = texts_other m s (which_of j.asked) j.budget j.workers (report_bytes j.asked book.lines.items) book st a n p h is
+
+move_other : (book : Book) (st : Stores) (a : Answer) (n : ℕ) → IsApart n → AnswersMove book st a → a.status ≡ n → ⊥
+move_other book st a n p h is = ⊎_elim
+    (λ (same : a ≡ refusal 8 (codes "keeper")). p.not_8 (sym (status_is a (refusal 8 (codes "keeper")) n same is)))
+    (λ (m : (m : Moved) × Told (Walks (2 ^ 40) m) st.before st.after × (a ≡ done (moved_text m))). done_other n p (status_is a (done (moved_text m.0)) n m.2 is)) h.is
+
+service_other : (s : Service) (a b : Around) (x : Answer) (n : ℕ) → IsApart n → (9 ≡ n → ⊥) → AnswersService s a b x → x.status ≡ n → ⊥
+service_other s a b x n p not_9 h is = ⊎_elim
+    (λ (all : ServesMany s.budget s.workers a.line a.desk s.count b.line b.desk × (x ≡ done (served_text s.count))). done_other n p (status_is x (done (served_text s.count)) n all.1 is))
+    (λ (stops : StopsWithin s.budget s.workers s.count a.line a.desk Next b.line b.desk × (x ≡ refusal 9 (codes "port"))). not_9 (status_is x (refusal 9 (codes "port")) n stops.1 is)) h
+
+usage_apart_of : (book : Book) (st : Stores) (a : Answer) (n : ℕ) → IsApart n → RefusesBy 2 (codes "usage") book st a → a.status ≡ n → ⊥
+usage_apart_of book st a n p h is = usage_apart n p (status_is a (refusal 2 (codes "usage")) n h.answer_is is)
+
+-- no answer has the status 7
+pub no_7 : (cmd : Option Command) (read : Read) (a b : Around) (x : Answer) → Answers cmd read a b x → x.status ≡ 7 → ⊥
+no_7 None read a b x h is = usage_apart_of b.desk.book (stores_of a b) x 7 apart_7 h.1 is
+no_7 (Some (c.Texts job)) read a b x h is = job_other job read b.desk.book (stores_of a b) x 7 apart_7 (λ no. omega arith) h.1 is
+no_7 (Some (c.Demo n)) read a b x h is = texts_other (module_text n) (set_text n) w.All 20000 4 (summary n) b.desk.book (stores_of a b) x 7 apart_7 h.1 is
+no_7 (Some (c.Serve service)) read a b x h is = service_other service a b x 7 apart_7 (λ no. omega arith) h is
+no_7 (Some (c.Migrate file)) read a b x h is = move_other b.desk.book (stores_of a b) x 7 apart_7 h.1 is
+
+job_6 : (shelf : Option (List ℕ → Option (List ℕ))) (before now : ℕ) (j : Job) (read : Read) (book : Book) (st : Stores) (a : Answer) → IsRead shelf before now j read →
+    AnswersJob j read book st a → a.status ≡ 6 → Rose before now
+job_6 shelf before now j NoModule book st a read h is = read
+job_6 shelf before now j NoSet book st a read h is = read
+job_6 shelf before now j (Both m s) book st a read h is = absurd (texts_other m s (which_of j.asked) j.budget j.workers (report_bytes j.asked book.lines.items) book st a 6 apart_6 h is)
+
+-- the status 6 is a shelf's
+pub is_read : (shelf : Option (List ℕ → Option (List ℕ))) (before now : ℕ) (cmd : Option Command) (read : Read) (a b : Around) (x : Answer) → Reads shelf before now cmd read →
+    Answers cmd read a b x → x.status ≡ 6 → Rose before now
+is_read shelf before now None read a b x r h is = absurd (usage_apart_of b.desk.book (stores_of a b) x 6 apart_6 h.1 is)
+is_read shelf before now (Some (c.Texts job)) read a b x r h is = job_6 shelf before now job read b.desk.book (stores_of a b) x r h.1 is
+is_read shelf before now (Some (c.Demo n)) read a b x r h is = absurd (texts_other (module_text n) (set_text n) w.All 20000 4 (summary n) b.desk.book (stores_of a b) x 6 apart_6 h.1 is)
+is_read shelf before now (Some (c.Serve service)) read a b x r h is = absurd (service_other service a b x 6 apart_6 (λ no. omega arith) h is)
+is_read shelf before now (Some (c.Migrate file)) read a b x r h is = absurd (move_other b.desk.book (stores_of a b) x 6 apart_6 h.1 is)
+
+-- ---- a status of 9 is a port's
+
+pub texts_port : {E : Type 0} (r : Result Answer E) (m s : List ℕ) (which : Which) (budget workers : ℕ) (said : Report → List ℕ) (book : Book) (st : Stores) (P : Type 0) →
+    IfOk r (AnswersTexts m s which budget workers said book st) → IfOk r (λ a. a.status ≡ 9 → P)
+texts_port (Ok a) m s which budget workers said book st P h = λ is. absurd (texts_other m s which budget workers said book st a 9 apart_9 h is)
+texts_port (Err e) m s which budget workers said book st P h = tt
+
+pub job_port : {E : Type 0} (r : Result Answer E) (j : Job) (read : Read) (book : Book) (st : Stores) (P : Type 0) → IfOk r (AnswersJob j read book st) → IfOk r (λ a. a.status ≡ 9 → P)
+job_port (Ok a) j read book st P h = λ is. absurd (job_other j read book st a 9 apart_9 (λ no. omega arith) h is)
+job_port (Err e) j read book st P h = tt
+
+pub move_port : {E : Type 0} (r : Result Answer E) (book : Book) (before after : Option Tables) (P : Type 0) →
+    IfOk r (λ a. (asked : List ℕ) → AnswersMove book (stores before after asked) a) → IfOk r (λ a. a.status ≡ 9 → P)
+move_port (Ok a) book before after P h = λ is. absurd (move_other book (stores before after []) a 9 apart_9 (h []) is)
+move_port (Err e) book before after P h = tt
+
+-- a refusal has its status alone
+pub refusal_other : {E : Type 0} (r : Result Answer E) (status n : ℕ) (line : List ℕ) (P : Type 0) → (status ≡ n → ⊥) → IfOk r (λ a. a ≡ refusal status line) → IfOk r (λ a. a.status ≡ n → P)
+refusal_other (Ok a) status n line P other h = λ is. absurd (other (status_is a (refusal status line) n h is))
+refusal_other (Err e) status n line P other h = tt
+
+-- ---- services
+
+-- fewer than all connections were served, and the one after them left all as it was
+pub left_stopped : (s : Service) (v w : Wires) (d e : State) (fault : ServeFault) → StopsWithin s.budget s.workers s.count v d fault w e → LeavesServed s (around d v) (around e w)
+left_stopped s v w d e Next h = record {
+  served = h.served;
+  most = let fewer : h.served < s.count = h.fewer in omega arith;
+  line = h.port;
+  did = subst (λ (x : State). ServesMany s.budget s.workers v d h.served h.port x) (sym h.last.0) h.before;
+}
+left_stopped s v w d e Memory h = record {
+  served = h.served;
+  most = let fewer : h.served < s.count = h.fewer in omega arith;
+  line = h.port;
+  did = subst (λ (x : State). ServesMany s.budget s.workers v d h.served h.port x) (sym h.last.0) h.before;
+}
+
+pub left_served : (s : Service) (v w : Wires) (d e : State) → ServesMany s.budget s.workers v d s.count w e → LeavesServed s (around d v) (around e w)
+left_served s v w d e h = record { served = s.count; most = omega arith; line = w; did = h }
+
+pub port_answered : {E : Type 0} (r : Result Answer E) (s : Service) (a b : Around) → StopsWithin s.budget s.workers s.count a.line a.desk Next b.line b.desk →
+    IfOk r (λ x. x ≡ refusal 9 (codes "port")) → IfOk r (AnswersService s a b)
+port_answered (Ok x) s a b stops is = inr (stops, is)
+port_answered (Err e) s a b stops is = tt
+
+-- ---- rows that are moved
+
+pub keeper_moved : {E : Type 0} (r : Result Answer E) (book : Book) (before after : Option Tables) → book.lines.items ≡ [] → IfOk r (λ a. a ≡ refusal 8 (codes "keeper")) →
+    IfOk r (λ a. (asked : List ℕ) → AnswersMove book (stores before after asked) a)
+keeper_moved (Ok a) book before after empty is = λ asked. record { empty = empty; is = inl is }
+keeper_moved (Err e) book before after empty is = tt
+
+-- ---- what is read for a job
+
+pub no_module_answered : {E : Type 0} (r : Result Answer E) (j : Job) (read : Read) (book : Book) (st : Stores) → read ≡ NoModule → book.lines.items ≡ [] → st.after ≡ st.before →
+    IfOk r (λ a. a ≡ refusal 6 (codes "read: " ++ j.module)) → IfOk r (AnswersJob j read book st)
+no_module_answered (Ok a) j read book st is empty same h = subst (λ (z : Read). AnswersJob j z book st a) (sym is) (record { empty = empty; same = same; answer_is = h })
+no_module_answered (Err e) j read book st is empty same h = tt
+
+pub no_set_answered : {E : Type 0} (r : Result Answer E) (j : Job) (read : Read) (book : Book) (st : Stores) → read ≡ NoSet → book.lines.items ≡ [] → st.after ≡ st.before →
+    IfOk r (λ a. a ≡ refusal 6 (codes "read: " ++ j.set)) → IfOk r (AnswersJob j read book st)
+no_set_answered (Ok a) j read book st is empty same h = subst (λ (z : Read). AnswersJob j z book st a) (sym is) (record { empty = empty; same = same; answer_is = h })
+no_set_answered (Err e) j read book st is empty same h = tt
+
+-- ---- the answer to a command
+
+-- what is read for it, and what is answered
+abbrev pub Ran : Option (List ℕ → Option (List ℕ)) → ℕ → ℕ → Option Command → Around → Around → Answer → Type 0
+Ran shelf before now cmd a b x = (read : Read) × Reads shelf before now cmd read × Answers cmd read a b x
+
+module _ {E : Type 0} (shelf : Option (List ℕ → Option (List ℕ))) (before now : ℕ) (cmd : Option Command) (a b : Around) where
+  pub none_ran : (r : Result Answer E) → cmd ≡ None → now ≡ before → b.line ≡ a.line → b.desk.book.lines.items ≡ [] → b.desk.tables ≡ a.desk.tables →
+      IfOk r (λ x. x ≡ refusal 2 (codes "usage")) → IfOk r (Ran shelf before now cmd a b)
+  none_ran (Ok x) is same line empty rows h = (
+    NoModule,
+    subst (λ (z : Option Command). Reads shelf before now z NoModule) (sym is) same,
+    subst (λ (z : Option Command). Answers z NoModule a b x) (sym is) (line, record { empty = empty; same = rows; answer_is = h }),
+  )
+  none_ran (Err e) is same line empty rows h = tt
+
+  pub job_ran : (r : Result Answer E) (job : Job) (read : Read) → cmd ≡ Some (c.Texts job) → IsRead shelf before now job read → b.line ≡ a.line →
+      IfOk r (AnswersJob job read b.desk.book (stores_of a b)) → IfOk r (Ran shelf before now cmd a b)
+  job_ran (Ok x) job read is reads line h =
+      (read, subst (λ (z : Option Command). Reads shelf before now z read) (sym is) reads, subst (λ (z : Option Command). Answers z read a b x) (sym is) (line, h))
+  job_ran (Err e) job read is reads line h = tt
+
+  pub demo_ran : (r : Result Answer E) (n : ℕ) → cmd ≡ Some (c.Demo n) → now ≡ before → b.line ≡ a.line →
+      IfOk r (AnswersTexts (module_text n) (set_text n) w.All 20000 4 (summary n) b.desk.book (stores_of a b)) → IfOk r (Ran shelf before now cmd a b)
+  demo_ran (Ok x) n is same line h =
+      (NoModule, subst (λ (z : Option Command). Reads shelf before now z NoModule) (sym is) same, subst (λ (z : Option Command). Answers z NoModule a b x) (sym is) (line, h))
+  demo_ran (Err e) n is same line h = tt
+
+  pub service_ran : (r : Result Answer E) (s : Service) → cmd ≡ Some (c.Serve s) → now ≡ before → IfOk r (AnswersService s a b) → IfOk r (Ran shelf before now cmd a b)
+  service_ran (Ok x) s is same h =
+      (NoModule, subst (λ (z : Option Command). Reads shelf before now z NoModule) (sym is) same, subst (λ (z : Option Command). Answers z NoModule a b x) (sym is) h)
+  service_ran (Err e) s is same h = tt
+
+  pub move_ran : (r : Result Answer E) (file : List ℕ) → cmd ≡ Some (c.Migrate file) → now ≡ before → b.line ≡ a.line →
+      IfOk r (λ x. (asked : List ℕ) → AnswersMove b.desk.book (stores a.desk.tables b.desk.tables asked) x) → IfOk r (Ran shelf before now cmd a b)
+  move_ran (Ok x) file is same line h =
+      (NoModule, subst (λ (z : Option Command). Reads shelf before now z NoModule) (sym is) same, subst (λ (z : Option Command). Answers z NoModule a b x) (sym is) (line, h a.desk.asked))
+  move_ran (Err e) file is same line h = tt
+
+-- what any answer to it leaves
+pub leaves_none : (cmd : Option Command) (a b : Around) → cmd ≡ None → AddsSome a.desk.tables b.desk.tables → LeavesRows cmd a b
+leaves_none cmd a b is h = subst (λ (z : Option Command). LeavesRows z a b) (sym is) h
+
+pub leaves : (cmd : Option Command) (one : Command) (a b : Around) → cmd ≡ Some one → LeavesRows (Some one) a b → LeavesRows cmd a b
+leaves cmd one a b is h = subst (λ (z : Option Command). LeavesRows z a b) (sym is) h
+
+-- words whose command isn't known yet leave all as it was
+left_as : (s : Service) (a : Around) → LeavesServed s a a
+left_as s a = record { served = 0; most = omega arith; line = a.line; did = none }
+
+moves_none : (t : Option Tables) → Told MovesRows t t
+moves_none (Some t) = record { blocks = refl; signs = refl; proofs = λ key. inl refl }
+moves_none None = tt
+
+pub leaves_all : (cmd : Option Command) (a : Around) → LeavesRows cmd a a
+leaves_all None a = adds_none a.desk.tables
+leaves_all (Some (c.Texts job)) a = adds_none a.desk.tables
+leaves_all (Some (c.Demo n)) a = adds_none a.desk.tables
+leaves_all (Some (c.Serve service)) a = left_as service a
+leaves_all (Some (c.Migrate file)) a = moves_none a.desk.tables
+
+-- ---- what goes out
+
+refused_is : (b : Bool) (s n : ℕ) → (7 ≡ n → ⊥) → (if b then 7 else s) ≡ n → s ≡ n
+refused_is true s n not_7 h = absurd (not_7 h)
+refused_is false s n not_7 h = h
+
+-- save for 7 and 70 the status is the answer's
+pub delivered : (x : Answer) (status before now : ℕ) (old new : Option (List ℕ)) (n : ℕ) → (7 ≡ n → ⊥) → (70 ≡ n → ⊥) → Delivers x status before now old new → status ≡ n → x.status ≡ n
+delivered x status before now old new n not_7 not_70 h is = ⊎_elim
+    (λ (whole : (status ≡ x.status) × Appends old new x.bytes). sym whole.0 ∙ is)
+    (λ (part : ((status ≡ refused_status x) × Rose before now × AppendsPrefix old new x.bytes) ⊎ ((status ≡ 70) × AppendsPrefix old new x.bytes)). ⊎_elim
+    (λ (failed : (status ≡ refused_status x) × Rose before now × AppendsPrefix old new x.bytes). refused_is x.reports x.status n not_7 (sym failed.0 ∙ is))
+    (λ (memory : (status ≡ 70) × AppendsPrefix old new x.bytes). absurd (not_70 (sym memory.0 ∙ is))) part) h
+
+-- 7 is the sink's
+pub delivered_7 : (x : Answer) (status before now : ℕ) (old new : Option (List ℕ)) → (x.status ≡ 7 → ⊥) → Delivers x status before now old new → status ≡ 7 → Rose before now
+delivered_7 x status before now old new other h is = ⊎_elim
+    (λ (whole : (status ≡ x.status) × Appends old new x.bytes). absurd (other (sym whole.0 ∙ is)))
+    (λ (part : ((status ≡ refused_status x) × Rose before now × AppendsPrefix old new x.bytes) ⊎ ((status ≡ 70) × AppendsPrefix old new x.bytes)). ⊎_elim
+    (λ (failed : (status ≡ refused_status x) × Rose before now × AppendsPrefix old new x.bytes). failed.1)
+    (λ (memory : (status ≡ 70) × AppendsPrefix old new x.bytes). let no : 70 ≡ 7 = sym memory.0 ∙ is in absurd (omega arith)) part) h
+
+-- words that are no command
+usage_out : (x : Answer) (status before now : ℕ) (old new : Option (List ℕ)) (line : List ℕ) → x ≡ refusal 2 line → Delivers x status before now old new → (status ≡ 2) ⊎ (status ≡ 70)
+usage_out x status before now old new line same h = ⊎_elim
+    (λ (whole : (status ≡ x.status) × Appends old new x.bytes). inl (whole.0 ∙ ap (λ (z : Answer). z.status) same))
+    (λ (part : ((status ≡ refused_status x) × Rose before now × AppendsPrefix old new x.bytes) ⊎ ((status ≡ 70) × AppendsPrefix old new x.bytes)). ⊎_elim
+    (λ (failed : (status ≡ refused_status x) × Rose before now × AppendsPrefix old new x.bytes). inl (failed.0 ∙ ap refused_status same))
+    (λ (memory : (status ≡ 70) × AppendsPrefix old new x.bytes). inr memory.0) part) h
+
+pub no_command : (cmd : Option Command) (read : Read) (a b : Around) (x : Answer) (status before now : ℕ) (old new : Option (List ℕ)) → cmd ≡ None → Answers cmd read a b x →
+    Delivers x status before now old new → (status ≡ 2) ⊎ (status ≡ 70)
+no_command cmd read a b x status before now old new is h out =
+    let usage = subst (λ (z : Option Command). Answers z read a b x) is h in
+    usage_out x status before now old new (codes "usage") usage.1.answer_is out

@@ -1,0 +1,49 @@
+use Rattle.std.proofs.Common.{◌≡◌, ℕ, List, ap, ◌∙◌, subst, inr, Err}
+use Rattle.demo_gen.specs.Texts.{module_text, set_text}
+use Rattle.check_faults.specs.declared.fault.CheckFault.{CheckFault}
+use Rattle.reports.specs.declared.book.Verdict.{Verdict}
+use Rattle.reports.specs.declared.which.Which.TheVariants as w
+use Rattle.asked_lines.specs.Settled.{AddsProofsOf}
+use Rattle.desk_core.specs.Checks.{AreObsOfTexts, IsReport, Refuses}
+use Rattle.signoff_call.specs.Run.{reported, summary}
+use Rattle.signoff_call.proofs.Answering.{adds_none, adds_some, reported_keeper, turned_answered, turned_keeper}
+use Rattle.signoff_call.proofs.texts.demonstrated.Goals as goal
+
+pub returns-in-Ok-clause-answer : goal.returns-in-Ok-clause-answer
+returns-in-Ok-clause-answer g c =
+    let r = c.in-Ok.report in
+    let n = c.args.stages in
+    let lines = c.check.new.book.lines.items in
+    let first = subst (λ (m : List ℕ). IsReport m c.bytes-2.result.now w.All 20000 lines r) (c.bytes.ensures ∙ c.in_ok-module.ensures) c.in-Ok.ensures.report in
+    let is = subst (λ (s : List ℕ). IsReport (module_text n) s w.All 20000 lines r) (c.bytes-2.ensures ∙ c.in_ok-set.ensures) first in
+    inr (record {
+      report = r;
+      is_report = is;
+      asked = _;
+      settled = c.in-Ok.ensures.settled;
+      answer_is = c.reported.ensures ∙ (ap (λ (vs : List Verdict). reported vs c.in_ok-text-in-Ok.text) c.deref.ensures.value ∙ ap (λ (bs : List ℕ). reported r.verdicts.items bs) c.in_ok-text-in-Ok.ensures);
+    })
+
+pub returns-in-Ok-clause-keeper : goal.returns-in-Ok-clause-keeper
+returns-in-Ok-clause-keeper g c = reported_keeper c.reported.result c.deref.result.now c.in_ok-text-in-Ok.text _ c.reported.ensures
+
+pub returns-clause-answer : goal.returns-clause-answer
+returns-clause-answer g c =
+    let n = c.args.stages in
+    let fault = c.in-Err.fault in
+    let before = g.K.Keeper.tables c.args.keeper.now in
+    let after = g.K.Keeper.tables c.check.new.keeper in
+    let first = subst (λ (m : List ℕ). Refuses m c.bytes-2.result.now w.All fault) (c.bytes.ensures ∙ c.in_ok-module.ensures) c.in-Err.ensures.refuses in
+    let refuses = subst (λ (s : List ℕ). Refuses (module_text n) s w.All fault) (c.bytes-2.ensures ∙ c.in_ok-set.ensures) first in
+    let left_first = subst (λ (m : List ℕ). AddsProofsOf (AreObsOfTexts m c.bytes-2.result.now w.All) before after) (c.bytes.ensures ∙ c.in_ok-module.ensures) c.check.ensures.left in
+    let left = subst (λ (s : List ℕ). AddsProofsOf (AreObsOfTexts (module_text n) s w.All) before after) (c.bytes-2.ensures ∙ c.in_ok-set.ensures) left_first in
+    turned_answered c.turned_down.result (module_text n) (set_text n) w.All 20000 4 (summary n) c.check.new.book _ fault refuses c.in-Err.ensures.empty left c.turned_down.ensures.memory c.turned_down.ensures.line
+
+pub returns-clause-keeper : goal.returns-clause-keeper
+returns-clause-keeper g c = turned_keeper c.turned_down.result c.in-Err.fault _ (λ is. c.check.ensures.keeper (subst (λ (z : CheckFault). c.check.result ≡ Err z) is c.in-Err.is)) c.turned_down.ensures.line
+
+pub returns-in-Ok-clause-left : goal.returns-in-Ok-clause-left
+returns-in-Ok-clause-left g c = adds_some _ _ _ c.check.ensures.left
+
+pub returns-clause-left : goal.returns-clause-left
+returns-clause-left g c = adds_some _ _ _ c.check.ensures.left

@@ -1,0 +1,111 @@
+// What a run answers.
+ghost use Rattle.std.specs.Prelude.{◌≡◌, ◌++◌, IfOk};
+ghost use Rattle.std.specs.List.{list_any};
+ghost use Rattle.fault_texts.specs.Texts.{fault_line, status_of};
+ghost use Rattle.signoff_call.specs.Run.{done, is_refuted, is_spent, refusal as refusal_of, reported, status_from};
+
+use check_faults::CheckFault;
+use fault_texts::{fault_line, status_of};
+use outside::Text;
+use reports::Verdict;
+use std::alloc::{AllocError, Global};
+
+/// A status, the bytes that go out with it, and whether they are a report.
+#[derive(Drop)]
+pub struct Answer {
+    pub status: u8,
+    pub bytes: Text,
+    pub reports: bool,
+}
+
+/// Whether a line is refuted.
+pub fn is_refuted(verdict: Verdict) -> bool
+    ensures { result ≡ is_refuted verdict }
+{
+    match verdict {
+        Verdict::Proved => false,
+        Verdict::Refuted => true,
+        Verdict::Spent => false,
+    }
+}
+
+/// Whether the budget was spent on a line.
+pub fn is_spent(verdict: Verdict) -> bool
+    ensures { result ≡ is_spent verdict }
+{
+    match verdict {
+        Verdict::Proved => false,
+        Verdict::Refuted => false,
+        Verdict::Spent => true,
+    }
+}
+
+// Whether a line is refuted.
+fn has_refuted(verdicts: &[Verdict]) -> bool
+    ensures { result ≡ list_any is_refuted verdicts.now }
+{
+    verdicts.iter().any(|verdict| is_refuted(*verdict))
+}
+
+// Whether the budget was spent on a line.
+fn has_spent(verdicts: &[Verdict]) -> bool
+    ensures { result ≡ list_any is_spent verdicts.now }
+{
+    verdicts.iter().any(|verdict| is_spent(*verdict))
+}
+
+fn status_from(verdicts: &[Verdict]) -> u8
+    ensures { result ≡ status_from verdicts.now }
+{
+    if has_refuted(verdicts) {
+        1
+    } else if has_spent(verdicts) {
+        10
+    } else {
+        0
+    }
+}
+
+/// What is said of a report, with its status.
+pub fn reported(verdicts: &[Verdict], bytes: Text) -> Answer
+    ensures { result ≡ reported verdicts.now bytes }
+{
+    Answer {
+        status: status_from(verdicts),
+        bytes,
+        reports: true,
+    }
+}
+
+/// All was done, and this is said.
+pub fn done(bytes: Text) -> Answer
+    ensures { result ≡ done bytes }
+{
+    Answer {
+        status: 0,
+        bytes,
+        reports: true,
+    }
+}
+
+/// A line that says why, and the name of what it is about.
+pub fn refusal(alloc: Global, status: u8, line: &[u8], name: &[u8]) -> Result<Answer, AllocError>
+    ensures { IfOk result (λ a. a ≡ refusal_of status (line.now ++ name.now)) }
+{
+    let mut bytes = line.to_vec(alloc)?;
+    bytes.extend_from_slice(name)?;
+    bytes.push(10)?;
+    Ok(Answer {
+        status,
+        bytes: Text::new(bytes),
+        reports: false,
+    })
+}
+
+/// The line of a fault, with its status.
+pub fn refused(alloc: Global, fault: &CheckFault) -> Result<Answer, AllocError>
+    ensures { IfOk result (λ a. a ≡ refusal_of (status_of fault.now) (fault_line fault.now)) }
+{
+    let line = fault_line(alloc, fault)?;
+    refusal(alloc, status_of(fault), line.bytes(), b"")
+}

@@ -1,0 +1,11 @@
+//! The top call: reads a Verilog module and a set of operation properties, decides the lines of their report, and puts it.
+#![tactic(auto)]
+
+mod answer;
+mod files;
+mod moved;
+mod run;
+mod serving;
+mod texts;
+
+pub use run::signoff;

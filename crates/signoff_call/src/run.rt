@@ -1,0 +1,166 @@
+// The top call.
+ghost use Rattle.std.specs.Prelude.{◌≡◌, ℕ, List, ◌⊎◌, ◌++◌, [], None, Some, IfOk, map, string_bytes};
+ghost use Rattle.std.specs.Io.KnownBytes.{Appends};
+ghost use Rattle.outside.specs.Faults.{Rose};
+ghost use Rattle.command_words.specs.Commands.{IsBounded, HasBounds, command_of};
+ghost use Rattle.desk_http.specs.Serving.{line, state};
+ghost use Rattle.signoff_call.specs.Run.{AddsSome, Answers, AnswersJob, Delivers, LeavesRows, Reads, around, stores};
+ghost use Rattle.signoff_call.specs.declared.answer.Answer.{Answer};
+ghost use Rattle.signoff_call.specs.declared.files.Read.{Read};
+
+use crate::answer::{Answer, refusal};
+use crate::files::{Read, read_both};
+use crate::moved::moved;
+use crate::serving::served;
+use crate::texts::{demonstrated, judged};
+use command_words::{Command, Job, command_in};
+use helper_box::Helper;
+use outside::{Gate, Keeper, OutFault, Port, Shelf, Sink};
+use reports::Book;
+use std::alloc::{AllocError, Global};
+use std::thread::Threads;
+
+/// The top call: answers the words, and puts the answer; the lines that it decides stand in the book. The commands are `ops M S`, which decides the
+/// lines on the design of the module in the file M with the set in the file S, `check M S`, which decides all lines, `trace M S NAME`, which decides the
+/// line of this name and puts its counterexample where it is refuted, each with the options `--budget B`, `--workers W` and `--store FILE`, `demo N`, which
+/// checks the generated texts of N stages, `serve PORT COUNT FILE`, which serves the desk that FILE holds to COUNT connections at PORT, and `migrate FILE`,
+/// which puts the proofs that FILE keeps again as records of the newest form. Lines whose proofs the keeper holds aren't solved again, and new proofs are
+/// put to it; the helpers are asked before the workers. The status is
+///
+/// - 2 where the words are no command, or no line has the name, with the line `usage`;
+/// - 6 where a file can't be read, with the line `read: ` and its name, the module's first;
+/// - 3 where the module text is refused, `module: ` and the fault; 4 where the set's text is, `set: ` and the fault; 5 where the set doesn't fit the
+///   design, `bind: ` and the fault. The first stage that refuses is answered: the module text is read, then the set's, then the modules are made a design;
+/// - 8 where the keeper fails, with the line `keeper`; while the desk is served a peer is told so;
+/// - 9 where the port has no next connection, with the line `port`;
+/// - 7 where the sink refuses a report;
+/// - 1 where a line is refuted, 10 where none is and one is spent, and 0 where all are proved, with the report, or where all connections were served, with
+///   the line `served` and their number;
+/// - 70 for want of memory.
+pub fn signoff<R: Threads + Sync, F: Shelf, S: Sink, K: Keeper, P: Port, H: Helper, G: Gate + Sync>(
+    rt: &R,
+    alloc: Global,
+    words: &[String],
+    shelf: &mut F,
+    out: &mut S,
+    keeper: &mut K,
+    port: &mut P,
+    gate: &G,
+    helpers: Vec<H>,
+    book: &mut Book,
+) -> u8
+    requires { book.old.lines.items ≡ [] }
+
+    // 2 comes where the words are no command, save for want of memory.
+    ensures no_command { command_of (map string_bytes words.now) ≡ None → (result ≡ 2) ⊎ (result ≡ 70) }
+
+    // 6, 7, 8 and 9 only where the shelf, the sink, the keeper or the port has failed in this call.
+    ensures read_fault { result ≡ 6 → Rose (F.faults shelf.old) (F.faults shelf.new) }
+    ensures sink_fault { result ≡ 7 → Rose (S.faults out.old) (S.faults out.new) }
+    ensures keeper_fault { result ≡ 8 → Rose (K.faults keeper.old) (K.faults keeper.new) }
+    ensures port_fault { result ≡ 9 → Rose (P.next_faults port.old) (P.next_faults port.new) }
+
+    // Whatever the status, blocks and sign-offs are as before, or as connections left them; and each proof that differs is one of an obligation, under its
+    // text, or was moved.
+    ensures left { (asked : List ℕ) × LeavesRows (command_of (map string_bytes words.now))
+        (around (state (K.tables keeper.old) (K.faults keeper.old) (map H.asked helpers.items) book.old) (line (P.wire port.old) (P.faults port.old)))
+        (around (state (K.tables keeper.new) (K.faults keeper.new) asked book.new) (line (P.wire port.new) (P.faults port.new))) }
+
+    // All else: an answer to the words and to what was read, of which all or a prefix went out.
+    ensures ran { ((result ≡ 70) × Appends (S.written out.old) (S.written out.new) [])
+        ⊎ ((read : Read) × (answer : Answer) × (asked : List ℕ) × Reads (F.files shelf.old) (F.faults shelf.old) (F.faults shelf.new) (command_of (map string_bytes words.now)) read
+        × Answers (command_of (map string_bytes words.now)) read
+        (around (state (K.tables keeper.old) (K.faults keeper.old) (map H.asked helpers.items) book.old) (line (P.wire port.old) (P.faults port.old)))
+        (around (state (K.tables keeper.new) (K.faults keeper.new) asked book.new) (line (P.wire port.new) (P.faults port.new))) answer
+        × Delivers answer result (S.faults out.old) (S.faults out.new) (S.written out.old) (S.written out.new)) }
+{
+    let mut helpers = helpers;
+    match answered(
+        rt,
+        alloc,
+        words,
+        shelf,
+        keeper,
+        port,
+        &mut helpers,
+        gate,
+        book,
+    ) {
+        Ok(answer) => deliver(alloc, &answer, out),
+        Err(AllocError) => 70,
+    }
+}
+
+/// The answer to words.
+fn answered<R: Threads + Sync, F: Shelf, K: Keeper, P: Port, H: Helper, G: Gate + Sync>(
+    rt: &R,
+    alloc: Global,
+    words: &[String],
+    shelf: &mut F,
+    keeper: &mut K,
+    port: &mut P,
+    helpers: &mut Vec<H>,
+    gate: &G,
+    book: &mut Book,
+) -> Result<Answer, AllocError>
+    requires { book.old.lines.items ≡ [] }
+    ensures answer { IfOk result (λ a. (read : Read)
+        × Reads (F.files shelf.old) (F.faults shelf.old) (F.faults shelf.new) (command_of (map string_bytes words.now)) read
+        × Answers (command_of (map string_bytes words.now)) read
+        (around (state (K.tables keeper.old) (K.faults keeper.old) (map H.asked helpers.old.items) book.old) (line (P.wire port.old) (P.faults port.old)))
+        (around (state (K.tables keeper.new) (K.faults keeper.new) (map H.asked helpers.new.items) book.new) (line (P.wire port.new) (P.faults port.new))) a) }
+    ensures left { LeavesRows (command_of (map string_bytes words.now))
+        (around (state (K.tables keeper.old) (K.faults keeper.old) (map H.asked helpers.old.items) book.old) (line (P.wire port.old) (P.faults port.old)))
+        (around (state (K.tables keeper.new) (K.faults keeper.new) (map H.asked helpers.new.items) book.new) (line (P.wire port.new) (P.faults port.new))) }
+    ensures keeper { IfOk result (λ a. a.status ≡ 8 → Rose (K.faults keeper.old) (K.faults keeper.new)) }
+    ensures port { IfOk result (λ a. a.status ≡ 9 → Rose (P.next_faults port.old) (P.next_faults port.new)) }
+{
+    match command_in(alloc, words)? {
+        None => refusal(alloc, 2, b"usage", b""),
+        Some(Command::Texts(job)) => {
+            let read = read_both(alloc, shelf, &job)?;
+            job_answer(rt, alloc, &job, &read, keeper, helpers, gate, book)
+        }
+        Some(Command::Demo(stages)) => demonstrated(rt, alloc, stages, keeper, helpers, gate, book),
+        Some(Command::Serve(service)) => served(
+            rt, alloc, &service, keeper, port, helpers, gate, book,
+        ),
+        Some(Command::Migrate(_)) => moved(alloc, keeper, book),
+    }
+}
+
+fn job_answer<R: Threads + Sync, K: Keeper, H: Helper, G: Gate + Sync>(
+    rt: &R,
+    alloc: Global,
+    job: &Job,
+    read: &Read,
+    keeper: &mut K,
+    helpers: &mut Vec<H>,
+    gate: &G,
+    book: &mut Book,
+) -> Result<Answer, AllocError>
+    requires bounds { HasBounds job.now }
+    requires empty { book.old.lines.items ≡ [] }
+    ensures answer { IfOk result (AnswersJob job.now read.now book.new (stores (K.tables keeper.old) (K.tables keeper.new) (map H.asked helpers.old.items))) }
+    ensures left { AddsSome (K.tables keeper.old) (K.tables keeper.new) }
+    ensures keeper { IfOk result (λ a. a.status ≡ 8 → Rose (K.faults keeper.old) (K.faults keeper.new)) }
+{
+    match read {
+        Read::NoModule => refusal(alloc, 6, b"read: ", job.module.bytes()),
+        Read::NoSet => refusal(alloc, 6, b"read: ", job.set.bytes()),
+        Read::Both(module, set) => {
+            judged(rt, alloc, job, module, set, keeper, helpers, gate, book)
+        }
+    }
+}
+
+/// Puts the answer, and says the status.
+fn deliver<S: Sink>(alloc: Global, answer: &Answer, out: &mut S) -> u8
+    ensures { Delivers answer.now result (S.faults out.old) (S.faults out.new) (S.written out.old) (S.written out.new) }
+{
+    match out.put(alloc, answer.bytes.bytes()) {
+        Ok(()) => answer.status,
+        Err(OutFault::Memory) => 70,
+        Err(OutFault::Failed) => { if answer.reports { 7 } else { answer.status } }
+    }
+}

@@ -1,0 +1,62 @@
+// What is answered where the desk is served.
+ghost use Rattle.std.specs.Prelude.{◌≡◌, ◌++◌, IfOk, map};
+ghost use Rattle.std.specs.Fmt.{decimal};
+ghost use Rattle.outside.specs.Faults.{Rose};
+ghost use Rattle.command_words.specs.Commands.{IsServed};
+ghost use Rattle.desk_http.specs.Serving.{line, state};
+ghost use Rattle.signoff_call.specs.Run.{AnswersService, LeavesServed, around, served_text};
+
+use crate::answer::{Answer, done, refusal};
+use command_words::Service;
+use desk_http::serve;
+use helper_box::Helper;
+use http_connection::ServeFault;
+use outside::{Gate, Keeper, Port, Text};
+use proof_store::Settings;
+use reports::Book;
+use std::alloc::{AllocError, Global};
+use std::thread::Threads;
+
+fn served_text(alloc: Global, count: u32) -> Result<Text, AllocError>
+    ensures { IfOk result (λ text. text ≡ served_text count) }
+{
+    let mut text = b"served ".to_vec(alloc)?;
+    text.extend_from_slice(count.to_string(alloc)?.as_bytes())?;
+    text.extend_from_slice(b"\n")?;
+    Ok(Text::new(text))
+}
+
+/// Serves connections, and says how many, or that there was no next one.
+pub fn served<R: Threads + Sync, K: Keeper, P: Port, H: Helper, G: Gate + Sync>(
+    rt: &R,
+    alloc: Global,
+    service: &Service,
+    keeper: &mut K,
+    port: &mut P,
+    helpers: &mut Vec<H>,
+    gate: &G,
+    book: &mut Book,
+) -> Result<Answer, AllocError>
+    requires { IsServed service.now }
+    ensures answer { IfOk result (AnswersService service.now
+        (around (state (K.tables keeper.old) (K.faults keeper.old) (map H.asked helpers.old.items) book.old) (line (P.wire port.old) (P.faults port.old)))
+        (around (state (K.tables keeper.new) (K.faults keeper.new) (map H.asked helpers.new.items) book.new) (line (P.wire port.new) (P.faults port.new)))) }
+    ensures left { LeavesServed service.now
+        (around (state (K.tables keeper.old) (K.faults keeper.old) (map H.asked helpers.old.items) book.old) (line (P.wire port.old) (P.faults port.old)))
+        (around (state (K.tables keeper.new) (K.faults keeper.new) (map H.asked helpers.new.items) book.new) (line (P.wire port.new) (P.faults port.new))) }
+    ensures port { IfOk result (λ a. a.status ≡ 9 → Rose (P.next_faults port.old) (P.next_faults port.new)) }
+    ensures keeper { IfOk result (λ a. a.status ≡ 8 → Rose (K.faults keeper.old) (K.faults keeper.new)) }
+{
+    let settings = Settings {
+        budget: service.budget,
+        workers: service.workers,
+    };
+    let count = service.count;
+    match serve(
+        rt, alloc, count, port, &settings, keeper, helpers, gate, book,
+    ) {
+        Ok(()) => Ok(done(served_text(alloc, count)?)),
+        Err(ServeFault::Next) => refusal(alloc, 9, b"port", b""),
+        Err(ServeFault::Memory) => Err(AllocError),
+    }
+}

@@ -1,0 +1,233 @@
+// What is answered to two texts.
+ghost use Rattle.std.specs.Prelude.{◌≡◌, ◌≢◌, ◌≤◌, ◌++◌, [], map, IfOk, OnOk};
+ghost use Rattle.std.specs.Fmt.{decimal};
+ghost use Rattle.command_words.specs.Commands.{HasBounds};
+ghost use Rattle.check_faults.specs.declared.fault.CheckFault.TheVariants.{Memory};
+ghost use Rattle.fault_texts.specs.Texts.{fault_line, status_of};
+ghost use Rattle.outside.specs.Faults.{Rose};
+ghost use Rattle.signoff_call.specs.Run.{AddsSome, AnswersTexts, counted, first_traced, refusal, report_bytes, stores, summary, summary_line, which_of};
+ghost use Rattle.reports.specs.Reports.{last_line};
+ghost use Rattle.demo_gen.specs.Texts.{module_text, set_text};
+ghost use Rattle.reports.specs.declared.which.Which.TheVariants as w;
+
+use crate::answer::{Answer, refused, reported};
+use check_faults::CheckFault;
+use command_words::{Asked, Job};
+use demo_gen::{module_text, set_text};
+use desk_core::check;
+use helper_box::Helper;
+use outside::{Gate, Keeper, Text};
+use proof_store::Settings;
+use replay::trace_text;
+use reports::{Book, Line, Report, Verdict, Which};
+use std::alloc::{AllocError, Global};
+use std::thread::Threads;
+
+fn which_of(alloc: Global, asked: &Asked) -> Result<Which, AllocError>
+    ensures { IfOk result (λ which. which ≡ which_of asked.now) }
+{
+    match asked {
+        Asked::Ops => Ok(Which::Ops),
+        Asked::Check => Ok(Which::All),
+        Asked::Trace(name) => Ok(Which::One(Text::copy(alloc, name.bytes())?)),
+    }
+}
+
+// The counterexample of the first line, if it has one, for a report.
+fn first_traced(alloc: Global, lines: &[Line], text: &Text) -> Result<Text, AllocError>
+    ensures { IfOk result (λ bytes. bytes ≡ first_traced lines.now text.now) }
+{
+    match lines {
+        [line, ..] => match &line.trace {
+            Some(shown) => trace_text(alloc, line.name.bytes(), shown),
+            None => Text::copy(alloc, text.bytes()),
+        },
+        [] => Text::copy(alloc, text.bytes()),
+    }
+}
+
+// What is put of a report.
+fn report_bytes(
+    alloc: Global,
+    asked: &Asked,
+    lines: &[Line],
+    report: &Report,
+) -> Result<Text, AllocError>
+    ensures { IfOk result (λ bytes. bytes ≡ report_bytes asked.now lines.now report.now) }
+{
+    match asked {
+        Asked::Ops | Asked::Check => Text::copy(alloc, report.text.bytes()),
+        Asked::Trace(_) => first_traced(alloc, lines, &report.text),
+    }
+}
+
+// The answer where a stage refuses; want of memory is none.
+fn turned_down(alloc: Global, fault: CheckFault) -> Result<Answer, AllocError>
+    ensures memory { IfOk result (λ _. fault ≢ Memory) }
+    ensures line { IfOk result (λ a. a ≡ refusal (status_of fault) (fault_line fault)) }
+{
+    if let CheckFault::Memory = fault {
+        return Err(AllocError);
+    }
+    let answer = refused(alloc, &fault);
+    drop(fault);
+    answer
+}
+
+/// The answer to two texts.
+pub fn judged<R: Threads + Sync, K: Keeper, H: Helper, G: Gate + Sync>(
+    rt: &R,
+    alloc: Global,
+    job: &Job,
+    module: &Text,
+    set: &Text,
+    keeper: &mut K,
+    helpers: &mut Vec<H>,
+    gate: &G,
+    book: &mut Book,
+) -> Result<Answer, AllocError>
+    requires bounds { HasBounds job.now }
+    requires empty { book.old.lines.items ≡ [] }
+    ensures answer { IfOk result (AnswersTexts «module».now set.now (which_of job.now.asked) job.now.budget job.now.workers (report_bytes job.now.asked book.new.lines.items) book.new
+        (stores (K.tables keeper.old) (K.tables keeper.new) (map H.asked helpers.old.items))) }
+    ensures left { AddsSome (K.tables keeper.old) (K.tables keeper.new) }
+    ensures keeper { IfOk result (λ a. a.status ≡ 8 → Rose (K.faults keeper.old) (K.faults keeper.new)) }
+{
+    let which = which_of(alloc, &job.asked)?;
+    let settings = Settings {
+        budget: job.budget,
+        workers: job.workers,
+    };
+    match check(
+        rt,
+        alloc,
+        module.bytes(),
+        set.bytes(),
+        &which,
+        &settings,
+        keeper,
+        helpers,
+        gate,
+        book,
+    ) {
+        Ok(report) => {
+            let bytes = report_bytes(alloc, &job.asked, &book.lines, &report)?;
+            Ok(reported(&report.verdicts, bytes))
+        }
+        Err(fault) => turned_down(alloc, fault),
+    }
+}
+
+/// How many lines are proved, refuted and spent.
+#[derive(Clone, Copy)]
+pub struct Counts {
+    pub proved: usize,
+    pub refuted: usize,
+    pub spent: usize,
+}
+
+// How many lines are proved, refuted and spent.
+fn count_verdicts(verdicts: &[Verdict]) -> Counts
+    ensures { result ≡ counted verdicts.now }
+{
+    let mut proved = 0;
+    let mut refuted = 0;
+    let mut spent = 0;
+    for verdict in verdicts {
+        match verdict {
+            Verdict::Proved => proved += 1,
+            Verdict::Refuted => refuted += 1,
+            Verdict::Spent => spent += 1,
+        }
+    }
+    Counts {
+        proved,
+        refuted,
+        spent,
+    }
+}
+
+// Adds a number and a word.
+fn add_count(alloc: Global, text: &mut Vec<u8>, count: usize, word: &[u8]) -> Result<(), AllocError>
+    ensures { OnOk result (text.new.items ≡ text.old.items ++ (decimal count ++ word.now)) }
+{
+    text.extend_from_slice(count.to_string(alloc)?.as_bytes())?;
+    text.extend_from_slice(word)?;
+    Ok(())
+}
+
+// The summary of a generated check, up to what it comes to.
+fn summary_line(alloc: Global, stages: u32, verdicts: &[Verdict]) -> Result<Vec<u8>, AllocError>
+    ensures { IfOk result (λ text. text.items ≡ summary_line stages verdicts.now) }
+{
+    let counts = count_verdicts(verdicts);
+    let mut text = b"demo ".to_vec(alloc)?;
+    add_count(alloc, &mut text, stages as usize, b": ")?;
+    add_count(alloc, &mut text, verdicts.len(), b" lines, ")?;
+    add_count(alloc, &mut text, counts.proved, b" proved, ")?;
+    add_count(alloc, &mut text, counts.refuted, b" refuted, ")?;
+    add_count(alloc, &mut text, counts.spent, b" spent\n")?;
+    Ok(text)
+}
+
+fn last_line(complete: bool) -> &'static [u8]
+    ensures { result.now ≡ last_line w.All complete }
+{
+    if complete {
+        b"signed off\n"
+    } else {
+        b"not signed off\n"
+    }
+}
+
+// The summary of a generated check.
+fn summary(alloc: Global, stages: u32, report: &Report) -> Result<Text, AllocError>
+    ensures { IfOk result (λ text. text ≡ summary stages report.now) }
+{
+    let mut text = summary_line(alloc, stages, &report.verdicts)?;
+    text.extend_from_slice(last_line(report.complete))?;
+    Ok(Text::new(text))
+}
+
+/// The answer to the generated texts of so many stages.
+pub fn demonstrated<R: Threads + Sync, K: Keeper, H: Helper, G: Gate + Sync>(
+    rt: &R,
+    alloc: Global,
+    stages: u32,
+    keeper: &mut K,
+    helpers: &mut Vec<H>,
+    gate: &G,
+    book: &mut Book,
+) -> Result<Answer, AllocError>
+    requires stages { (1 ≤ stages) × (stages ≤ 64) }
+    requires empty { book.old.lines.items ≡ [] }
+    ensures answer { IfOk result (AnswersTexts (module_text stages) (set_text stages) w.All 20000 4 (summary stages) book.new
+        (stores (K.tables keeper.old) (K.tables keeper.new) (map H.asked helpers.old.items))) }
+    ensures left { AddsSome (K.tables keeper.old) (K.tables keeper.new) }
+    ensures keeper { IfOk result (λ a. a.status ≡ 8 → Rose (K.faults keeper.old) (K.faults keeper.new)) }
+{
+    let module = module_text(alloc, stages)?;
+    let set = set_text(alloc, stages)?;
+    let settings = Settings {
+        budget: 20_000,
+        workers: 4,
+    };
+    match check(
+        rt,
+        alloc,
+        module.bytes(),
+        set.bytes(),
+        &Which::All,
+        &settings,
+        keeper,
+        helpers,
+        gate,
+        book,
+    ) {
+        Ok(report) => {
+            let text = summary(alloc, stages, &report)?;
+            Ok(reported(&report.verdicts, text))
+        }
+        Err(fault) => turned_down(alloc, fault),
+    }
+}

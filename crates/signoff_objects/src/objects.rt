@@ -1,0 +1,87 @@
+// The real objects that the top call works on.
+ghost use Rattle.std.specs.Prelude.{◌≡◌, ◌⊎◌, None, IfOk, map, string_bytes};
+ghost use Rattle.command_words.specs.Commands.{command_of};
+
+use command_words::{Wants, wants};
+use helper_box::{Helper, Sampler, Table, Units};
+use keeper_sql::SqlKeeper;
+use outside::{Console, FileShelf, Keeper, MemKeeper, QuietGate, TcpPort, Text};
+use reports::Book;
+use signoff_call::signoff;
+use std::alloc::{AllocError, Global};
+use std::net::{Ipv4Addr, SocketAddr, TcpListener};
+use std::thread::Threads;
+
+/// Answers words over real objects: the status of the top call. The proofs and the desk are kept in the file that the words name, and in memory
+/// where they name none; connections come from this machine alone. Threads are started by a handle of their own. It is 70 where there is no
+/// memory for the objects.
+pub fn answer<R: Threads + Sync>(threads: &R, rt: &HostRuntime, words: &[String]) -> u8
+    ensures no_command { command_of (map string_bytes words.now) ≡ None → (result ≡ 2) ⊎ (result ≡ 70) }
+{
+    match ended(threads, rt, words) {
+        Ok(status) => status,
+        Err(AllocError) => 70,
+    }
+}
+
+// The status of the top call, unless there is no memory for the objects.
+fn ended<R: Threads + Sync>(
+    threads: &R,
+    rt: &HostRuntime,
+    words: &[String],
+) -> Result<u8, AllocError>
+    ensures { IfOk result (λ status. command_of (map string_bytes words.now) ≡ None → (status ≡ 2) ⊎ (status ≡ 70)) }
+{
+    let alloc = rt.alloc();
+    let Wants { store, port } = wants(alloc, words)?;
+    let mut port = TcpPort::new(listener(rt, port));
+    match store {
+        Some(path) => over(threads, rt, words, &mut opened(rt, &path)?, &mut port),
+        None => over(
+            threads,
+            rt,
+            words,
+            &mut MemKeeper::new(alloc, Vec::new(alloc)),
+            &mut port,
+        ),
+    }
+}
+
+// Connections come from this machine alone.
+fn listener(rt: &HostRuntime, port: Option<u16>) -> Option<TcpListener> {
+    let at = SocketAddr::from((Ipv4Addr::LOCALHOST, port?));
+    TcpListener::bind(rt, at).ok()
+}
+
+// A word is text, so its bytes are.
+fn opened(rt: &HostRuntime, path: &Text) -> Result<SqlKeeper, AllocError> {
+    SqlKeeper::over(rt, str::from_utf8(path.bytes()).unwrap_or(""))
+}
+
+fn over<R: Threads + Sync, K: Keeper>(
+    threads: &R,
+    rt: &HostRuntime,
+    words: &[String],
+    keeper: &mut K,
+    port: &mut TcpPort,
+) -> Result<u8, AllocError>
+    ensures { IfOk result (λ status. command_of (map string_bytes words.now) ≡ None → (status ≡ 2) ⊎ (status ≡ 70)) }
+{
+    let alloc = rt.alloc();
+    let mut helpers: Vec<Box<dyn Helper>> = Vec::new(alloc);
+    helpers.push(Box::new(alloc, Sampler::new(1, 1_000))?)?;
+    helpers.push(Box::new(alloc, Table::new())?)?;
+    helpers.push(Box::new(alloc, Units::new())?)?;
+    Ok(signoff(
+        threads,
+        alloc,
+        words,
+        &mut FileShelf::new(rt.clone()?),
+        &mut Console::new(rt.clone()?),
+        keeper,
+        port,
+        &QuietGate,
+        helpers,
+        &mut Book::new(alloc),
+    ))
+}
