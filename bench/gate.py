@@ -1,0 +1,107 @@
+#!/usr/bin/env python3
+"""What the gate costs, and where a check's seconds go.
+
+gate.py run [WORD..]        runs `rt ci WORD..` at the top of the repository, and then prints a table: for each crate the processor seconds of
+                            its proof, of its tests' proof and of its wrong bodies (with the check that they begin with), and the most memory of
+                            one process; below it the wall time, and user and system seconds of all processes
+gate.py where CRATE [N]     of the last `rt check --jobs 1` of a crate from nothing (its out/ removed before): the N functions and the N files that
+                            took longest, by the times at which the prover wrote its files
+"""
+import collections
+import os
+import re
+import resource
+import subprocess
+import sys
+import time
+
+TOP = os.path.dirname(os.path.dirname(os.path.abspath(__file__)))
+TICK = os.sysconf("SC_CLK_TCK")
+KINDS = ("proof", "tests", "wrong bodies")
+
+
+def stat_of(pid):
+    """A process's name, the fields that follow it, and its words."""
+    with open(f"/proc/{pid}/stat", encoding="utf-8") as it:
+        text = it.read()
+    with open(f"/proc/{pid}/cmdline", encoding="utf-8") as it:
+        words = it.read().split("\0")
+    return text[text.index("(") + 1 : text.rindex(")")], text[text.rindex(")") + 2 :].split(), words
+
+
+def kind_of(pid, words):
+    """What a prover's process works at."""
+    if "/rt-edit-" in os.readlink(f"/proc/{pid}/cwd"):
+        return "wrong bodies"
+    return "tests" if "--test" in words else "proof"
+
+
+def sample(seen):
+    """Notes the processor seconds and the memory of each prover at work."""
+    for pid in filter(str.isdigit, os.listdir("/proc")):
+        try:
+            name, fields, words = stat_of(pid)
+            if name != "rattle" or "--crate-name" not in words:
+                continue
+            key = pid, fields[19]
+            if key not in seen:
+                seen[key] = [words[words.index("--crate-name") + 1], kind_of(pid, words), 0, 0]
+            seen[key][2] = max(seen[key][2], (int(fields[11]) + int(fields[12])) / TICK)
+            seen[key][3] = max(seen[key][3], int(fields[21]) * 4096 // 1_000_000)
+        except (OSError, ValueError, IndexError):
+            pass
+
+
+def run(words):
+    """Runs the gate, and prints what it cost."""
+    seen, since = {}, time.time()
+    work = subprocess.Popen(["rt", "ci", *words], cwd=TOP)
+    while work.poll() is None:
+        sample(seen)
+        time.sleep(0.5)
+    wall, used = time.time() - since, resource.getrusage(resource.RUSAGE_CHILDREN)
+    rows = collections.defaultdict(lambda: dict.fromkeys((*KINDS, "MB"), 0))
+    for crate, kind, seconds, memory in seen.values():
+        rows[crate][kind] += seconds
+        rows[crate]["MB"] = max(rows[crate]["MB"], memory)
+    print(f"| crate | {' | '.join(KINDS)} | MB |\n|---|---|---|---|---|")
+    for crate, row in sorted(rows.items(), key=lambda it: -sum(it[1][kind] for kind in KINDS)):
+        print(f"| `{crate}` | {' | '.join(f'{row[kind]:.0f}' if row[kind] else '' for kind in KINDS)} | {row['MB']} |")
+    sums = [sum(row[kind] for row in rows.values()) / 60 for kind in KINDS]
+    print(f"| all, in minutes | {' | '.join(f'{it:.0f}' for it in sums)} | |")
+    print(f"wall {wall / 60:.0f} minutes; user {used.ru_utime / 60:.0f} and system {used.ru_stime / 60:.0f} minutes of all processes")
+    return work.returncode
+
+
+def subject_of(file):
+    """The function that a file of the prover belongs to, or the file."""
+    name = re.sub(r"(\.decls)?\.oantt$", "", file).removeprefix("Rattle-")
+    found = re.match(r"\w+-proofs\.(.*?)(\.[A-Z]\w*)*$", name)
+    return found.group(1) if found and found.group(1) else name
+
+
+def where(crate, count):
+    """Prints where the seconds of a crate's first check went."""
+    files = []
+    for folder, _, names in os.walk(f"{TOP}/crates/{crate}/out/incremental"):
+        files += [(os.stat(f"{folder}/{it}").st_mtime, it) for it in names]
+    files.sort()
+    single = [(now - before, file) for (before, _), (now, file) in zip(files, files[1:])]
+    by_subject = collections.Counter()
+    for seconds, file in single:
+        by_subject[subject_of(file)] += seconds
+    print(f"{crate}: {sum(by_subject.values()):.0f} s")
+    for name, seconds in by_subject.most_common(count):
+        print(f"{seconds:7.1f}  {name}")
+    print("files")
+    for seconds, file in sorted(single, reverse=True)[:count]:
+        print(f"{seconds:7.1f}  {file}")
+
+
+if __name__ == "__main__":
+    if sys.argv[1:2] == ["run"]:
+        sys.exit(run(sys.argv[2:]))
+    if sys.argv[1:2] == ["where"] and len(sys.argv) > 2:
+        where(sys.argv[2], int(sys.argv[3]) if len(sys.argv) > 3 else 20)
+    else:
+        sys.exit(__doc__)
