@@ -5,14 +5,14 @@ use clause_check::{Clause, Cnf, Step};
 use desk_core::check;
 use helper_box::{Claim, Helper, Table};
 use outside::{Keeper, MemKeeper, QuietGate, Text};
-use proof_store::{Settings, migrate};
-use reports::{Book, Line, Which};
+use proof_store::Settings;
+use reports::{Book, Which};
 use std::alloc::{AllocError, Global};
 use std::process::Abort;
 use std::test::Fail;
 use std::thread::Threads;
 use step_records::{fits_version_1, read_steps, write_steps_1};
-use word_dag::{Ob, text};
+use word_dag::Ob;
 
 // Claims that one empty clause without hints refutes each obligation.
 #[derive(Drop)]
@@ -61,43 +61,6 @@ fn counted(
     Ok(())
 }
 
-// The lines on which the second operation's commitment bears.
-const OF_HOLD: &[&[u8]] = &[
-    b"op hold",
-    b"split hold",
-    b"choose hold step",
-    b"choose hold hold",
-    b"hand reset hold",
-    b"hand step hold",
-    b"hand hold step",
-    b"hand hold hold",
-    b"determine hold",
-];
-
-// Whether a line has a proof at a keeper.
-fn is_kept(alloc: Global, keeper: &mut MemKeeper, line: &Line) -> Result<bool, Fail> {
-    let key = text(alloc, &line.ob)?;
-    Ok(keeper.proof(alloc, &key)?.is_some())
-}
-
-// Wants the lines that have no proof at a keeper to be those of these names, in their order.
-fn not_kept(
-    rt: &(impl Abort + AllocGlobal),
-    keeper: &mut MemKeeper,
-    lines: &[Line],
-    want: &[&[u8]],
-) -> Result<(), Fail> {
-    let mut found = 0;
-    for line in lines {
-        if !is_kept(rt.alloc(), keeper, line)? {
-            assert!(rt; found < want.len() && want[found] == line.name.bytes());
-            found += 1;
-        }
-    }
-    assert_eq!(rt; found, want.len());
-    Ok(())
-}
-
 // A set that differs in one formula keeps the proofs of the lines that don't read it.
 fn kept(
     rt: &(impl Threads + Sync + Abort + AllocGlobal),
@@ -110,14 +73,6 @@ fn kept(
         b"commit q@1 == q@0; hand",
         b"commit q@0 == q@1; hand",
     );
-    let anew = checked(
-        rt,
-        plain(COUNTER),
-        held,
-        &mut empty(rt.alloc()),
-        Vec::new(rt.alloc()),
-    )?;
-    not_kept(rt, keeper, &anew.book.lines, OF_HOLD)?;
     let ran = checked(rt, plain(COUNTER), held, keeper, Vec::new(rt.alloc()))?;
     assert!(rt; ran.book.kept == 12 && ran.book.solved == 9);
     Ok(())
@@ -138,38 +93,15 @@ fn key_after(alloc: Global, keeper: &mut MemKeeper, key: &Option<Text>) -> Resul
     )
 }
 
-// Changes the first byte of what is kept under a key.
-fn change(alloc: Global, keeper: &mut MemKeeper, key: &[u8]) -> Result<(), Fail> {
-    let mut bytes = keeper.proof(alloc, key)?.ok_or("not kept")?;
+// Changes the first byte of what is kept under the least key.
+fn damage(alloc: Global, keeper: &mut MemKeeper) -> Result<(), Fail> {
+    let key = key_after(alloc, keeper, &None)?;
+    let mut bytes = keeper.proof(alloc, key.bytes())?.ok_or("not kept")?;
     if let Some(first) = bytes.first_mut() {
         *first = 0x45;
     }
-    keeper.put_proof(alloc, key, &bytes)?;
+    keeper.put_proof(alloc, key.bytes(), &bytes)?;
     Ok(())
-}
-
-// The text of the obligation of the line `op step`, which is the second one.
-fn key_of_step(rt: &impl AllocGlobal, lines: &[Line]) -> Result<Vec<u8>, Fail> {
-    match lines {
-        [_, line, ..] if line.name.bytes() == b"op step" => Ok(text(rt.alloc(), &line.ob)?),
-        _ => Err("no such line")?,
-    }
-}
-
-// Changes what is kept for the counter's line `op step`.
-fn damage(
-    rt: &(impl Threads + Sync + Abort + AllocGlobal),
-    keeper: &mut MemKeeper,
-) -> Result<(), Fail> {
-    let ran = checked(
-        rt,
-        plain(COUNTER),
-        SET,
-        &mut empty(rt.alloc()),
-        Vec::new(rt.alloc()),
-    )?;
-    let key = key_of_step(rt, &ran.book.lines)?;
-    change(rt.alloc(), keeper, &key)
 }
 
 fn found_anew(
@@ -177,7 +109,7 @@ fn found_anew(
     keeper: &mut MemKeeper,
 ) -> Result<(), Fail> {
     counted(rt, keeper, (0, 21))?;
-    damage(rt, keeper)?;
+    damage(rt.alloc(), keeper)?;
     counted(rt, keeper, (20, 1))
 }
 
@@ -322,39 +254,14 @@ fn damaged_and_moved(
     keeper: &mut MemKeeper,
 ) -> Result<(), Fail> {
     first_records(rt, keeper)?;
-    damage(rt, keeper)?;
+    damage(rt.alloc(), keeper)?;
     migrated(rt, keeper, (0, b"migrated 20, left 1\n"))?;
     migrated(rt, keeper, (0, b"migrated 0, left 21\n"))?;
     counted(rt, keeper, (20, 1))
 }
 
-// Where one call comes to so many rows, the others wait.
-fn moved_in_part(
-    rt: &(impl Threads + Sync + Abort + AllocGlobal),
-    keeper: &mut MemKeeper,
-) -> Result<(), Fail> {
-    first_records(rt, keeper)?;
-    match migrate(rt.alloc(), keeper, 20) {
-        Ok(moved) => assert!(rt; moved.moved == 20 && moved.left == 0 && moved.more),
-        Err(_) => panic!(rt; "the keeper failed"),
-    }
-    migrated(rt, keeper, (0, b"migrated 1, left 20\n"))
-}
-
-fn moved_once(
-    rt: &(impl Threads + Sync + Abort + AllocGlobal),
-    keeper: &mut MemKeeper,
-) -> Result<(), Fail> {
-    first_records(rt, keeper)?;
-    migrated(rt, keeper, (0, b"migrated 21, left 0\n"))?;
-    migrated(rt, keeper, (0, b"migrated 0, left 21\n"))?;
-    counted(rt, keeper, (21, 0))
-}
-
 #[test]
 fn rows_are_moved(rt: HostRuntime) -> Result<(), Fail> {
-    moved_once(&rt, &mut empty(rt.alloc()))?;
-    moved_in_part(&rt, &mut empty(rt.alloc()))?;
     damaged_and_moved(&rt, &mut empty(rt.alloc()))
 }
 

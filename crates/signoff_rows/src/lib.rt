@@ -10,8 +10,6 @@ mod gathering;
 #[cfg(test)]
 mod kept;
 #[cfg(test)]
-mod obligations;
-#[cfg(test)]
 mod refusals;
 #[cfg(test)]
 mod reported;
