@@ -36,12 +36,20 @@ def kind_of(pid, words):
     return "tests" if "--test" in words else "proof"
 
 
-def sample(seen):
-    """Notes the processor seconds and the memory of each prover at work."""
+def below(pid, top):
+    """Whether a process was started, at any remove, by another one."""
+    while pid not in ("0", "1", top):
+        with open(f"/proc/{pid}/stat", encoding="utf-8") as it:
+            pid = it.read().rpartition(")")[2].split()[1]
+    return pid == top
+
+
+def sample(seen, top):
+    """Notes the processor seconds and the memory of each prover that a process started."""
     for pid in filter(str.isdigit, os.listdir("/proc")):
         try:
             name, fields, words = stat_of(pid)
-            if name != "rattle" or "--crate-name" not in words:
+            if name != "rattle" or "--crate-name" not in words or not below(pid, top):
                 continue
             key = pid, fields[19]
             if key not in seen:
@@ -57,7 +65,7 @@ def run(words):
     seen, since = {}, time.time()
     work = subprocess.Popen(["rt", "ci", *words], cwd=TOP)
     while work.poll() is None:
-        sample(seen)
+        sample(seen, str(work.pid))
         time.sleep(0.5)
     wall, used = time.time() - since, resource.getrusage(resource.RUSAGE_CHILDREN)
     rows = collections.defaultdict(lambda: dict.fromkeys((*KINDS, "MB"), 0))
