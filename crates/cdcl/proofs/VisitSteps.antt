@@ -1,4 +1,5 @@
 use Rattle.std.proofs.Common.{◌≡◌, ◌≢◌, ◌<◌, ◌≤◌, ◌+◌, ◌-◌, ℕ, List, [], ◌∷◌, ◌++◌, Some, None, set, get_or, length, length-set, length-take, arith, sym, ◌∙◌, ap, subst, refl, Contains, inl, inr, ◌⊎◌, Vec, Global}
+use Rattle.std.specs.Prelude.{slice_index_or}
 use Rattle.std.specs.List.{swap_remove}
 use Rattle.std.proofs.lemmas.List.{get_or_default, length_push, map_push}
 use Rattle.std.proofs.lemmas.List.Elements.{Contains-push}
@@ -20,11 +21,22 @@ use Rattle.cdcl.specs.Leaving.{Leaves}
 use Rattle.cdcl.specs.Lists.{IsWaiting, IsRoomFor, list_at, listed, unlisted}
 use Rattle.cdcl.specs.Copying.{IsCopyOf, IsCopied}
 use Rattle.cdcl.specs.Watching.{IsTrueAt, IsKept, IsWatchOf, IsTable, IsPropagated}
-use Rattle.cdcl.specs.Turns.{Rests, Moves, IsPart, IsSolver, Advances, Visits}
+use Rattle.cdcl.specs.Turns.{Rests, Moves, IsPart, IsSolver, Advances}
 use Rattle.cdcl.proofs.ListLemmas.{waiting_step, waiting_removed, list_other, list_same, cases_lit, room_still}
 use Rattle.cdcl.proofs.TableLemmas.{each_set, table_replace, room_for}
 use Rattle.cdcl.proofs.WatchLemmas.{contains_true, true_still, kept_assigned}
 use Rattle.cdcl.proofs.VisitLemmas.{kept_weaker, kept_rests, kept_elsewhere, kept_moved, rests_from}
+
+-- Each clause is kept with the next place propagated, or still waits in the list of the denied literal.
+pub record Visits (cnf : Cnf) (old : Solver) (denied : Lit) (i : ℕ) (s : Solver) : Type 0 where
+  pub advances : Advances cnf old s
+  pub next : s.next ≡ old.next
+  pub within : s.next < length s.search.trail.entries
+  pub here : IsTrueAt s.search.trail.entries (negated denied) s.next
+  pub in_range : denied.var < cnf.vars
+  pub done : (k : ℕ) (d : Watch) → k < length s.watches.watched.items
+      → IsKept (clause_at (clauses_of cnf.clauses.items s.search.steps.items) k) s.search.trail.entries s.search.starts.items (s.next + 1) (slice_index_or s.watches.watched.items k d)
+      ⊎ IsWaiting (list_at s.watches.lists denied) i k
 
 length-swap_remove : (xs : List ℕ) (i d : ℕ) → i < length xs → length (swap_remove xs i d) + 1 ≡ length xs
 length-swap_remove xs i d lt =

@@ -131,10 +131,6 @@ pub record Follows (f : Flat) (c d : Cycle) : Type 0 where
 -- ---- runs
 
 -- n cycles, each following the one before
-pub record IsRunFrom (ms : List Module) (top : Name) (n : ℕ) (c : ℕ → Cycle) : Type 0 where
-  pub cycles : (t : ℕ) → t < n → IsCycleFrom ms top (c t)
-  pub steps : (t : ℕ) → t + 1 < n → FollowsFrom ms top (c t) (c (t + 1))
-
 pub record IsRun (f : Flat) (n : ℕ) (c : ℕ → Cycle) : Type 0 where
   pub cycles : (t : ℕ) → t < n → IsCycle f (c t)
   pub steps : (t : ℕ) → t + 1 < n → Follows f (c t) (c (t + 1))
