@@ -30,7 +30,7 @@ use Rattle.command_words.specs.declared.action.Service.{Service}
 use Rattle.signoff_call.specs.declared.answer.Answer.{Answer}
 use Rattle.signoff_call.specs.declared.files.Read.{Read}
 use Rattle.signoff_call.specs.declared.files.Read.TheVariants.{Both, NoModule, NoSet}
-use Rattle.signoff_call.specs.Run.{AddsSome, Answers, AnswersJob, AnswersMove, AnswersService, AnswersTexts, AppendsPrefix, Around, Delivers, IsRead, LeavesRows, LeavesServed, Reads, RefusesBy, RefusesTexts, ReportsTexts, Stores, around, done, is_refuted, is_spent, moved_text, refusal, refused_status, report_bytes, reported, served_text, stores, stores_of, summary, which_of}
+use Rattle.signoff_call.specs.Run.{Answers, AnswersJob, AnswersMove, AnswersService, AnswersTexts, AppendsPrefix, Around, Delivers, IsRead, LeavesRead, LeavesRows, LeavesServed, LeavesTexts, Reads, RefusesBy, RefusesTexts, ReportsTexts, Stores, around, done, is_refuted, is_spent, moved_text, refusal, refused_status, report_bytes, reported, served_text, stores, stores_of, summary, which_of}
 
 pub both_answered : {E : Type 0} (r : Result Answer E) (j : Job) (read : Read) (m s : List ℕ) (book : Book) (st : Stores) → read ≡ Both m s →
     IfOk r (AnswersTexts m s (which_of j.asked) j.budget j.workers (report_bytes j.asked book.lines.items) book st) → IfOk r (AnswersJob j read book st)
@@ -43,8 +43,13 @@ turned_answered (Ok a) m s which budget workers said book st fault refuses empty
     inl (record { fault = fault; refuses = refuses; no_memory = memory; empty = empty; left = left; answer_is = line })
 turned_answered (Err e) m s which budget workers said book st fault refuses empty left memory line = tt
 
-pub adds_some : (OfCall : List Parts → Type 0) (before after : Option Tables) → AddsProofsOf OfCall before after → AddsSome before after
-adds_some OfCall before after h = (h.0, h.2)
+-- the texts and what is asked, by other names
+pub left_of : (m n s t : List ℕ) (which other : Which) (before after : Option Tables) → m ≡ n → s ≡ t → which ≡ other → AddsProofsOf (AreObsOfTexts m s which) before after →
+    AddsProofsOf (AreObsOfTexts n t other) before after
+left_of m n s t which other before after module_is set_is which_is h =
+    subst (λ (w : Which). AddsProofsOf (AreObsOfTexts n t w) before after) which_is
+    (subst (λ (z : List ℕ). AddsProofsOf (AreObsOfTexts n z which) before after) set_is
+    (subst (λ (z : List ℕ). AddsProofsOf (AreObsOfTexts z s which) before after) module_is h))
 
 -- of the faults only a keeper's has the status 8
 is_keeper : (fault : CheckFault) (P : Type 0) → (fault ≡ f.Keeper → P) → status_of fault ≡ 8 → P
@@ -75,8 +80,24 @@ told_none : (t : Option Tables) → Told (AddsProofs []) t t
 told_none (Some t) = record { blocks = refl; signs = refl; proofs = λ key. inl refl }
 told_none None = tt
 
-pub adds_none : (t : Option Tables) → AddsSome t t
-adds_none t = ([], told_none t)
+pub adds_none : (OfCall : List Parts → Type 0) (t : Option Tables) → AddsProofsOf OfCall t t
+adds_none OfCall t = ([], inl refl, told_none t)
+
+pub read_none : (j : Job) (read : Read) (t : Option Tables) → LeavesRead j read t t
+read_none j NoModule t = refl
+read_none j NoSet t = refl
+read_none j (Both m s) t = adds_none (AreObsOfTexts m s (which_of j.asked)) t
+
+-- what comes of two texts that were read
+pub both_left : (j : Job) (read : Read) (m s : List ℕ) (before after : Option Tables) → read ≡ Both m s → AddsProofsOf (AreObsOfTexts m s (which_of j.asked)) before after →
+    LeavesRead j read before after
+both_left j read m s before after is h = subst (λ (z : Read). LeavesRead j z before after) (sym is) h
+
+texts_left : (shelf : Option (List ℕ → Option (List ℕ))) (faults now : ℕ) (j : Job) (read : Read) (before after : Option Tables) → IsRead shelf faults now j read →
+    LeavesRead j read before after → LeavesTexts shelf j before after
+texts_left shelf faults now j NoModule before after read h = inl h
+texts_left shelf faults now j NoSet before after read h = inl h
+texts_left shelf faults now j (Both m s) before after read h = inr (m, s, read.0, read.1, h)
 
 -- ---- statuses that a check of texts doesn't answer
 
@@ -269,12 +290,11 @@ module _ {E : Type 0} (shelf : Option (List ℕ → Option (List ℕ))) (before 
       (NoModule, subst (λ (z : Option Command). Reads shelf before now z NoModule) (sym is) same, subst (λ (z : Option Command). Answers z NoModule a b x) (sym is) (line, h a.desk.asked))
   move_ran (Err e) file is same line h = tt
 
--- what any answer to it leaves
-pub leaves_none : (cmd : Option Command) (a b : Around) → cmd ≡ None → AddsSome a.desk.tables b.desk.tables → LeavesRows cmd a b
-leaves_none cmd a b is h = subst (λ (z : Option Command). LeavesRows z a b) (sym is) h
-
-pub leaves : (cmd : Option Command) (one : Command) (a b : Around) → cmd ≡ Some one → LeavesRows (Some one) a b → LeavesRows cmd a b
-leaves cmd one a b is h = subst (λ (z : Option Command). LeavesRows z a b) (sym is) h
+-- what a job leaves
+pub leaves_job : (shelf : Option (List ℕ → Option (List ℕ))) (faults now : ℕ) (cmd : Option Command) (job : Job) (read : Read) (a b : Around) → cmd ≡ Some (c.Texts job) →
+    IsRead shelf faults now job read → LeavesRead job read a.desk.tables b.desk.tables → LeavesRows shelf cmd a b
+leaves_job shelf faults now cmd job read a b is was h =
+    subst (λ (z : Option Command). LeavesRows shelf z a b) (sym is) (texts_left shelf faults now job read a.desk.tables b.desk.tables was h)
 
 -- words whose command isn't known yet leave all as it was
 left_as : (s : Service) (a : Around) → LeavesServed s a a
@@ -284,12 +304,12 @@ moves_none : (t : Option Tables) → Told MovesRows t t
 moves_none (Some t) = record { blocks = refl; signs = refl; proofs = λ key. inl refl }
 moves_none None = tt
 
-pub leaves_all : (cmd : Option Command) (a : Around) → LeavesRows cmd a a
-leaves_all None a = adds_none a.desk.tables
-leaves_all (Some (c.Texts job)) a = adds_none a.desk.tables
-leaves_all (Some (c.Demo n)) a = adds_none a.desk.tables
-leaves_all (Some (c.Serve service)) a = left_as service a
-leaves_all (Some (c.Migrate file)) a = moves_none a.desk.tables
+pub leaves_all : (shelf : Option (List ℕ → Option (List ℕ))) (cmd : Option Command) (a : Around) → LeavesRows shelf cmd a a
+leaves_all shelf None a = refl
+leaves_all shelf (Some (c.Texts job)) a = inl refl
+leaves_all shelf (Some (c.Demo n)) a = adds_none (AreObsOfTexts (module_text n) (set_text n) w.All) a.desk.tables
+leaves_all shelf (Some (c.Serve service)) a = left_as service a
+leaves_all shelf (Some (c.Migrate file)) a = moves_none a.desk.tables
 
 -- ---- what goes out
 

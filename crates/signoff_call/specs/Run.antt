@@ -18,10 +18,9 @@ use Rattle.reports.specs.declared.report.Report.{Report}
 use Rattle.reports.specs.declared.which.Which.{Which}
 use Rattle.reports.specs.declared.which.Which.TheVariants as w
 use Rattle.outside.specs.Tables.{Tables}
-use Rattle.word_dag.specs.Nodes.{Parts}
 use Rattle.proof_store.specs.declared.moving.Moved.{Moved}
 use Rattle.proof_store.specs.Moves.{MovesRows, Walks}
-use Rattle.proof_store.specs.Stored.{AddsProofs, Told}
+use Rattle.proof_store.specs.Stored.{Told}
 use Rattle.asked_lines.specs.Settled.{AddsProofsOf, AreSettled}
 use Rattle.desk_core.specs.Checks.{AreObsOfTexts, IsReport, Refuses}
 use Rattle.reports.specs.Lines.{is_proved}
@@ -119,10 +118,6 @@ pub record Stores : Type 0 where
 abbrev pub stores : Option Tables → Option Tables → List ℕ → Stores
 stores before after asked = record { before = before; after = after; asked = asked }
 
--- each proof that differs is one of some obligation, under its text, and all else is as before
-abbrev pub AddsSome : Option Tables → Option Tables → Type 0
-AddsSome before after = (obs : List Parts) × Told (AddsProofs obs) before after
-
 -- a stage refuses the two texts, or the keeper failed; the proofs that differ are of obligations of the lines that are asked for
 pub record RefusesTexts (m s : List ℕ) (which : Which) (book : Book) (st : Stores) (answer : Answer) : Type 0 where
   pub fault : CheckFault
@@ -196,14 +191,6 @@ pub record LeavesServed (s : Service) (a b : Around) : Type 0 where
   pub line : Wires
   pub did : ServesMany s.budget s.workers a.line a.desk served line b.desk
 
--- what a command leaves at the keeper, whatever is answered: new proofs alone, what connections did, or rows that were moved
-abbrev pub LeavesRows : Option Command → Around → Around → Type 0
-LeavesRows None a b = AddsSome a.desk.tables b.desk.tables
-LeavesRows (Some (c.Texts job)) a b = AddsSome a.desk.tables b.desk.tables
-LeavesRows (Some (c.Demo n)) a b = AddsSome a.desk.tables b.desk.tables
-LeavesRows (Some (c.Serve service)) a b = LeavesServed service a b
-LeavesRows (Some (c.Migrate file)) a b = Told MovesRows a.desk.tables b.desk.tables
-
 -- ---- files
 
 -- the first bytes of the file, where the shelf tells
@@ -223,6 +210,28 @@ Reads shelf before now (Some (c.Texts job)) read = IsRead shelf before now job r
 Reads shelf before now (Some (c.Demo n)) read = now ≡ before
 Reads shelf before now (Some (c.Serve service)) read = now ≡ before
 Reads shelf before now (Some (c.Migrate file)) read = now ≡ before
+
+-- ---- what is left
+
+-- where a file wasn't read nothing is new at the keeper; else each proof that differs is one of an obligation of the lines that are asked for, under its
+-- text, and all else is as before
+abbrev pub LeavesRead : Job → Read → Option Tables → Option Tables → Type 0
+LeavesRead j NoModule before after = after ≡ before
+LeavesRead j NoSet before after = after ≡ before
+LeavesRead j (Both m s) before after = AddsProofsOf (AreObsOfTexts m s (which_of j.asked)) before after
+
+-- nothing is new, or what is left comes of two texts that the shelf has under the names of the job
+abbrev pub LeavesTexts : Option (List ℕ → Option (List ℕ)) → Job → Option Tables → Option Tables → Type 0
+LeavesTexts shelf j before after = (after ≡ before)
+    ⊎ ((m : List ℕ) × (s : List ℕ) × IsFile shelf j.module m × IsFile shelf j.set s × AddsProofsOf (AreObsOfTexts m s (which_of j.asked)) before after)
+
+-- what a command leaves at the keeper, whatever is answered: new proofs of obligations of its texts alone, what connections did, or rows that were moved
+abbrev pub LeavesRows : Option (List ℕ → Option (List ℕ)) → Option Command → Around → Around → Type 0
+LeavesRows shelf None a b = b.desk.tables ≡ a.desk.tables
+LeavesRows shelf (Some (c.Texts job)) a b = LeavesTexts shelf job a.desk.tables b.desk.tables
+LeavesRows shelf (Some (c.Demo n)) a b = AddsProofsOf (AreObsOfTexts (module_text n) (set_text n) w.All) a.desk.tables b.desk.tables
+LeavesRows shelf (Some (c.Serve service)) a b = LeavesServed service a b
+LeavesRows shelf (Some (c.Migrate file)) a b = Told MovesRows a.desk.tables b.desk.tables
 
 -- ---- output
 

@@ -3,6 +3,7 @@
 
 mod answer;
 mod files;
+mod lines;
 mod moved;
 mod run;
 mod serving;

@@ -4,12 +4,13 @@ ghost use Rattle.std.specs.Io.KnownBytes.{Appends};
 ghost use Rattle.outside.specs.Faults.{Rose};
 ghost use Rattle.command_words.specs.Commands.{IsBounded, HasBounds, command_of};
 ghost use Rattle.desk_http.specs.Serving.{line, state};
-ghost use Rattle.signoff_call.specs.Run.{AddsSome, Answers, AnswersJob, Delivers, LeavesRows, Reads, around, stores};
+ghost use Rattle.signoff_call.specs.Run.{Answers, AnswersJob, Delivers, LeavesRead, LeavesRows, Reads, around, stores};
 ghost use Rattle.signoff_call.specs.declared.answer.Answer.{Answer};
 ghost use Rattle.signoff_call.specs.declared.files.Read.{Read};
 
 use crate::answer::{Answer, refusal};
 use crate::files::{Read, read_both};
+use crate::lines::put_lines;
 use crate::moved::moved;
 use crate::serving::served;
 use crate::texts::{demonstrated, judged};
@@ -60,9 +61,9 @@ pub fn signoff<R: Threads + Sync, F: Shelf, S: Sink, K: Keeper, P: Port, H: Help
     ensures keeper_fault { result ≡ 8 → Rose (K.faults keeper.old) (K.faults keeper.new) }
     ensures port_fault { result ≡ 9 → Rose (P.next_faults port.old) (P.next_faults port.new) }
 
-    // Whatever the status, blocks and sign-offs are as before, or as connections left them; and each proof that differs is one of an obligation, under its
-    // text, or was moved.
-    ensures left { (asked : List ℕ) × LeavesRows (command_of (map string_bytes words.now))
+    // Whatever the status, also 70, blocks and sign-offs are as before, or as connections left them; and each proof that differs is one of an obligation of
+    // this call, under its text, or was moved.
+    ensures left { (asked : List ℕ) × LeavesRows (F.files shelf.old) (command_of (map string_bytes words.now))
         (around (state (K.tables keeper.old) (K.faults keeper.old) (map H.asked helpers.items) book.old) (line (P.wire port.old) (P.faults port.old)))
         (around (state (K.tables keeper.new) (K.faults keeper.new) asked book.new) (line (P.wire port.new) (P.faults port.new))) }
 
@@ -109,7 +110,7 @@ fn answered<R: Threads + Sync, F: Shelf, K: Keeper, P: Port, H: Helper, G: Gate 
         × Answers (command_of (map string_bytes words.now)) read
         (around (state (K.tables keeper.old) (K.faults keeper.old) (map H.asked helpers.old.items) book.old) (line (P.wire port.old) (P.faults port.old)))
         (around (state (K.tables keeper.new) (K.faults keeper.new) (map H.asked helpers.new.items) book.new) (line (P.wire port.new) (P.faults port.new))) a) }
-    ensures left { LeavesRows (command_of (map string_bytes words.now))
+    ensures left { LeavesRows (F.files shelf.old) (command_of (map string_bytes words.now))
         (around (state (K.tables keeper.old) (K.faults keeper.old) (map H.asked helpers.old.items) book.old) (line (P.wire port.old) (P.faults port.old)))
         (around (state (K.tables keeper.new) (K.faults keeper.new) (map H.asked helpers.new.items) book.new) (line (P.wire port.new) (P.faults port.new))) }
     ensures keeper { IfOk result (λ a. a.status ≡ 8 → Rose (K.faults keeper.old) (K.faults keeper.new)) }
@@ -142,7 +143,7 @@ fn job_answer<R: Threads + Sync, K: Keeper, H: Helper, G: Gate + Sync>(
     requires bounds { HasBounds job.now }
     requires empty { book.old.lines.items ≡ [] }
     ensures answer { IfOk result (AnswersJob job.now read.now book.new (stores (K.tables keeper.old) (K.tables keeper.new) (map H.asked helpers.old.items))) }
-    ensures left { AddsSome (K.tables keeper.old) (K.tables keeper.new) }
+    ensures left { LeavesRead job.now read.now (K.tables keeper.old) (K.tables keeper.new) }
     ensures keeper { IfOk result (λ a. a.status ≡ 8 → Rose (K.faults keeper.old) (K.faults keeper.new)) }
 {
     match read {
@@ -154,11 +155,11 @@ fn job_answer<R: Threads + Sync, K: Keeper, H: Helper, G: Gate + Sync>(
     }
 }
 
-/// Puts the answer, and says the status.
+/// Puts the answer line by line, and says the status.
 fn deliver<S: Sink>(alloc: Global, answer: &Answer, out: &mut S) -> u8
     ensures { Delivers answer.now result (S.faults out.old) (S.faults out.new) (S.written out.old) (S.written out.new) }
 {
-    match out.put(alloc, answer.bytes.bytes()) {
+    match put_lines(alloc, answer.bytes.bytes(), out) {
         Ok(()) => answer.status,
         Err(OutFault::Memory) => 70,
         Err(OutFault::Failed) => { if answer.reports { 7 } else { answer.status } }

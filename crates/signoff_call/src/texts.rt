@@ -5,8 +5,10 @@ ghost use Rattle.command_words.specs.Commands.{HasBounds};
 ghost use Rattle.check_faults.specs.declared.fault.CheckFault.TheVariants.{Memory};
 ghost use Rattle.fault_texts.specs.Texts.{fault_line, status_of};
 ghost use Rattle.outside.specs.Faults.{Rose};
-ghost use Rattle.signoff_call.specs.Run.{AddsSome, AnswersTexts, counted, first_traced, refusal, report_bytes, stores, summary, summary_line, which_of};
+ghost use Rattle.signoff_call.specs.Run.{AnswersTexts, counted, first_traced, refusal, report_bytes, stores, summary, summary_line, which_of};
 ghost use Rattle.reports.specs.Reports.{last_line};
+ghost use Rattle.asked_lines.specs.Settled.{AddsProofsOf};
+ghost use Rattle.desk_core.specs.Checks.{AreObsOfTexts};
 ghost use Rattle.demo_gen.specs.Texts.{module_text, set_text};
 ghost use Rattle.reports.specs.declared.which.Which.TheVariants as w;
 
@@ -90,7 +92,7 @@ pub fn judged<R: Threads + Sync, K: Keeper, H: Helper, G: Gate + Sync>(
     requires empty { book.old.lines.items ≡ [] }
     ensures answer { IfOk result (AnswersTexts «module».now set.now (which_of job.now.asked) job.now.budget job.now.workers (report_bytes job.now.asked book.new.lines.items) book.new
         (stores (K.tables keeper.old) (K.tables keeper.new) (map H.asked helpers.old.items))) }
-    ensures left { AddsSome (K.tables keeper.old) (K.tables keeper.new) }
+    ensures left { AddsProofsOf (AreObsOfTexts «module».now set.now (which_of job.now.asked)) (K.tables keeper.old) (K.tables keeper.new) }
     ensures keeper { IfOk result (λ a. a.status ≡ 8 → Rose (K.faults keeper.old) (K.faults keeper.new)) }
 {
     let which = which_of(alloc, &job.asked)?;
@@ -203,7 +205,7 @@ pub fn demonstrated<R: Threads + Sync, K: Keeper, H: Helper, G: Gate + Sync>(
     requires empty { book.old.lines.items ≡ [] }
     ensures answer { IfOk result (AnswersTexts (module_text stages) (set_text stages) w.All 20000 4 (summary stages) book.new
         (stores (K.tables keeper.old) (K.tables keeper.new) (map H.asked helpers.old.items))) }
-    ensures left { AddsSome (K.tables keeper.old) (K.tables keeper.new) }
+    ensures left { AddsProofsOf (AreObsOfTexts (module_text stages) (set_text stages) w.All) (K.tables keeper.old) (K.tables keeper.new) }
     ensures keeper { IfOk result (λ a. a.status ≡ 8 → Rose (K.faults keeper.old) (K.faults keeper.new)) }
 {
     let module = module_text(alloc, stages)?;

@@ -1,4 +1,4 @@
-use Rattle.std.proofs.Common.{◌≡◌, ℕ, List, ap, ◌∙◌, subst, inr, Err}
+use Rattle.std.proofs.Common.{◌≡◌, refl, ℕ, List, ap, ◌∙◌, subst, inr, Err}
 use Rattle.demo_gen.specs.Texts.{module_text, set_text}
 use Rattle.check_faults.specs.declared.fault.CheckFault.{CheckFault}
 use Rattle.reports.specs.declared.book.Verdict.{Verdict}
@@ -6,7 +6,7 @@ use Rattle.reports.specs.declared.which.Which.TheVariants as w
 use Rattle.asked_lines.specs.Settled.{AddsProofsOf}
 use Rattle.desk_core.specs.Checks.{AreObsOfTexts, IsReport, Refuses}
 use Rattle.signoff_call.specs.Run.{reported, summary}
-use Rattle.signoff_call.proofs.Answering.{adds_none, adds_some, reported_keeper, turned_answered, turned_keeper}
+use Rattle.signoff_call.proofs.Answering.{adds_none, left_of, reported_keeper, turned_answered, turned_keeper}
 use Rattle.signoff_call.proofs.texts.demonstrated.Goals as goal
 
 pub returns-in-Ok-clause-answer : goal.returns-in-Ok-clause-answer
@@ -43,7 +43,7 @@ pub returns-clause-keeper : goal.returns-clause-keeper
 returns-clause-keeper g c = turned_keeper c.turned_down.result c.in-Err.fault _ (λ is. c.check.ensures.keeper (subst (λ (z : CheckFault). c.check.result ≡ Err z) is c.in-Err.is)) c.turned_down.ensures.line
 
 pub returns-in-Ok-clause-left : goal.returns-in-Ok-clause-left
-returns-in-Ok-clause-left g c = adds_some _ _ _ c.check.ensures.left
+returns-in-Ok-clause-left g c = left_of c.bytes.result.now (module_text c.args.stages) c.bytes-2.result.now (set_text c.args.stages) w.All w.All _ _ (c.bytes.ensures ∙ c.in_ok-module.ensures) (c.bytes-2.ensures ∙ c.in_ok-set.ensures) refl c.check.ensures.left
 
 pub returns-clause-left : goal.returns-clause-left
-returns-clause-left g c = adds_some _ _ _ c.check.ensures.left
+returns-clause-left g c = left_of c.bytes.result.now (module_text c.args.stages) c.bytes-2.result.now (set_text c.args.stages) w.All w.All _ _ (c.bytes.ensures ∙ c.in_ok-module.ensures) (c.bytes-2.ensures ∙ c.in_ok-set.ensures) refl c.check.ensures.left

@@ -6,7 +6,7 @@ use Rattle.reports.specs.declared.which.Which.{Which}
 use Rattle.asked_lines.specs.Settled.{AddsProofsOf}
 use Rattle.desk_core.specs.Checks.{AreObsOfTexts, IsReport, Refuses}
 use Rattle.signoff_call.specs.Run.{report_bytes, reported, which_of}
-use Rattle.signoff_call.proofs.Answering.{adds_none, adds_some, reported_keeper, turned_answered, turned_keeper}
+use Rattle.signoff_call.proofs.Answering.{adds_none, left_of, reported_keeper, turned_answered, turned_keeper}
 use Rattle.signoff_call.proofs.texts.judged.Goals as goal
 
 pub returns-in-Ok-clause-answer : goal.returns-in-Ok-clause-answer
@@ -47,7 +47,7 @@ pub returns-clause-keeper : goal.returns-clause-keeper
 returns-clause-keeper g c = turned_keeper c.turned_down.result c.in-Err.fault _ (λ is. c.check.ensures.keeper (subst (λ (z : CheckFault). c.check.result ≡ Err z) is c.in-Err.is)) c.turned_down.ensures.line
 
 pub returns-in-Ok-clause-left : goal.returns-in-Ok-clause-left
-returns-in-Ok-clause-left g c = adds_some _ _ _ c.check.ensures.left
+returns-in-Ok-clause-left g c = left_of c.bytes.result.now c.args.module.now c.bytes-2.result.now c.args.set.now _ (which_of c.args.job.now.asked) _ _ c.bytes.ensures c.bytes-2.ensures c.in_ok-which.ensures c.check.ensures.left
 
 pub returns-clause-left : goal.returns-clause-left
-returns-clause-left g c = adds_some _ _ _ c.check.ensures.left
+returns-clause-left g c = left_of c.bytes.result.now c.args.module.now c.bytes-2.result.now c.args.set.now _ (which_of c.args.job.now.asked) _ _ c.bytes.ensures c.bytes-2.ensures c.in_ok-which.ensures c.check.ensures.left
