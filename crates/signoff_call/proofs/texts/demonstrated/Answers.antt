@@ -47,3 +47,6 @@ returns-in-Ok-clause-left g c = left_of c.bytes.result.now (module_text c.args.s
 
 pub returns-clause-left : goal.returns-clause-left
 returns-clause-left g c = left_of c.bytes.result.now (module_text c.args.stages) c.bytes-2.result.now (set_text c.args.stages) w.All w.All _ _ (c.bytes.ensures ∙ c.in_ok-module.ensures) (c.bytes-2.ensures ∙ c.in_ok-set.ensures) refl c.check.ensures.left
+
+pub returns-in_err-text-in-Ok-clause-left : goal.returns-in_err-text-in-Ok-clause-left
+returns-in_err-text-in-Ok-clause-left g c = left_of c.bytes.result.now (module_text c.args.stages) c.bytes-2.result.now (set_text c.args.stages) w.All w.All _ _ (c.bytes.ensures ∙ c.in_ok-module.ensures) (c.bytes-2.ensures ∙ c.in_ok-set.ensures) refl c.check.ensures.left

@@ -51,3 +51,6 @@ returns-in-Ok-clause-left g c = left_of c.bytes.result.now c.args.module.now c.b
 
 pub returns-clause-left : goal.returns-clause-left
 returns-clause-left g c = left_of c.bytes.result.now c.args.module.now c.bytes-2.result.now c.args.set.now _ (which_of c.args.job.now.asked) _ _ c.bytes.ensures c.bytes-2.ensures c.in_ok-which.ensures c.check.ensures.left
+
+pub returns-in_err-bytes-in-Ok-clause-left : goal.returns-in_err-bytes-in-Ok-clause-left
+returns-in_err-bytes-in-Ok-clause-left g c = left_of c.bytes.result.now c.args.module.now c.bytes-2.result.now c.args.set.now _ (which_of c.args.job.now.asked) _ _ c.bytes.ensures c.bytes-2.ensures c.in_ok-which.ensures c.check.ensures.left
