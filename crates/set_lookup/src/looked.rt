@@ -552,11 +552,12 @@ fn check(alloc: Global, text: &SetText) -> Result<(), Wrong>
     if let Some(quantity) = limit_of(text) {
         return Err(Wrong::Limit(quantity));
     }
-    if let Some(name) = twice_of(alloc, text)? {
-        return Err(Wrong::Twice(name));
-    }
+    // Few names are known: where each name is, one of the first of a long list stands there again.
     if let Some(name) = unknown_of(text) {
         return Err(Wrong::Unknown(Text::copy(alloc, name.bytes())?));
+    }
+    if let Some(name) = twice_of(alloc, text)? {
+        return Err(Wrong::Twice(name));
     }
     if !all_formed(alloc, text)? {
         return Err(Wrong::Limit(Quantity::Width));
