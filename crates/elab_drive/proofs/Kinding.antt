@@ -14,7 +14,7 @@ use Rattle.elab_faults.specs.Stands.{Names, IsWronglyAssigned}
 use Rattle.elab_drive.specs.declared.names.Form.{Form}
 use Rattle.elab_drive.specs.declared.names.Form.TheVariants as v
 use Rattle.elab_drive.specs.Names.{is_same, form_lefts, chosen_names, declared_names}
-use Rattle.elab_drive.specs.Kinds.{IsMisdeclared, IsMisformed, IsMixed}
+use Rattle.elab_drive.specs.Kinds.{IsWired, IsMisplaced, IsMisdeclared, IsMisformed, IsMixed}
 
 same_is : (a b : Bool) → is_same a b ≡ true → b ≡ a
 same_is true b e = e
@@ -72,16 +72,6 @@ module _ (m : Flat) (x : Name) where
   is_blocked clocked form (k, a, e, h) =
       flat_among (chosen_names clocked form) m.blocks k x a (chosen_in (flat_map left_names (form_lefts form k.body)) x (is_same clocked k.clocked) (is_self clocked k.clocked e) h)
 
-  pub wired : Among assigned x → Among (declared true) x → IsMisdeclared m x
-  wired h d = let r = among_flat (λ (a : Assign). left_names a.left) m.assigns x h in inl (r.0, r.1, r.2, declared_is true d)
-
-  pub misplaced : (clocked : Bool) → Among (blocked clocked v.Any) x → Among (declared false) x → IsMisdeclared m x
-  misplaced clocked h d = let r = blocked_is clocked v.Any h in inr (r.0, r.1, r.3, declared_is false d)
-
-  pub well_declared : (Among assigned x → Among (declared true) x → ⊥) → ((clocked : Bool) → Among (blocked clocked v.Any) x → Among (declared false) x → ⊥) → IsMisdeclared m x → ⊥
-  well_declared f g (inl (a, h, n, d)) = f (flat_among (λ (a : Assign). left_names a.left) m.assigns a x h n) (is_declared true d)
-  well_declared f g (inr (k, h, n, d)) = g k.clocked (is_blocked k.clocked v.Any (k, h, refl, n)) (is_declared false d)
-
   pub misformed_blocking : Among (blocked true v.Blocking) x → IsMisformed m x
   misformed_blocking h = inl (blocked_is true v.Blocking h)
 
@@ -130,20 +120,34 @@ module _ (m : Flat) where
   abbrev Blocked : Bool → Form → List Name → Type 0
   Blocked clocked form xs = xs ≡ flat_map (chosen_names clocked form) m.blocks
 
-  pub wired_by : (xs ys : List Name) → Wired xs → Declared true ys → (x : Name) → Among xs x × Among ys x → IsMisdeclared m x
-  wired_by xs ys e f x h = wired m x (subst (λ z. Among z x) e h.0) (subst (λ z. Among z x) f h.1)
+  pub wired_by : (xs ys : List Name) → Wired xs → Declared true ys → (x : Name) → Among xs x × Among ys x → IsWired m x
+  wired_by xs ys e f x h =
+      let r = among_flat (λ (a : Assign). left_names a.left) m.assigns x (subst (λ z. Among z x) e h.0) in
+      (r.0, r.1, r.2, declared_is m x true (subst (λ z. Among z x) f h.1))
 
-  pub misplaced_by : (clocked : Bool) (xs ys : List Name) → Blocked clocked v.Any xs → Declared false ys → (x : Name) → Among xs x × Among ys x → IsMisdeclared m x
-  misplaced_by clocked xs ys e f x h = misplaced m x clocked (subst (λ z. Among z x) e h.0) (subst (λ z. Among z x) f h.1)
+  pub none_wired : (xs ys : List Name) → Wired xs → Declared true ys → ((x : Name) → Among xs x → Among ys x → ⊥) → (x : Name) → IsWired m x → ⊥
+  none_wired xs ys e f h x (a, i, n, d) =
+      h x (subst (λ z. Among z x) (sym e) (flat_among (λ (a : Assign). left_names a.left) m.assigns a x i n)) (subst (λ z. Among z x) (sym f) (is_declared m x true d))
 
-  pub declared_by : (as' rs cs ks ws : List Name) → Wired as' → Declared true rs → Blocked true v.Any cs → Blocked false v.Any ks → Declared false ws
-      → ((x : Name) → Among as' x → Among rs x → ⊥) → ((x : Name) → Among cs x → Among ws x → ⊥) → ((x : Name) → Among ks x → Among ws x → ⊥) → (x : Name) → IsMisdeclared m x → ⊥
-  declared_by as' rs cs ks ws a r c k w f g h x =
-      well_declared m x (λ i j. f x (subst (λ z. Among z x) (sym a) i) (subst (λ z. Among z x) (sym r) j)) by_kind
+  pub misplaced_by : (clocked : Bool) (xs ys : List Name) → Blocked clocked v.Any xs → Declared false ys → (x : Name) → Among xs x × Among ys x → IsMisplaced m clocked x
+  misplaced_by clocked xs ys e f x h =
+      let r = blocked_is m x clocked v.Any (subst (λ z. Among z x) e h.0) in
+      (r.0, r.1, r.2, r.3, declared_is m x false (subst (λ z. Among z x) f h.1))
+
+  pub none_misplaced : (clocked : Bool) (xs ys : List Name) → Blocked clocked v.Any xs → Declared false ys → ((x : Name) → Among xs x → Among ys x → ⊥) → (x : Name) → IsMisplaced m clocked x → ⊥
+  none_misplaced clocked xs ys e f h x (k, a, c, n, d) =
+      h x (subst (λ z. Among z x) (sym e) (is_blocked m x clocked v.Any (k, a, c, n))) (subst (λ z. Among z x) (sym f) (is_declared m x false d))
+
+  pub misplaced : (clocked : Bool) (x : Name) → IsMisplaced m clocked x → IsMisdeclared m x
+  misplaced clocked x (k, a, c, n, d) = inr (k, a, n, d)
+
+  pub declared_by : ((x : Name) → IsWired m x → ⊥) → ((x : Name) → IsMisplaced m true x → ⊥) → ((x : Name) → IsMisplaced m false x → ⊥) → (x : Name) → IsMisdeclared m x → ⊥
+  declared_by f g h x (inl d) = f x d
+  declared_by f g h x (inr (k, a, n, d)) = by_kind k.clocked refl
     where
-      by_kind : (clocked : Bool) → Among (blocked m x clocked v.Any) x → Among (declared m x false) x → ⊥
-      by_kind true i j = g x (subst (λ z. Among z x) (sym c) i) (subst (λ z. Among z x) (sym w) j)
-      by_kind false i j = h x (subst (λ z. Among z x) (sym k) i) (subst (λ z. Among z x) (sym w) j)
+      by_kind : (b : Bool) → k.clocked ≡ b → ⊥
+      by_kind true e = g x (k, a, e, n, d)
+      by_kind false e = h x (k, a, e, n, d)
 
   pub blocking_by : (xs : List Name) → Blocked true v.Blocking xs → (x : Name) → Among xs x → IsMisformed m x
   blocking_by xs e x h = misformed_blocking m x (subst (λ z. Among z x) e h)

@@ -1,6 +1,6 @@
 -- Bits that are wanted and not driven are undriven ones.
 use Rattle.std.proofs.Common.{◌≡◌, ℕ, ◌+◌, ◌<◌, inl, inr, true, List, [], ◌∷◌, ◌++◌, length, replicate, map, Some, arith, refl, sym, ap, ◌∙◌, subst}
-use Rattle.std.specs.Prelude.{nat_eq, if◌then◌else◌}
+use Rattle.std.specs.Prelude.{Option, None, nat_eq, if◌then◌else◌, IfSome}
 use Rattle.std.specs.List.{flat_map, slice_get}
 use Rattle.vlog_tree.specs.declared.stmt.Lval.{Lval}
 use Rattle.vlog_tree.specs.declared.stmt.Lval.TheVariants as l
@@ -20,7 +20,7 @@ use Rattle.elab_drive.specs.Names.{chosen_names}
 use Rattle.elab_drive.specs.Claims.{IsClaimed, IsPartReady, part_claims, part_name, spot_in}
 use Rattle.elab_drive.specs.Masks.{IsSet, AreWithin, marked}
 use Rattle.elab_drive.specs.Driving.{AreNarrow, driver_claims, IsDriverReady, IsBitAt, Numbers}
-use Rattle.elab_drive.specs.Wanting.{CanTell, wanted_parts, covers, driven_table}
+use Rattle.elab_drive.specs.Wanting.{CanTell, IsLacking, wanted_parts, covers, driven_table}
 use Rattle.elab_drive.proofs.Marking.{none_set, marked_length}
 use Rattle.elab_drive.proofs.Parting.{IsPiece}
 use Rattle.elab_drive.proofs.Spots.{bare, shown, one_name, width_is, low_is, has_spot}
@@ -57,14 +57,6 @@ module _ (m : Flat) (narrow : AreNarrow m.signals) (x : Name) where
       let k = blocked_is m x true v.Any h in
       let r = shown 0 m.signals x s e in
       (k.0, k.1, k.2, (x, k.3, r.signal, r.among, (r.name, r.signal, subst (λ z. Among z r.signal) (sym (holders_one r.signal (narrow r.signal r.among).depth)) (inl refl), sym r.name)))
-
--- a bit of the signal at a place is undriven
-pub record IsLacking (m : Flat) (i b : ℕ) : Type 0 where
-  pub signal : Signal
-  pub there : slice_get m.signals i ≡ Some signal
-  pub within : b < signal.width
-  pub among : Among m.signals signal
-  pub stands : Stands m (f.Undriven signal.name (signal.low + b))
 
 module _ (m : Flat) (can : CanTell m) where
   pub lacking_stands : (i b : ℕ) → IsClaimed (flat_map (part_claims m.signals) (wanted_parts m)) i b → (IsSet (driven_table m.signals (replicate (length m.signals) 0) (covers m)) i b → ⊥) → IsLacking m i b
@@ -174,3 +166,7 @@ same_table e g = λ i. driven_table (e i) (replicate (length (e i)) 0) (g i)
 
 pub same_claims : {gs hs : List Signal} {ps qs : List Lval} → gs ≡ hs → ps ≡ qs → flat_map (part_claims gs) ps ≡ flat_map (part_claims hs) qs
 same_claims e g = λ i. flat_map (part_claims (e i)) (g i)
+
+pub both_some : {A : Type 0} (o : Option A) (P Q R : A → Type 0) → IfSome o P → IfSome o Q → ((x : A) → P x → Q x → R x) → IfSome o R
+both_some None P Q R p q f = tt
+both_some (Some x) P Q R p q f = f x p q

@@ -1,5 +1,5 @@
 -- The wrong forms of an assignment, apart.
-use Rattle.std.specs.Prelude.{◌≡◌, ◌⊎◌, true, false}
+use Rattle.std.specs.Prelude.{◌≡◌, ◌⊎◌, Bool, true, false}
 use Rattle.vlog_tree.specs.declared.item.Assign.{Assign}
 use Rattle.vlog_runs.specs.declared.flat.Always.{Always}
 use Rattle.vlog_runs.specs.declared.flat.Flat.{Flat}
@@ -7,11 +7,17 @@ use Rattle.vlog_runs.specs.Places.{Name, Among}
 use Rattle.vlog_runs.specs.Blocks.{lefts, left_names}
 use Rattle.elab_faults.specs.Stands.{Names, IsReg, IsWire, blocking_lefts, nonblocking_lefts}
 
--- a continuous assignment assigns to a `reg`, or a block to a signal that isn't one
+-- a continuous assignment assigns to a `reg`
+abbrev pub IsWired : Flat → Name → Type 0
+IsWired m x = (a : Assign) × Among m.assigns a × Among (left_names a.left) x × IsReg m x
+
+-- a clocked block assigns to a signal that isn't a `reg`, or a combinational one
+abbrev pub IsMisplaced : Flat → Bool → Name → Type 0
+IsMisplaced m clocked x = (k : Always) × Among m.blocks k × (k.clocked ≡ clocked) × Names (lefts k.body) x × IsWire m x
+
+-- either is so
 abbrev pub IsMisdeclared : Flat → Name → Type 0
-IsMisdeclared m x =
-    ((a : Assign) × Among m.assigns a × Among (left_names a.left) x × IsReg m x)
-    ⊎ ((k : Always) × Among m.blocks k × Names (lefts k.body) x × IsWire m x)
+IsMisdeclared m x = IsWired m x ⊎ ((k : Always) × Among m.blocks k × Names (lefts k.body) x × IsWire m x)
 
 -- a clocked block assigns by `=`, or a combinational one by `<=`
 abbrev pub IsMisformed : Flat → Name → Type 0

@@ -1,5 +1,5 @@
 -- What the expressions of a module read, and the outputs of the top, as parts of signals (IEEE 1364-2005, sections 5.2.1 and 12.3.3).
-use Rattle.std.specs.Prelude.{ℕ, List, [], ◌∷◌, ◌++◌, true, map, if◌then◌else◌}
+use Rattle.std.specs.Prelude.{ℕ, ◌+◌, ◌<◌, ◌≡◌, Some, length, replicate, slice_get, List, [], ◌∷◌, ◌++◌, true, map, if◌then◌else◌}
 use Rattle.std.specs.List.{flat_map}
 use Rattle.vlog_tree.specs.declared.item.Assign.{Assign}
 use Rattle.vlog_tree.specs.declared.stmt.Lval.{Lval}
@@ -8,10 +8,13 @@ use Rattle.vlog_runs.specs.declared.flat.Always.{Always}
 use Rattle.vlog_runs.specs.declared.flat.Flat.{Flat}
 use Rattle.vlog_runs.specs.declared.flat.TopPort.{TopPort}
 use Rattle.vlog_runs.specs.Places.{Among}
+use Rattle.elab_faults.specs.declared.fault.ElabFault.TheVariants.{Undriven}
 use Rattle.elab_faults.specs.Drivers.{Driver, Input, drivers_of, parts_of}
+use Rattle.elab_faults.specs.Stands.{Stands}
+use Rattle.elab_drive.specs.declared.claims.Claim.{Claim}
 use Rattle.elab_drive.specs.declared.names.Form.TheVariants as m
 use Rattle.elab_drive.specs.Names.{chosen_names}
-use Rattle.elab_drive.specs.Claims.{IsPartReady}
+use Rattle.elab_drive.specs.Claims.{IsPartReady, part_claims}
 use Rattle.elab_drive.specs.Driving.{CanDrive, driver_claims}
 use Rattle.elab_drive.specs.Masks.{marked}
 use Rattle.vlog_runs.specs.declared.flat.Signal.{Signal}
@@ -59,3 +62,19 @@ pub record CanTell (f : Flat) : Type 0 where
 abbrev pub driven_table : List Signal → List ℕ → List Driver → List ℕ
 driven_table gs ms [] = ms
 driven_table gs ms (d ∷ ds) = driven_table gs (marked ms (driver_claims gs d)) ds
+
+-- the bits that its drivers and registers have
+abbrev pub covered_table : Flat → List ℕ
+covered_table f = driven_table f.signals (replicate (length f.signals) 0) (covers f)
+
+-- the bits that are wanted in it
+abbrev pub wanted_claims : Flat → List Claim
+wanted_claims f = flat_map (part_claims f.signals) (wanted_parts f)
+
+-- a bit of the signal at a place is undriven
+pub record IsLacking (f : Flat) (i b : ℕ) : Type 0 where
+  pub signal : Signal
+  pub there : slice_get f.signals i ≡ Some signal
+  pub within : b < signal.width
+  pub among : Among f.signals signal
+  pub stands : Stands f (Undriven signal.name (signal.low + b))

@@ -1,15 +1,14 @@
 // The bits that a part of a signal names (IEEE 1364-2005, section 5.2.1).
 
-ghost use Rattle.std.specs.Prelude.{◌≡◌, ◌-◌, ◌+◌, ◌^◌, ◌<◌, ◌≤◌, min, nat_le, IfOk, IfSome, ℤ, pos, negsuc, ◌≤ℤ◌, ◌<ℤ◌, ◌-ℤ◌, ◌+ℤ◌};
-ghost use Rattle.vlog_tree.specs.Value.{natural, integer, part_low, part_width};
+ghost use Rattle.std.specs.Prelude.{◌≡◌, ◌+◌, ◌^◌, ◌≤◌, min, IfOk, IfSome, ℤ, pos, negsuc, ◌≤ℤ◌, ◌<ℤ◌, ◌-ℤ◌, ◌+ℤ◌};
+ghost use Rattle.vlog_tree.specs.Value.{natural, part_low, part_width};
 ghost use Rattle.elab_drive.specs.Parts.{part_meant};
 ghost use Rattle.elab_drive.specs.Claims.{ones, known, IsEvaluable, IsPartReady, IsSmall, IsNear, span_run, part_run, claim_at};
 
 use crate::parts::{Part, reads_of};
 use std::alloc::{AllocError, Global};
 use vlog_tree::{Expr, Span, Valuation};
-use vlog_value::checked_own_value;
-use word_core::Word;
+use vlog_value::{checked_own_value, integer};
 
 /// Where a signal stands in the list of signals, its length and the number of its lowest bit.
 #[derive(Clone, Copy)]
@@ -31,26 +30,6 @@ pub struct Claim {
 pub struct Run {
     pub from: i128,
     pub to: i128,
-}
-
-fn is_top_set(word: Word) -> bool
-    ensures { result ≡ nat_le (2 ^ (word.width - 1)) word.value }
-{
-    // a word's width is from 1 to 64
-    let _fits = word.value();
-    Word::slice(word, word.width() - 1, 1).value() == 1
-}
-
-// The integer that a word stands for by its sign.
-fn integer(word: Word, signed: bool) -> i128
-    ensures value { result ≡ integer signed word.width word.value }
-    ensures low { negsuc (2 ^ 64) ≤ℤ result }
-    ensures high { result <ℤ pos (2 ^ 64) }
-{
-    if signed && is_top_set(word) {
-        return -1 - i128::from(Word::not(word).value());
-    }
-    i128::from(word.value())
 }
 
 /// The integer of an expression without names; none where it has one. Refused only for want of memory.

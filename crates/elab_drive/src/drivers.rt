@@ -198,6 +198,27 @@ pub fn numbered(alloc: Global, bit: Bit, signals: &Declared<'_>) -> Result<(Text
     }
 }
 
+// A bit that two drivers of a module drive.
+fn driven_twice_among(
+    alloc: Global,
+    flat: &Flat,
+    signals: &Declared<'_>,
+) -> Result<Option<(Text, u64)>, AllocError>
+    requires can { CanDrive flat.now }
+    requires same { signals.now ≡ flat.now.signals }
+    ensures some { IfOk result (λ o. IfSome o (λ r. Stands flat.now (f.Drivers r.0 r.1))) }
+    ensures none { IfOk result (λ o. IfNone o ((x : Name) (n : ℕ) → Stands flat.now (f.Drivers x n) → ⊥)) }
+{
+    let drivers = drivers_of(alloc, flat)?;
+    match twice(alloc, &drivers, signals)? {
+        Some(bit) => {
+            let number = numbered(alloc, bit, signals)?;
+            Ok(Some(number))
+        }
+        None => Ok(None),
+    }
+}
+
 /// A bit that has two drivers, by the name of its signal and its declared number. Inputs of the top, the parts of the left sides of
 /// continuous assignments, and blocks are drivers. Refused only for want of memory.
 pub fn driven_twice(alloc: Global, flat: &Flat) -> Result<Option<(Text, u64)>, AllocError>
@@ -206,12 +227,5 @@ pub fn driven_twice(alloc: Global, flat: &Flat) -> Result<Option<(Text, u64)>, A
     ensures none { IfOk result (λ o. IfNone o ((x : Name) (n : ℕ) → Stands flat.now (f.Drivers x n) → ⊥)) }
 {
     let signals = Declared::of(alloc, flat.signals.as_slice())?;
-    let drivers = drivers_of(alloc, flat)?;
-    match twice(alloc, &drivers, &signals)? {
-        Some(bit) => {
-            let number = numbered(alloc, bit, &signals)?;
-            Ok(Some(number))
-        }
-        None => Ok(None),
-    }
+    driven_twice_among(alloc, flat, &signals)
 }

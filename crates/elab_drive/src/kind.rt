@@ -5,7 +5,7 @@ ghost use Rattle.vlog_runs.specs.Places.{Name, Among};
 ghost use Rattle.flat_scopes.specs.Borrowed.{name_meant};
 ghost use Rattle.elab_faults.specs.Stands.{Stands};
 ghost use Rattle.elab_faults.specs.declared.fault.ElabFault.TheVariants as f;
-ghost use Rattle.elab_drive.specs.Kinds.{IsMisdeclared, IsMisformed, IsMixed};
+ghost use Rattle.elab_drive.specs.Kinds.{IsWired, IsMisplaced, IsMisdeclared, IsMisformed, IsMixed};
 
 use crate::names::{Form, assign_names, block_names, declared_names, shared};
 use flat_scopes::Names;
@@ -13,26 +13,38 @@ use outside::Text;
 use std::alloc::{AllocError, Global};
 use vlog_runs::Flat;
 
+// A name that a continuous assignment assigns though it is declared by `reg`.
+fn assigned_register(alloc: Global, flat: &Flat) -> Result<Option<&Text>, AllocError>
+    ensures some { IfOk result (λ o. IfSome o (λ x. IsWired flat.now x.now)) }
+    ensures none { IfOk result (λ o. IfNone o ((x : Name) → IsWired flat.now x → ⊥)) }
+{
+    let registers = declared_names(alloc, flat.signals.as_slice(), true)?;
+    let assigned = assign_names(alloc, flat.assigns.as_slice())?;
+    Ok(shared(&assigned, &registers))
+}
+
+// A name that a clocked block assigns, or a combinational one, though it isn't declared by `reg`.
+fn assigned_wire(alloc: Global, flat: &Flat, clocked: bool) -> Result<Option<&Text>, AllocError>
+    ensures some { IfOk result (λ o. IfSome o (λ x. IsMisplaced flat.now clocked x.now)) }
+    ensures none { IfOk result (λ o. IfNone o ((x : Name) → IsMisplaced flat.now clocked x → ⊥)) }
+{
+    let wires = declared_names(alloc, flat.signals.as_slice(), false)?;
+    let assigned = block_names(alloc, flat.blocks.as_slice(), clocked, Form::Any)?;
+    Ok(shared(&assigned, &wires))
+}
+
 // A name that a continuous assignment assigns though it is declared by `reg`, or a block though it isn't.
 fn misdeclared(alloc: Global, flat: &Flat) -> Result<Option<&Text>, AllocError>
     ensures some { IfOk result (λ o. IfSome o (λ x. IsMisdeclared flat.now x.now)) }
     ensures none { IfOk result (λ o. IfNone o ((x : Name) → IsMisdeclared flat.now x → ⊥)) }
 {
-    let signals = flat.signals.as_slice();
-    let assigns = flat.assigns.as_slice();
-    let blocks = flat.blocks.as_slice();
-    let regs = declared_names(alloc, signals, true)?;
-    let assigned = assign_names(alloc, assigns)?;
-    if let Some(name) = shared(&assigned, &regs) {
+    if let Some(name) = assigned_register(alloc, flat)? {
         return Ok(Some(name));
     }
-    let wires = declared_names(alloc, signals, false)?;
-    let clocked = block_names(alloc, blocks, true, Form::Any)?;
-    if let Some(name) = shared(&clocked, &wires) {
+    if let Some(name) = assigned_wire(alloc, flat, true)? {
         return Ok(Some(name));
     }
-    let combinational = block_names(alloc, blocks, false, Form::Any)?;
-    Ok(shared(&combinational, &wires))
+    assigned_wire(alloc, flat, false)
 }
 
 fn first<'a>(names: &[&'a Text]) -> Option<&'a Text>

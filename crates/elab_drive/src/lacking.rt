@@ -12,7 +12,7 @@ ghost use Rattle.elab_drive.specs.Parts.{part_meant};
 ghost use Rattle.elab_drive.specs.Claims.{IsPartReady, IsClaimed, part_claims};
 ghost use Rattle.elab_drive.specs.Masks.{AreWithin, IsSet};
 ghost use Rattle.elab_drive.specs.Driving.{AreNarrow, AreDriversReady, driver_meant};
-ghost use Rattle.elab_drive.specs.Wanting.{covers, driven_table, CanTell};
+ghost use Rattle.elab_drive.specs.Wanting.{covers, driven_table, covered_table, wanted_claims, CanTell, IsLacking};
 
 use crate::claims::Claim;
 use crate::declared::Declared;
@@ -100,6 +100,62 @@ pub fn missing(table: &[u64], claims: &[Claim]) -> Option<Bit>
     None
 }
 
+/// The bits that the drivers and the registers of a module have. Refused only for want of memory.
+fn covered(alloc: Global, flat: &Flat, signals: &Declared<'_>) -> Result<Vec<u64>, AllocError>
+    requires can { CanTell flat.now }
+    requires same { signals.now ≡ flat.now.signals }
+    ensures { IfOk result (λ r. r.items ≡ covered_table flat.now) }
+{
+    let covers = covers(alloc, flat)?;
+    driven(alloc, &covers, signals)
+}
+
+/// The bits that are read, and those of the outputs of the top. Refused only for want of memory.
+fn wanted(alloc: Global, flat: &Flat, signals: &Declared<'_>) -> Result<Vec<Claim>, AllocError>
+    requires can { CanTell flat.now }
+    requires same { signals.now ≡ flat.now.signals }
+    ensures { IfOk result (λ r. r.items ≡ wanted_claims flat.now) }
+{
+    let parts = wanted_parts(alloc, flat)?;
+    named(alloc, &parts, signals)
+}
+
+// A bit that is wanted and that nothing has.
+fn undriven_bit(
+    alloc: Global,
+    flat: &Flat,
+    signals: &Declared<'_>,
+) -> Result<Option<Bit>, AllocError>
+    requires can { CanTell flat.now }
+    requires same { signals.now ≡ flat.now.signals }
+    ensures some { IfOk result (λ o. IfSome o (λ r. IsLacking flat.now r.place r.number)) }
+    ensures none { IfOk result (λ o. IfNone o ((x : Name) (n : ℕ) → Stands flat.now (f.Undriven x n) → ⊥)) }
+{
+    let table = covered(alloc, flat, signals)?;
+    let claims = wanted(alloc, flat, signals)?;
+    Ok(missing(&table, &claims))
+}
+
+// The same by its name and its number.
+fn undriven_among(
+    alloc: Global,
+    flat: &Flat,
+    signals: &Declared<'_>,
+) -> Result<Option<(Text, u64)>, AllocError>
+    requires can { CanTell flat.now }
+    requires same { signals.now ≡ flat.now.signals }
+    ensures some { IfOk result (λ o. IfSome o (λ r. Stands flat.now (f.Undriven r.0 r.1))) }
+    ensures none { IfOk result (λ o. IfNone o ((x : Name) (n : ℕ) → Stands flat.now (f.Undriven x n) → ⊥)) }
+{
+    match undriven_bit(alloc, flat, signals)? {
+        Some(bit) => {
+            let number = numbered(alloc, bit, signals)?;
+            Ok(Some(number))
+        }
+        None => Ok(None),
+    }
+}
+
 /// A bit that is read, or that is of an output of the top, and that has no driver and is of no register, by the name of its signal
 /// and its declared number. Refused only for want of memory.
 pub fn undriven(alloc: Global, flat: &Flat) -> Result<Option<(Text, u64)>, AllocError>
@@ -108,15 +164,5 @@ pub fn undriven(alloc: Global, flat: &Flat) -> Result<Option<(Text, u64)>, Alloc
     ensures none { IfOk result (λ o. IfNone o ((x : Name) (n : ℕ) → Stands flat.now (f.Undriven x n) → ⊥)) }
 {
     let signals = Declared::of(alloc, flat.signals.as_slice())?;
-    let covers = covers(alloc, flat)?;
-    let table = driven(alloc, &covers, &signals)?;
-    let parts = wanted_parts(alloc, flat)?;
-    let claims = named(alloc, &parts, &signals)?;
-    match missing(&table, &claims) {
-        Some(bit) => {
-            let number = numbered(alloc, bit, &signals)?;
-            Ok(Some(number))
-        }
-        None => Ok(None),
-    }
+    undriven_among(alloc, flat, &signals)
 }

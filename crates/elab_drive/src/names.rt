@@ -33,7 +33,8 @@ fn is_same(a: bool, b: bool) -> bool
     if a { b } else { !b }
 }
 
-fn add_left_names<'a>(
+/// Adds the names of the signals that a left side assigns. Refused only for want of memory.
+pub fn add_left_names<'a>(
     all: &mut Vec<&'a Text>,
     alloc: Global,
     left: &'a Lval,

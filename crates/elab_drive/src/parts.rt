@@ -34,8 +34,9 @@ pub fn name_of(part: Part<'_>) -> &Text
     }
 }
 
+/// Adds the parts of a left side, from the left. Refused only for want of memory.
 #[cycle(parts)]
-fn add_parts<'a>(all: &mut Vec<Part<'a>>, left: &'a Lval) -> Result<(), AllocError>
+pub fn add_parts<'a>(all: &mut Vec<Part<'a>>, left: &'a Lval) -> Result<(), AllocError>
     ensures { OnOk result (map part_meant all.new.items ≡ map part_meant all.old.items ++ parts_of left.now) }
 {
     match left {
@@ -74,6 +75,7 @@ pub fn parts_of(alloc: Global, left: &Lval) -> Result<Vec<Part<'_>>, AllocError>
     Ok(all)
 }
 
+/// Adds what an expression reads, from the left, with what its indices read. Refused only for want of memory.
 #[cycle(reads)]
 pub fn add_reads<'a>(all: &mut Vec<Part<'a>>, expr: &'a Expr) -> Result<(), AllocError>
     ensures { OnOk result (map part_meant all.new.items ≡ map part_meant all.old.items ++ reads_of expr.now) }

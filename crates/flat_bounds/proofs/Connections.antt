@@ -13,9 +13,9 @@ use Rattle.flat_bounds.specs.declared.violation.Violation.{Violation}
 use Rattle.flat_bounds.specs.declared.violation.Violation.TheVariants as b
 use Rattle.flat_bounds.specs.Ranges.{fault_of, StandsAlone}
 use Rattle.flat_bounds.specs.Taken.{Fails}
-use Rattle.flat_bounds.specs.Texts.{BreaksText, SomeConnectionBreaks, IsConnectionFault, IsInnerFault, IsSomeInnerFault, StandsAround}
+use Rattle.flat_bounds.specs.Texts.{SomeConnectionBreaks, IsConnectionFault, IsInnerFault, IsSomeInnerFault, StandsAround}
 use Rattle.flat_bounds.proofs.Standing.{text_stands}
-use Rattle.flat_bounds.proofs.Texts.{inner_breaks}
+use Rattle.flat_bounds.proofs.Texts.{BreaksText, inner_breaks}
 
 module _ (path : Name) (t : Scope) (P Q : Violation → Type 0) (up : (w : Violation) → P w → Q w) where
   -- a rule that is broken in the scope

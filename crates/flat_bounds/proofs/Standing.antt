@@ -31,11 +31,10 @@ use Rattle.flat_bounds.specs.Scopes.{HasSoundParams}
 use Rattle.flat_bounds.specs.Stores.{NamesSignals}
 use Rattle.flat_bounds.specs.Usages.{Tests, Compares, Stores, BodyUsesSignals}
 use Rattle.flat_bounds.specs.Taken.{taken_at}
-use Rattle.flat_bounds.specs.Texts.{IsSoundText, BreaksText}
 use Rattle.flat_bounds.proofs.Params.{param_constant, param_inconstant, param_wide, param_missized, override_inconstant, override_missized}
 use Rattle.flat_bounds.proofs.Ranges.{decl_keeps}
 use Rattle.flat_bounds.proofs.Stores.{parts_numbers, numbers_parts}
-use Rattle.flat_bounds.proofs.Texts.{text_keeps, in_stores}
+use Rattle.flat_bounds.proofs.Texts.{IsSoundText, BreaksText, text_keeps, in_stores}
 use Rattle.flat_bounds.proofs.Usages.{lefts_are}
 
 -- the numbers of a concatenation are those of its parts

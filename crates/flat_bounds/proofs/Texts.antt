@@ -12,7 +12,7 @@ use Rattle.vlog_runs.specs.Blocks.{is_parameter, lefts}
 use Rattle.vlog_runs.specs.Contents.{Decl, signals_in, port_names, assigns_in, Block, blocks_in, Inner, instances_in}
 use Rattle.vlog_runs.specs.Scopes.{Scope, place_of, Given, given_to, left_of, child, decl_at, signal_of}
 use Rattle.flat_laws.proofs.Lists.{among_append, append_left, append_right, among_map, map_among, among_flat, flat_among}
-use Rattle.flat_faults.specs.Constants.{Taken, at_rest, alone, stored, assigned_to, compared}
+use Rattle.flat_faults.specs.Constants.{Taken, at_rest, alone, stored, assigned_to, compared, HasConstantNumbers, HasConstantSpans}
 use Rattle.flat_faults.specs.Texts.{Compared, numbers_in, alone_in, compared_in, stores_in}
 use Rattle.flat_faults.specs.Stands.{assigns_taken, block_taken, port_taken, port_left, inner_taken, inner_lefts, all_taken, fixed_lefts, block_lefts}
 use Rattle.flat_bounds.specs.declared.violation.Violation.{Violation}
@@ -20,10 +20,27 @@ use Rattle.flat_bounds.specs.declared.violation.Violation.TheVariants as b
 use Rattle.flat_bounds.specs.declared.side.Side.TheVariants as d
 use Rattle.flat_bounds.specs.Taken.{IsSound, AllSound, SomeBreaks}
 use Rattle.flat_bounds.specs.Stores.{NamesSignals, BreaksSize, IsSoundLeft, BreaksLeft, IsSoundStore, BreaksStore}
-use Rattle.flat_bounds.specs.Usages.{Usage, Tests, Compares, Stores, usages, alones_of, compares_of, stores_of, IsSoundUsage, BreaksUsage, IsSoundBody, BreaksBody}
-use Rattle.flat_bounds.specs.Texts.{IsSoundGiven, BreaksGiven, IsSoundConnection, BreaksConnection, AreSoundConnections, SomeConnectionBreaks, IsSoundText, BreaksText}
+use Rattle.flat_bounds.specs.Usages.{Usage, Tests, Compares, Stores, usages, IsSoundUsage, BreaksUsage, IsSoundBody, BreaksBody}
+use Rattle.flat_bounds.specs.Texts.{IsSoundGiven, BreaksGiven, IsSoundConnection, BreaksConnection, AreSoundConnections, SomeConnectionBreaks}
 use Rattle.flat_bounds.proofs.Takes.{all_keep}
-use Rattle.flat_bounds.proofs.Usages.{alone_are, compared_are, stores_are, lefts_are}
+use Rattle.flat_bounds.proofs.Usages.{alones_of, compares_of, stores_of, alone_are, compared_are, stores_are, lefts_are}
+
+-- the expressions and the left sides of a scope's text keep the rules
+pub record IsSoundText (ms : List Module) (s : Scope) : Type 0 where
+  pub assigns : (a : Assign) → Among (assigns_in s.module') a → IsSoundStore d.Continuous (place_of s) a
+  pub blocks : (k : Block) → Among (blocks_in s.module') k → IsSoundBody (place_of s) k.body
+  pub inners : (i : Inner) → Among (instances_in s.module') i → (t : Scope) → child ms s i ≡ Some t → AreSoundConnections (place_of s) t i
+
+-- an expression or a left side of a scope's text breaks a rule
+abbrev pub BreaksText : List Module → Scope → Violation → Type 0
+BreaksText ms s b.Constant =
+    SomeBreaks (is_parameter (place_of s)) (at_rest (place_of s)) (all_taken ms s) b.Constant
+    ⊎ ((left : Lval)
+    × ((Among (fixed_lefts ms s) left × (HasConstantNumbers (is_parameter (place_of s)) left → ⊥)) ⊎ (Among (block_lefts s) left × (HasConstantSpans (is_parameter (place_of s)) left → ⊥))))
+BreaksText ms s b.Length =
+    SomeBreaks (is_parameter (place_of s)) (at_rest (place_of s)) (all_taken ms s) b.Length
+    ⊎ ((left : Lval) × Among (fixed_lefts ms s ++ block_lefts s) left × NamesSignals (place_of s) left × BreaksSize (place_of s) left)
+BreaksText ms s b.Memory = ⊥
 
 -- a continuous assignment's expressions in their places
 abbrev assign_taken : Place → Assign → List Taken

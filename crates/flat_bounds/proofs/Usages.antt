@@ -1,13 +1,30 @@
 -- The expressions, the assignments and the left sides of a statement are those of its usages.
-use Rattle.std.proofs.Common.{◌≡◌, List, ◌∷◌, ◌++◌, map, refl, sym, ap, ◌∙◌, append-nil}
+use Rattle.std.proofs.Common.{◌≡◌, List, [], ◌∷◌, ◌++◌, map, refl, sym, ap, ◌∙◌, append-nil}
 use Rattle.std.specs.List.{flat_map}
+use Rattle.vlog_tree.specs.declared.expr.Expr.{Expr}
 use Rattle.vlog_tree.specs.declared.item.Assign.{Assign}
 use Rattle.vlog_tree.specs.declared.stmt.Stmt.{Stmt, Row_of-Stmt, end_of-Stmt, more_of-Stmt, Row_of-CaseItem, end_of-CaseItem, more_of-CaseItem}
 use Rattle.vlog_tree.specs.declared.stmt.Stmt.TheVariants as s
 use Rattle.vlog_runs.specs.Blocks.{lefts, row_lefts, case_lefts}
 use Rattle.flat_laws.proofs.Lists.{flat_append, map_append}
-use Rattle.flat_faults.specs.Texts.{numbers_in, alone_in, row_alone_in, case_alone_in, compared_in, row_compared_in, case_compared_in, all_labels_in, stores_in, row_stores_in, case_stores_in}
-use Rattle.flat_bounds.specs.Usages.{Usage, usages, row_usages, case_usages, alones_of, compares_of, stores_of}
+use Rattle.flat_faults.specs.Texts.{Compared, numbers_in, alone_in, row_alone_in, case_alone_in, compared_in, row_compared_in, case_compared_in, all_labels_in, stores_in, row_stores_in, case_stores_in}
+use Rattle.flat_bounds.specs.Usages.{Usage, Tests, Compares, Stores, usages, row_usages, case_usages}
+
+-- the expressions that stand alone, those that are compared, and the assignments
+abbrev pub alones_of : Usage → List Expr
+alones_of (Tests a) = a ∷ []
+alones_of (Compares c) = []
+alones_of (Stores a) = numbers_in a.left
+
+abbrev pub compares_of : Usage → List Compared
+compares_of (Tests a) = []
+compares_of (Compares c) = c ∷ []
+compares_of (Stores a) = []
+
+abbrev pub stores_of : Usage → List Assign
+stores_of (Tests a) = []
+stores_of (Compares c) = []
+stores_of (Stores a) = a ∷ []
 
 both : {Y : Type 0} (f : Usage → List Y) (xs ys : List Usage) (as' bs : List Y) → as' ≡ flat_map f xs → bs ≡ flat_map f ys → as' ++ bs ≡ flat_map f (xs ++ ys)
 both f xs ys as' bs e g = (λ i. e i ++ g i) ∙ sym (flat_append f xs ys)

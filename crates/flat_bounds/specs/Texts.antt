@@ -1,24 +1,20 @@
--- A scope's text that keeps the rules on constants and lengths, or breaks one.
-use Rattle.std.specs.Prelude.{ℕ, ◌≡◌, ◌⊎◌, List, ◌++◌, Option, Some, None, if◌then◌else◌}
+-- What is connected to instances keeps the rules on constants and lengths, or breaks one.
+use Rattle.std.specs.Prelude.{ℕ, ◌≡◌, ◌⊎◌, List, Option, Some, None, if◌then◌else◌}
 use Rattle.vlog_tree.specs.declared.expr.Expr.{Expr}
-use Rattle.vlog_tree.specs.declared.item.Assign.{Assign}
 use Rattle.vlog_tree.specs.declared.module.Module.{Module}
-use Rattle.vlog_tree.specs.declared.stmt.Lval.{Lval}
 use Rattle.vlog_runs.specs.Places.{Name, Among, Place}
 use Rattle.vlog_runs.specs.Blocks.{is_parameter}
-use Rattle.vlog_runs.specs.Contents.{Decl, signals_in, port_names, assigns_in, Block, blocks_in, Inner, instances_in}
+use Rattle.vlog_runs.specs.Contents.{Decl, signals_in, port_names, Inner, instances_in}
 use Rattle.vlog_runs.specs.Scopes.{Scope, place_of, Given, given_to, left_of, child, decl_at, signal_of, instance_at}
-use Rattle.flat_faults.specs.Constants.{at_rest, stored, HasConstantNumbers, HasConstantSpans}
+use Rattle.flat_faults.specs.Constants.{at_rest, stored}
 use Rattle.flat_faults.specs.declared.fault.FlatFault.{FlatFault}
-use Rattle.flat_faults.specs.Stands.{all_taken, fixed_lefts, block_lefts, StandsAt}
+use Rattle.flat_faults.specs.Stands.{StandsAt}
 use Rattle.flat_instances.specs.Unfolding.{StandsIn}
 use Rattle.flat_bounds.specs.declared.violation.Violation.{Violation}
-use Rattle.flat_bounds.specs.declared.violation.Violation.TheVariants as b
 use Rattle.flat_bounds.specs.declared.side.Side.TheVariants as d
 use Rattle.flat_bounds.specs.Ranges.{fault_of, StandsAlone}
-use Rattle.flat_bounds.specs.Taken.{IsSound, Breaks, SomeBreaks}
-use Rattle.flat_bounds.specs.Stores.{NamesSignals, BreaksSize, IsSoundLeft, BreaksLeft, IsSoundStore}
-use Rattle.flat_bounds.specs.Usages.{IsSoundBody}
+use Rattle.flat_bounds.specs.Taken.{IsSound, Breaks}
+use Rattle.flat_bounds.specs.Stores.{IsSoundLeft, BreaksLeft}
 
 -- ---- connections
 
@@ -48,25 +44,6 @@ AreSoundConnections p t i = (g : Given) → Among (given_to (port_names t.module
 
 abbrev pub SomeConnectionBreaks : Place → Scope → Inner → Violation → Type 0
 SomeConnectionBreaks p t i w = (g : Given) × Among (given_to (port_names t.module') i.args) g × BreaksConnection p t g (decl_at (signals_in t.module') g.name) w
-
--- ---- whole texts
-
--- the expressions and the left sides of a scope's text keep the rules
-pub record IsSoundText (ms : List Module) (s : Scope) : Type 0 where
-  pub assigns : (a : Assign) → Among (assigns_in s.module') a → IsSoundStore d.Continuous (place_of s) a
-  pub blocks : (k : Block) → Among (blocks_in s.module') k → IsSoundBody (place_of s) k.body
-  pub inners : (i : Inner) → Among (instances_in s.module') i → (t : Scope) → child ms s i ≡ Some t → AreSoundConnections (place_of s) t i
-
--- an expression or a left side of a scope's text breaks a rule
-abbrev pub BreaksText : List Module → Scope → Violation → Type 0
-BreaksText ms s b.Constant =
-    SomeBreaks (is_parameter (place_of s)) (at_rest (place_of s)) (all_taken ms s) b.Constant
-    ⊎ ((left : Lval)
-    × ((Among (fixed_lefts ms s) left × (HasConstantNumbers (is_parameter (place_of s)) left → ⊥)) ⊎ (Among (block_lefts s) left × (HasConstantSpans (is_parameter (place_of s)) left → ⊥))))
-BreaksText ms s b.Length =
-    SomeBreaks (is_parameter (place_of s)) (at_rest (place_of s)) (all_taken ms s) b.Length
-    ⊎ ((left : Lval) × Among (fixed_lefts ms s ++ block_lefts s) left × NamesSignals (place_of s) left × BreaksSize (place_of s) left)
-BreaksText ms s b.Memory = ⊥
 
 -- ---- faults of connections
 

@@ -8,7 +8,7 @@ use Rattle.vlog_tree.specs.declared.stmt.Stmt.TheVariants as s
 use Rattle.vlog_runs.specs.Places.{Place, Among}
 use Rattle.vlog_runs.specs.Blocks.{is_parameter, exprs_in}
 use Rattle.flat_faults.specs.Constants.{at_rest, alone, compared}
-use Rattle.flat_faults.specs.Texts.{Compared, numbers_in, all_labels_in}
+use Rattle.flat_faults.specs.Texts.{Compared, all_labels_in}
 use Rattle.flat_bounds.specs.declared.violation.Violation.{Violation}
 use Rattle.flat_bounds.specs.declared.side.Side.TheVariants as d
 use Rattle.flat_bounds.specs.Taken.{IsSound, AllSound, Breaks, SomeBreaks}
@@ -43,22 +43,6 @@ abbrev mutual
 
 abbrev pub item_usages : CaseItem → List Usage
 item_usages i = usages i.body
-
--- the expressions that stand alone, those that are compared, and the assignments
-abbrev pub alones_of : Usage → List Expr
-alones_of (Tests a) = a ∷ []
-alones_of (Compares c) = []
-alones_of (Stores a) = numbers_in a.left
-
-abbrev pub compares_of : Usage → List Compared
-compares_of (Tests a) = []
-compares_of (Compares c) = c ∷ []
-compares_of (Stores a) = []
-
-abbrev pub stores_of : Usage → List Assign
-stores_of (Tests a) = []
-stores_of (Compares c) = []
-stores_of (Stores a) = a ∷ []
 
 -- a use of an expression keeps the rules
 abbrev pub IsSoundUsage : Place → Usage → Type 0

@@ -1,8 +1,8 @@
 // The parts of left sides: their numbers, and how many bits they have (IEEE 1364-2005, sections 5.2.1 and 5.2.2).
 
-ghost use Rattle.std.specs.Prelude.{◌≡◌, ◌+◌, ◌-◌, ◌^◌, ◌≤◌, nat_le, ℤ, pos, negsuc, ◌≤ℤ◌, ◌<ℤ◌, ◌-ℤ◌, ◌+ℤ◌, IsTrue, IfSome, IfNone};
+ghost use Rattle.std.specs.Prelude.{◌≡◌, ◌+◌, ◌^◌, ◌≤◌, ℤ, pos, negsuc, ◌≤ℤ◌, ◌<ℤ◌, ◌-ℤ◌, ◌+ℤ◌, IsTrue, IfSome, IfNone};
 ghost use Rattle.vlog_tree.specs.Valuation.{IsLength, named, depth_of};
-ghost use Rattle.vlog_tree.specs.Value.{IsFormed, integer, operand_of, own_integer, own_defined, part_width};
+ghost use Rattle.vlog_tree.specs.Value.{IsFormed, operand_of, own_integer, own_defined, part_width};
 ghost use Rattle.vlog_runs.specs.Places.{read};
 ghost use Rattle.vlog_value.specs.Shapes.{FitsPart};
 ghost use Rattle.flat_faults.specs.Constants.{IsLeftFormed};
@@ -11,28 +11,7 @@ ghost use Rattle.flat_bounds.specs.Lefts.{part_count, HasDefinedNumbers};
 
 use elab_drive::Part;
 use vlog_tree::{Constant, Expr, Span, Valuation};
-use vlog_value::checked_own_value;
-use word_core::Word;
-
-fn is_top_set(word: Word) -> bool
-    ensures { result ≡ nat_le (2 ^ (word.width - 1)) word.value }
-{
-    // a word's width is from 1 to 64
-    let _fits = word.value();
-    Word::slice(word, word.width() - 1, 1).value() == 1
-}
-
-// The integer that a word stands for by its sign.
-fn integer(word: Word, signed: bool) -> i128
-    ensures value { result ≡ integer signed word.width word.value }
-    ensures low { negsuc (2 ^ 64) ≤ℤ result }
-    ensures high { result <ℤ pos (2 ^ 64) }
-{
-    if signed && is_top_set(word) {
-        return -1 - i128::from(Word::not(word).value());
-    }
-    i128::from(word.value())
-}
+use vlog_value::{checked_own_value, integer};
 
 // The integer that an expression stands for by itself.
 fn own_integer(expr: &Expr, rest: &Valuation) -> i128

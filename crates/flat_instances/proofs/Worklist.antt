@@ -13,9 +13,17 @@ use Rattle.flat_laws.proofs.Lists.{among_append, among_map, map_among, among_fla
 use Rattle.flat_laws.proofs.Apart.{none_stays, instance_found}
 use Rattle.flat_laws.proofs.Listed.{IsClosed, are_scopes, one_more}
 use Rattle.flat_faults.specs.Stands.{AreDistinct, HasMore}
-use Rattle.flat_instances.specs.Unfolding.{AreChildren, IsSoundInner, HasSoundInners, longer, below, IsUnfolding, AreUnfolded}
+use Rattle.flat_instances.specs.Unfolding.{AreChildren, IsSoundInner, HasSoundInners, longer, below, AreUnfolded}
 use Rattle.flat_scopes.specs.Finding.{place_in}
 use Rattle.flat_instances.specs.Graph.{instance_names}
+
+-- the scopes with their paths, of which the first k are unfolded: their instances are among them, and none is told twice
+pub record IsUnfolding (ms : List Module) (top : Name) (ss : List Scope) (k : ℕ) : Type 0 where
+  pub paths : List (List Name)
+  pub scopes : map Some ss ≡ map (scope_at ms top) paths
+  pub unfolded : paths ≡ [] ∷ flat_map (below ms top) (take k paths)
+  pub distinct : AreDistinct paths
+  pub sound : (s : Scope) → Among (take k ss) s → HasSoundInners ms s
 
 -- ---- paths that are one instance longer
 

@@ -1,5 +1,5 @@
 -- The instances of a scope, and what is wrong with one.
-use Rattle.std.specs.Prelude.{ℕ, suc, ◌≡◌, ◌⊎◌, ◌++◌, List, [], ◌∷◌, Option, Some, None, map, take}
+use Rattle.std.specs.Prelude.{ℕ, suc, ◌≡◌, ◌⊎◌, ◌++◌, List, [], ◌∷◌, Option, Some, None, map}
 use Rattle.std.specs.List.{flat_map}
 use Rattle.vlog_tree.specs.declared.module.Module.{Module}
 use Rattle.vlog_runs.specs.Places.{Name, Among}
@@ -82,14 +82,6 @@ longer path (Some s) = map (λ i. path ++ i.name ∷ []) (instances_in s.module'
 
 abbrev pub below : List Module → Name → List Name → List (List Name)
 below ms top path = longer path (scope_at ms top path)
-
--- the scopes with their paths, of which the first k are unfolded: their instances are among them, and none is told twice
-pub record IsUnfolding (ms : List Module) (top : Name) (ss : List Scope) (k : ℕ) : Type 0 where
-  pub paths : List (List Name)
-  pub scopes : map Some ss ≡ map (scope_at ms top) paths
-  pub unfolded : paths ≡ [] ∷ flat_map (below ms top) (take k paths)
-  pub distinct : AreDistinct paths
-  pub sound : (s : Scope) → Among (take k ss) s → HasSoundInners ms s
 
 -- all scopes of a list of modules, the instances of each with sound parameters. Their paths are the top's and then, path after path, those one instance longer
 pub record AreUnfolded (ms : List Module) (top : Name) (ss : List Scope) : Type 0 where

@@ -2,6 +2,7 @@
 
 ghost use Rattle.std.specs.Prelude.{◌≡◌, ◌<◌, ◌++◌, [], length, map, Some, IfOk, slice_get};
 ghost use Rattle.std.specs.Option.{option_map};
+ghost use Rattle.vlog_runs.specs.Places.{Name};
 ghost use Rattle.vlog_runs.specs.Contents.{instances_in};
 ghost use Rattle.vlog_runs.specs.Scopes.{inner_prefix};
 ghost use Rattle.flat_scopes.specs.Finding.{module_name, place_in};
@@ -46,6 +47,15 @@ fn name_at(alloc: Global, text: &Module, at: usize) -> Result<Text, AllocError>
     Text::copy(alloc, instances[at].name.bytes())
 }
 
+/// What stands in front of the names of the instance at a place in a module, by what stands in front of the module's own.
+fn prefix_at(alloc: Global, prefix: &[u8], text: &Module, at: usize) -> Result<Text, AllocError>
+    requires { at < length (instances_in text.now) }
+    ensures { IfOk result (λ r. (name : Name) × (option_map inner_name (slice_get (instances_in text.now) at) ≡ Some name) × (r ≡ inner_prefix prefix.now name)) }
+{
+    let name = name_at(alloc, text, at)?;
+    inner_prefix(alloc, prefix, name.bytes())
+}
+
 /// What stands in front of the names of the instance that a walk leads to.
 fn prefix_along(
     alloc: Global,
@@ -63,11 +73,32 @@ fn prefix_along(
     let mut prefix = Text::copy(alloc, b"")?;
     let mut node = start;
     for edge in walk {
-        let name = name_at(alloc, &modules[node], *edge)?;
-        prefix = inner_prefix(alloc, prefix.bytes(), name.bytes())?;
+        prefix = prefix_at(alloc, prefix.bytes(), &modules[node], *edge)?;
         node = graph.targets(node)[*edge];
     }
     Ok(prefix)
+}
+
+/// The name of a module's instance that stands in an instance of the same module, by the graph of the modules.
+fn recursion_in(
+    alloc: Global,
+    modules: &[Module],
+    graph: &Graph,
+    top: &[u8],
+    start: usize,
+) -> Result<Option<Text>, AllocError>
+    requires graph { graph.now ≡ graph_of modules.now }
+    requires start { place_in (map module_name modules.now) top.now ≡ Some start }
+    ensures { IfOk result (IsRecursionAnswer modules.now top.now) }
+{
+    match cycle_from(alloc, graph, start)? {
+        Some(cycle) => {
+            let way = &cycle.walk[..cycle.back];
+            let prefix = prefix_along(alloc, modules, graph, top, start, way)?;
+            Ok(Some(prefix_name(alloc, top, prefix.bytes())?))
+        }
+        None => Ok(None),
+    }
 }
 
 /// The name of a module's instance that stands in an instance of the same module, or none where no module contains itself. Its time is linear in the
@@ -84,12 +115,5 @@ pub fn recursion(
     ensures { IfOk result (IsRecursionAnswer modules.now top.now) }
 {
     let graph = graph_of(alloc, modules, names)?;
-    match cycle_from(alloc, &graph, start)? {
-        Some(cycle) => {
-            let way = &cycle.walk[..cycle.back];
-            let prefix = prefix_along(alloc, modules, &graph, top, start, way)?;
-            Ok(Some(prefix_name(alloc, top, prefix.bytes())?))
-        }
-        None => Ok(None),
-    }
+    recursion_in(alloc, modules, &graph, top, start)
 }

@@ -137,6 +137,33 @@ fn top_recursion(alloc: Global, modules: &[Module], top: &[u8]) -> Result<Option
     }
 }
 
+// The scopes of a list of modules, which are found by their names, from its top.
+fn scopes_from<'a>(
+    alloc: Global,
+    modules: &'a [Module],
+    all: &Modules<'a>,
+    top: &[u8],
+) -> Result<Vec<Scope<'a>>, FlatFault>
+    requires { all.now ≡ modules.now }
+    ensures ok { IfOk result (λ r. AreUnfolded modules.now top.now (map scope_meant r.items)) }
+    ensures first { IfOk result (λ r. HasSoundTop modules.now top.now) }
+    ensures none { IfOk result (λ r. (fault : Fault) → IsOfWhole fault → Stands modules.now top.now fault → ⊥) }
+    ensures err { IfErr result (Refuses (Stands modules.now top.now)) }
+{
+    let text = match all.at(top) {
+        Some(text) => text,
+        None => return Err(FlatFault::NoTop),
+    };
+    if let Some(name) = top_recursion(alloc, modules, top)? {
+        return Err(FlatFault::Recursion(name));
+    }
+    let first = match top_scope(alloc, text) {
+        Ok(first) => first,
+        Err(fault) => return Err(fault),
+    };
+    unfold(alloc, all, top, first)
+}
+
 /// The scopes of a list of modules from its top: the top, and then each one's instances after one another. A refusal's fault stands. Its time is linear in
 /// the texts of the modules, and in the sizes of the scopes.
 pub fn scopes_of<'a>(
@@ -150,16 +177,5 @@ pub fn scopes_of<'a>(
     ensures err { IfErr result (Refuses (Stands modules.now top.now)) }
 {
     let all = Modules::of(alloc, modules)?;
-    let text = match all.at(top) {
-        Some(text) => text,
-        None => return Err(FlatFault::NoTop),
-    };
-    if let Some(name) = top_recursion(alloc, modules, top)? {
-        return Err(FlatFault::Recursion(name));
-    }
-    let first = match top_scope(alloc, text) {
-        Ok(first) => first,
-        Err(fault) => return Err(fault),
-    };
-    unfold(alloc, &all, top, first)
+    scopes_from(alloc, modules, &all, top)
 }

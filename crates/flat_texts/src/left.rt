@@ -1,6 +1,6 @@
 // The numbers and the names of left sides (IEEE 1364-2005, section 9.2).
 
-ghost use Rattle.std.specs.Prelude.{◌≡◌, ◌++◌, ◌∷◌, [], OnOk, map};
+ghost use Rattle.std.specs.Prelude.{◌≡◌, ◌++◌, OnOk, map};
 ghost use Rattle.std.specs.List.{flat_map};
 ghost use Rattle.vlog_runs.specs.Blocks.{left_names};
 ghost use Rattle.flat_faults.specs.Texts.{numbers_in};
@@ -8,21 +8,10 @@ ghost use Rattle.flat_scopes.specs.Borrowed.{name_meant};
 ghost use Rattle.elab_drive.specs.Parts.{part_meant};
 ghost use Rattle.flat_texts.specs.Exprs.{expr_meant};
 
-use elab_drive::{Part, parts_of};
+use elab_drive::{Part, name_of, parts_of};
 use outside::Text;
 use std::alloc::{AllocError, Global};
 use vlog_tree::{Expr, Lval};
-
-/// The name of the signal of a part.
-pub fn name_of(part: Part<'_>) -> &Text
-    ensures { left_names (part_meant part.entry) ≡ result.now ∷ [] }
-{
-    match part {
-        Part::Whole(name) => name,
-        Part::Bit(name, _) => name,
-        Part::Bits(name, _, _, _) => name,
-    }
-}
 
 fn add_part_numbers<'a>(all: &mut Vec<&'a Expr>, part: Part<'a>) -> Result<(), AllocError>
     ensures { OnOk result (map expr_meant all.new.items ≡ map expr_meant all.old.items ++ numbers_in (part_meant part.entry)) }

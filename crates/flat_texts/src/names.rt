@@ -10,8 +10,8 @@ ghost use Rattle.elab_drive.specs.declared.names.Form.TheVariants as m;
 ghost use Rattle.elab_drive.specs.Pieces.{piece_meant};
 ghost use Rattle.flat_texts.specs.Exprs.{expr_meant, equation_names, block_names, waited_names, edge_name};
 
-use crate::left::{add_left_names, name_of};
-use elab_drive::{Piece, pieces_of, reads_of};
+use crate::left::add_left_names;
+use elab_drive::{Piece, name_of, pieces_of, reads_of};
 use flat_scopes::{Assigned, Block, Target, assigns_in, blocks_in};
 use outside::Text;
 use std::alloc::{AllocError, Global};

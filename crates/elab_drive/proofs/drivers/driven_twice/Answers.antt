@@ -1,20 +1,5 @@
-use Rattle.std.proofs.Common.{map, ap, ◌∙◌}
-use Rattle.elab_drive.specs.Driving.{driver_meant}
-use Rattle.elab_drive.proofs.Kinding.{some_at, none_at}
-use Rattle.elab_drive.proofs.Twice.{is_bit_at, is_stand, none_twice}
+use Rattle.std.proofs.Common.{◌∙◌}
 use Rattle.elab_drive.proofs.drivers.driven_twice.Goals as goal
 
-pub numbered-requires : goal.numbered-requires
-numbered-requires c =
-    is_bit_at c.args.flat.now _ _ (c.in_ok-signals.ensures ∙ c.as_slice.ensures) (ap (map driver_meant) c.deref.ensures.value ∙ c.in_ok-drivers.ensures) _ _ c.requires
-    (some_at c.in_ok-bit.field-0 _ c.in-Some.bit c.in_ok-bit.ensures.some c.in-Some.is)
-
-pub returns-in-Some-clause-some : goal.returns-in-Some-clause-some
-returns-in-Some-clause-some c =
-    is_stand c.args.flat.now _ _ (c.in_ok-signals.ensures ∙ c.as_slice.ensures) (ap (map driver_meant) c.deref.ensures.value ∙ c.in_ok-drivers.ensures) _ _ _ _
-    (some_at c.in_ok-bit.field-0 _ c.in-Some.bit c.in_ok-bit.ensures.some c.in-Some.is) c.in_ok-number-in-Some.ensures
-
-pub returns-clause-none : goal.returns-clause-none
-returns-clause-none c =
-    none_twice c.args.flat.now _ _ (c.in_ok-signals.ensures ∙ c.as_slice.ensures) (ap (map driver_meant) c.deref.ensures.value ∙ c.in_ok-drivers.ensures)
-    (none_at c.in_ok-bit.field-0 _ c.in_ok-bit.ensures.none c.in-None.is)
+pub driven_twice_among-requires-clause-same : goal.driven_twice_among-requires-clause-same
+driven_twice_among-requires-clause-same c = c.in_ok-signals.ensures ∙ c.as_slice.ensures

@@ -1,23 +1,20 @@
-use Rattle.std.proofs.Common.{true, false, ap, ◌∙◌}
-use Rattle.std.specs.List.{flat_map}
-use Rattle.vlog_tree.specs.declared.item.Assign.{Assign}
-use Rattle.vlog_runs.specs.Blocks.{left_names}
-use Rattle.elab_drive.specs.declared.names.Form.TheVariants as v
-use Rattle.elab_drive.specs.Names.{chosen_names, declared_names}
-use Rattle.elab_drive.proofs.Kinding.{made, wired_by, misplaced_by, declared_by, some_then, none_then, none_is}
+use Rattle.std.proofs.Common.{inl, true, false}
+use Rattle.std.proofs.lemmas.Result.{IfOk-weaker}
+use Rattle.elab_drive.proofs.Kinding.{misplaced, declared_by, some_at, some_then, none_then, none_is}
 use Rattle.elab_drive.proofs.kind.misdeclared.Goals as goal
 
 pub returns-in-Some-clause-some : goal.returns-in-Some-clause-some
-returns-in-Some-clause-some c = wired_by c.args.flat.now _ _ (made (λ (a : Assign). left_names a.left) _ _ _ _ c.deref.ensures.value c.in_ok-assigned.ensures c.as_slice-assigns.ensures) (c.in_ok-regs.ensures ∙ ap (flat_map (declared_names true)) c.as_slice-signals.ensures) _ c.in-Some.ensures.some
+returns-in-Some-clause-some c = inl (some_at c.in_ok-name.field-0 _ c.in-Some.name c.in_ok-name.ensures.some c.in-Some.is)
 
-pub returns-in-Some-shared-clause-some : goal.returns-in-Some-shared-clause-some
-returns-in-Some-shared-clause-some c = misplaced_by c.args.flat.now true _ _ (made (chosen_names true v.Any) _ _ _ _ c.deref-2.ensures.value c.in_ok-clocked.ensures c.as_slice-blocks.ensures) (c.in_ok-wires.ensures ∙ ap (flat_map (declared_names false)) c.as_slice-signals.ensures) _ c.in-Some-shared.ensures.some
+pub returns-in-Some-2-clause-some : goal.returns-in-Some-2-clause-some
+returns-in-Some-2-clause-some c = misplaced c.args.flat.now true c.in-Some-2.name.now (some_at c.in_ok-name-2.field-0 _ c.in-Some-2.name c.in_ok-name-2.ensures.some c.in-Some-2.is)
 
 pub returns-clause-some : goal.returns-clause-some
-returns-clause-some c = some_then c.shared-3.result _ _ c.shared-3.ensures.some (λ x h. misplaced_by c.args.flat.now false _ _ (made (chosen_names false v.Any) _ _ _ _ c.deref-3.ensures.value c.in_ok-combinational.ensures c.as_slice-blocks.ensures) (c.in_ok-wires.ensures ∙ ap (flat_map (declared_names false)) c.as_slice-signals.ensures) x.now h)
+returns-clause-some c =
+    IfOk-weaker c.assigned_wire-2.result _ _ (λ o h. some_then o _ _ h (λ x d. misplaced c.args.flat.now false x.now d)) c.assigned_wire-2.ensures.some
 
 pub returns-clause-none : goal.returns-clause-none
 returns-clause-none c =
-    none_then c.shared-3.result _ _ c.shared-3.ensures.none
-    (λ h. declared_by c.args.flat.now _ _ _ _ _ (made (λ (a : Assign). left_names a.left) _ _ _ _ c.deref.ensures.value c.in_ok-assigned.ensures c.as_slice-assigns.ensures) (c.in_ok-regs.ensures ∙ ap (flat_map (declared_names true)) c.as_slice-signals.ensures) (made (chosen_names true v.Any) _ _ _ _ c.deref-2.ensures.value c.in_ok-clocked.ensures c.as_slice-blocks.ensures) (made (chosen_names false v.Any) _ _ _ _ c.deref-3.ensures.value c.in_ok-combinational.ensures c.as_slice-blocks.ensures) (c.in_ok-wires.ensures ∙ ap (flat_map (declared_names false)) c.as_slice-signals.ensures)
-    (none_is c.shared.result _ c.in_default.not-Some c.shared.ensures.none) (none_is c.shared-2.result _ c.in_default-shared.not-Some c.shared-2.ensures.none) h)
+    IfOk-weaker c.assigned_wire-2.result _ _
+    (λ o h. none_then o _ _ h
+    (λ k. declared_by c.args.flat.now (none_is c.in_ok-name.field-0 _ c.in_default.not-Some c.in_ok-name.ensures.none) (none_is c.in_ok-name-2.field-0 _ c.in_default-2.not-Some c.in_ok-name-2.ensures.none) k)) c.assigned_wire-2.ensures.none

@@ -9,8 +9,8 @@ use Rattle.flat_bounds.specs.declared.violation.Violation.{Violation}
 use Rattle.flat_bounds.specs.declared.side.Side.TheVariants as d
 use Rattle.flat_bounds.specs.Stores.{BreaksStore}
 use Rattle.flat_bounds.specs.Usages.{BreaksBody}
-use Rattle.flat_bounds.specs.Texts.{IsSoundText, StandsAround}
-use Rattle.flat_bounds.proofs.Texts.{assign_breaks, body_breaks}
+use Rattle.flat_bounds.specs.Texts.{StandsAround}
+use Rattle.flat_bounds.proofs.Texts.{IsSoundText, assign_breaks, body_breaks}
 use Rattle.flat_bounds.proofs.Standing.{assign_signals, body_signals, constants_keep, sizes_keep}
 use Rattle.flat_bounds.proofs.Connections.{alone_around, text_around, inner_around}
 use Rattle.flat_bounds.proofs.check.check_texts.Goals as goal

@@ -9,8 +9,8 @@ use Rattle.flat_instances.specs.Graph.{graph_of}
 use Rattle.flat_instances.proofs.Cycles.{node_within, node_in_graph, edge_within, inner_within, next_at, next_rest}
 use Rattle.flat_instances.proofs.recursion.prefix_along.Goals as goal
 
-pub name_at-requires : goal.name_at-requires
-name_at-requires c =
+pub prefix_at-requires : goal.prefix_at-requires
+prefix_at-requires c =
     let ms = c.args.modules.now in
     let top = c.args.top.now in
     let n = c.loop-edge.node in
@@ -100,9 +100,9 @@ loop-edge-preserved c =
     let targets : c.targets.result.now ≡ targets_of (graph_of ms) n = c.targets.ensures ∙ ap (λ (g : List (List ℕ)). targets_of g n) c.requires.graph in
     let t : ℕ = get_or c.targets.result.now e 0 in
     let to : slice_get (targets_of (graph_of ms) n) e ≡ Some t = ap (λ (ts : List ℕ). slice_get ts e) (sym targets) ∙ slice_get-get_or c.targets.result.now e 0 inside in
-    let prefix : c.in_ok-prefix-2.prefix ≡ inner_prefix c.loop-edge.prefix c.in_ok-name.name =
-    c.in_ok-prefix-2.ensures ∙ (ap (λ (p : Name). inner_prefix p c.bytes-in-loop-edge.result.now) c.bytes.ensures ∙ ap (inner_prefix c.loop-edge.prefix) c.bytes-in-loop-edge.ensures) in
+    let named = c.in_ok-prefix-2.ensures in
+    let prefix : c.in_ok-prefix-2.prefix ≡ inner_prefix c.loop-edge.prefix named.0 = named.2 ∙ ap (λ (p : Name). inner_prefix p named.0) c.bytes.ensures in
     record {
-      at = next_at ms top c.loop-edge.prefix n at walk i e lt is whole rest way.last way.ends way.there m c.in_ok-name.name c.in_ok-prefix-2.prefix t f c.in_ok-name.ensures prefix to;
+      at = next_at ms top c.loop-edge.prefix n at walk i e lt is whole rest way.last way.ends way.there m named.0 c.in_ok-prefix-2.prefix t f named.1 prefix to;
       rest = next_rest ms top c.loop-edge.prefix n at walk i e lt is whole rest way.last way.ends way.there t to;
     }

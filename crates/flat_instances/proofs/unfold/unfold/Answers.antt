@@ -6,9 +6,9 @@ use Rattle.std.proofs.lemmas.Option.{slice_get_read, slice_get-map}
 use Rattle.vlog_runs.specs.Scopes.{Scope}
 use Rattle.flat_laws.proofs.Lists.{map_append}
 use Rattle.flat_faults.specs.Stands.{Stands}
-use Rattle.flat_instances.specs.Unfolding.{scope_meant, StandsBelow, IsUnfolding}
+use Rattle.flat_instances.specs.Unfolding.{scope_meant, StandsBelow}
 use Rattle.flat_instances.proofs.Children.{refuses_map}
-use Rattle.flat_instances.proofs.Worklist.{path_at, unfold_top, unfold_next, too_many, are_unfolded, not_more}
+use Rattle.flat_instances.proofs.Worklist.{IsUnfolding, path_at, unfold_top, unfold_next, too_many, are_unfolded, not_more}
 use Rattle.flat_instances.proofs.Standing.{below_scope}
 use Rattle.flat_instances.proofs.unfold.unfold.Goals as goal
 

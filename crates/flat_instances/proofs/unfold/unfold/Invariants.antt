@@ -1,5 +1,6 @@
 use Rattle.std.proofs.Common.{◌≤◌, ◌-◌, length, map}
-use Rattle.flat_instances.specs.Unfolding.{scope_meant, IsUnfolding}
+use Rattle.flat_instances.specs.Unfolding.{scope_meant}
+use Rattle.flat_instances.proofs.Worklist.{IsUnfolding}
 use Rattle.flat_instances.proofs.unfold.unfold.Given as goal
 
 abbrev pub invariant-loop-at : goal.invariant-loop-at
