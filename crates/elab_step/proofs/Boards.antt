@@ -27,7 +27,7 @@ use Rattle.elab_block.specs.Standing.{AreLeavesOf, IsLeafOf, Lacks, AreApart, Ar
 use Rattle.elab_block.specs.Runs.{AreSet, Runs}
 use Rattle.flow_laws.specs.Laws.{place_over}
 use Rattle.elab_step.specs.Solving.{taking, driven, settled, solved, processes, drivers_of, AreDistinct}
-use Rattle.elab_step.specs.Boards.{IsBoard, IsBegun, AreBegun, IsFreeOf, Shows, Follows, statements, statement_at, picked, node_at, name_of, names_of, list_at, ArePlacesOf}
+use Rattle.elab_step.specs.Boards.{IsBoard, IsBegun, AreBegun, IsFreeOf, Shows, statements, statement_at, picked, node_at, name_of, names_of, list_at, ArePlacesOf}
 use Rattle.elab_step.proofs.Solving.{taken, kept}
 use Rattle.elab_step.proofs.Fitting.{one_entry}
 
@@ -156,6 +156,10 @@ zero_shows gs ls a b i n board keeps lt z e c h =
     shown_taking e b (λ y. 0) c gs ls i n board.leaves board.apart lt (shown_kept e ls a b c keeps board.ready h) (sym (z e))
 
 -- ---- one after another
+
+-- what is left, g, makes of a cycle that the later leaves show what f makes of the cycle that the earlier ones show
+abbrev pub Follows : (Cycle → Cycle) → (Cycle → Cycle) → List Leaf → List Node → List Leaf → List Node → Type 0
+Follows f g ls a ms b = (e : Naming) (c : Cycle) → AreShown e a ls c → (now : Cycle) × AreShown e b ms now × (g now ≡ f c)
 
 pub follows_start : (f : Cycle → Cycle) (ls : List Leaf) (a : List Node) → Follows f f ls a ls a
 follows_start f ls a e c h = (c, h, refl)

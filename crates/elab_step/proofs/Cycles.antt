@@ -17,8 +17,8 @@ use Rattle.vlog_runs.specs.Blocks.{run, lefts, left_names, row_names, Drives, An
 use Rattle.vlog_runs.specs.Cycles.{flat_place, IsRegister, IsInput, IsDriven, DrivesFull, IsCycle, Follows}
 use Rattle.flat_laws.proofs.Lists.{among_append, append_left, append_right, among_map, map_among, flat_among}
 use Rattle.flow_laws.specs.Laws.{AreFit}
-use Rattle.elab_step.specs.Solving.{bodies, clocked, processes, assigned_by, after_edge, solved, ArePlain, DrivesBit, AreApart, Meets, IsNet, IsNetOrder}
-use Rattle.elab_step.proofs.Solving.{stable, named_or, AreProcesses, solved_only, solved_meets}
+use Rattle.elab_step.specs.Solving.{bodies, clocked, processes, assigned_by, after_edge, solved, ArePlain, IsNet, IsNetOrder}
+use Rattle.elab_step.proofs.Solving.{DrivesBit, AreApart, Meets, stable, named_or, AreProcesses, solved_only, solved_meets}
 use Rattle.elab_step.proofs.Fitting.{less_or}
 
 -- ---- what drives a bit of a name names it

@@ -15,7 +15,8 @@ use Rattle.vlog_runs.specs.Blocks.{lefts, Drives, AnyDrives}
 use Rattle.vlog_runs.specs.Cycles.{flat_place, IsInput}
 use Rattle.flat_laws.proofs.Lists.{append_left, append_right, map_among}
 use Rattle.elab_faults.specs.Drivers.{Driver, Input, Part, Block, parts_of, row_parts_of, input_drivers, DrivesIn, HasTwoDrivers}
-use Rattle.elab_step.specs.Solving.{bodies, clocked, processes, DrivesBit, AreApart}
+use Rattle.elab_step.specs.Solving.{bodies, clocked, processes}
+use Rattle.elab_step.proofs.Solving.{DrivesBit, AreApart}
 
 -- no two drivers of a list drive bit b of x
 abbrev AreAlone : Place → List Driver → Name → ℕ → Type 0

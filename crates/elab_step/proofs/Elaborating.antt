@@ -23,8 +23,8 @@ use Rattle.elab_faults.specs.Paths.{IsConstant, Sets, AnySets, width_in}
 use Rattle.elab_faults.specs.Drivers.{DependsOn, HasTwoDrivers}
 use Rattle.elab_faults.specs.Stands.{Stands}
 use Rattle.flow_laws.specs.Laws.{AreVectors, BitsStay, BitsApart, StoreFollows, BitsFollow, HaveConstantParts, AreFit, place_over}
-use Rattle.elab_step.specs.Solving.{processes, assigned_by, AreDistinct, ArePlain, DrivesBit, IsNet}
-use Rattle.elab_step.proofs.Solving.{bool_cases, AreProcesses}
+use Rattle.elab_step.specs.Solving.{processes, assigned_by, AreDistinct, ArePlain, IsNet}
+use Rattle.elab_step.proofs.Solving.{DrivesBit, bool_cases, AreProcesses}
 use Rattle.elab_step.proofs.Fitting.{positive, found_signal, run_fits}
 use Rattle.elab_step.proofs.Cycles.{drives_assigned, drives_name, processes_are, clocked_are, plain_signal, own_holder, IsSolvable, AreClocked}
 use Rattle.elab_step.proofs.Drivers.{processes_apart, blocks_apart, input_apart}

@@ -6,13 +6,30 @@ use Rattle.std.specs.Str.{bytes_eq}
 use Rattle.std.proofs.lemmas.Bool.{eqb-true, eq-eqb}
 use Rattle.std.proofs.lemmas.Slice.Eq.{bytes_eq-Decides}
 use Rattle.std.proofs.lemmas.Nat.Bits.{same_from_bits_below, bit_at-zero}
+use Rattle.vlog_tree.specs.declared.stmt.Lval.{Lval}
 use Rattle.vlog_tree.specs.declared.stmt.Stmt.{Stmt}
 use Rattle.vlog_runs.specs.declared.flat.Signal.{Signal}
 use Rattle.vlog_runs.specs.Places.{Name, Cycle, Among, Place}
 use Rattle.vlog_runs.specs.Contents.{is_among}
-use Rattle.vlog_runs.specs.Blocks.{run}
+use Rattle.vlog_runs.specs.Blocks.{run, lefts, Drives}
 use Rattle.flow_laws.specs.Laws.{AreFit}
-use Rattle.elab_step.specs.Solving.{assigned_by, drivers_of, taking, driven, settled, solved, DrivesBit, AreApart, Meets, IsOrder}
+use Rattle.elab_step.specs.Solving.{assigned_by, drivers_of, taking, driven, settled, solved, IsOrder}
+
+-- ---- bits and the statements that drive them
+
+-- a statement drives bit b of x
+abbrev pub DrivesBit : Place → Stmt → Name → ℕ → Type 0
+DrivesBit p k x b = (left : Lval) × Among (lefts k) left × Drives p left x b
+
+-- no two of them drive bit b of x
+abbrev pub AreApart : Place → List Stmt → Name → ℕ → Type 0
+AreApart p [] x b = Unit {0}
+AreApart p (k ∷ ks) x b = (DrivesBit p k x b → (j : Stmt) → Among ks j → DrivesBit p j x b → ⊥) × AreApart p ks x b
+
+-- in a cycle each bit of x has what the statement gives that drives it, and is 0 where none does
+pub record Meets (p : Place) (ks : List Stmt) (x : Name) (w : ℕ) (c : Cycle) : Type 0 where
+  pub driven_bits : (k : Stmt) (b : ℕ) → Among ks k → b < w → DrivesBit p k x b → bit_at (run true p k c c x) b ≡ bit_at (c x) b
+  pub other_bits : (b : ℕ) → b < w → ((k : Stmt) → Among ks k → DrivesBit p k x b → ⊥) → bit_at (c x) b ≡ 0
 
 -- ---- names and numbers
 

@@ -35,10 +35,6 @@ pub record IsBoard (gs : List Signal) (ls : List Leaf) (ns : List Node) : Type 0
 abbrev pub Shows : (Cycle → Cycle) → List Leaf → List Node → List Leaf → List Node → Type 0
 Shows f ls a ms b = (e : Naming) (c : Cycle) → AreShown e a ls c → AreShown e b ms (f c)
 
--- what is left, g, makes of a cycle that the later leaves show what f makes of the cycle that the earlier ones show
-abbrev pub Follows : (Cycle → Cycle) → (Cycle → Cycle) → List Leaf → List Node → List Leaf → List Node → Type 0
-Follows f g ls a ms b = (e : Naming) (c : Cycle) → AreShown e a ls c → (now : Cycle) × AreShown e b ms now × (g now ≡ f c)
-
 -- the continuous assignments, each as a statement, and the bodies of all blocks
 abbrev pub statements : Flat → List Stmt
 statements f = map (λ (a : Assign). s.Blocking a.left a.right) f.assigns ++ map (λ (k : Always). k.body) f.blocks

@@ -1,10 +1,8 @@
 -- A module without instances, solved one net after another (IEEE 1364-2005, sections 6.1 and 9.2).
-use Rattle.std.specs.Prelude.{ℕ, ◌≡◌, ◌<◌, ◌⊎◌, true, false, List, [], ◌∷◌, ◌++◌, map, if◌then◌else◌}
-use Rattle.std.specs.Int.{bit_at}
+use Rattle.std.specs.Prelude.{◌≡◌, ◌⊎◌, true, false, List, [], ◌∷◌, ◌++◌, map, if◌then◌else◌}
 use Rattle.std.specs.List.{flat_map}
 use Rattle.std.specs.Str.{bytes_eq}
 use Rattle.vlog_tree.specs.declared.item.Assign.{Assign}
-use Rattle.vlog_tree.specs.declared.stmt.Lval.{Lval}
 use Rattle.vlog_tree.specs.declared.stmt.Stmt.{Stmt}
 use Rattle.vlog_tree.specs.declared.stmt.Stmt.TheVariants as s
 use Rattle.vlog_runs.specs.declared.flat.Always.{Always}
@@ -12,7 +10,7 @@ use Rattle.vlog_runs.specs.declared.flat.Flat.{Flat}
 use Rattle.vlog_runs.specs.declared.flat.Signal.{Signal}
 use Rattle.vlog_runs.specs.Places.{Name, Cycle, Among, Place}
 use Rattle.vlog_runs.specs.Contents.{is_among}
-use Rattle.vlog_runs.specs.Blocks.{run, lefts, left_names, Drives}
+use Rattle.vlog_runs.specs.Blocks.{run, lefts, left_names}
 use Rattle.vlog_runs.specs.Cycles.{IsRegister, IsInput}
 
 -- the bodies of the combinational blocks
@@ -65,20 +63,6 @@ AreDistinct (x ∷ xs) = (Among xs x → ⊥) × AreDistinct xs
 abbrev pub ArePlain : List Signal → Type 0
 ArePlain [] = Unit {0}
 ArePlain (g ∷ gs) = (g.depth ≡ 0) × ArePlain gs
-
--- a statement drives bit b of x
-abbrev pub DrivesBit : Place → Stmt → Name → ℕ → Type 0
-DrivesBit p k x b = (left : Lval) × Among (lefts k) left × Drives p left x b
-
--- no two of them drive bit b of x
-abbrev pub AreApart : Place → List Stmt → Name → ℕ → Type 0
-AreApart p [] x b = Unit {0}
-AreApart p (k ∷ ks) x b = (DrivesBit p k x b → (j : Stmt) → Among ks j → DrivesBit p j x b → ⊥) × AreApart p ks x b
-
--- in a cycle each bit of x has what the statement gives that drives it, and is 0 where none does
-pub record Meets (p : Place) (ks : List Stmt) (x : Name) (w : ℕ) (c : Cycle) : Type 0 where
-  pub driven_bits : (k : Stmt) (b : ℕ) → Among ks k → b < w → DrivesBit p k x b → bit_at (run true p k c c x) b ≡ bit_at (c x) b
-  pub other_bits : (b : ℕ) → b < w → ((k : Stmt) → Among ks k → DrivesBit p k x b → ⊥) → bit_at (c x) b ≡ 0
 
 -- nets one after another, each depending on earlier ones alone
 abbrev pub IsOrder : (Name → Name → Type 0) → List Name → Type 0
