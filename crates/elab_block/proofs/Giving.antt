@@ -6,16 +6,20 @@ use Rattle.std.proofs.lemmas.Slice.Eq.{bytes_eq-Decides}
 use Rattle.std.proofs.lemmas.Nat.{mod-pow-add}
 use Rattle.std.proofs.Math.Nat.{mod-lt}
 use Rattle.word_dag.specs.declared.node.Node.{Node}
-use Rattle.word_dag.specs.Nodes.{Naming}
+use Rattle.word_core.specs.Words.{Bits}
+use Rattle.word_dag.specs.declared.node.Node.TheVariants.{Const}
+use Rattle.word_dag.specs.Nodes.{Naming, FitFrom}
 use Rattle.word_dag.specs.Adding.{Keeps}
+use Rattle.word_dag.proofs.Valued.{value_there}
 use Rattle.vlog_tree.specs.declared.valuation.Entry.{Entry}
 use Rattle.vlog_tree.specs.Value.{integer}
 use Rattle.vlog_value.proofs.Numbers.{bool_cases}
 use Rattle.vlog_runs.specs.Places.{Name, Cycle, Piece, write_bits, write_bit, put, give, total}
 use Rattle.elab_node.specs.declared.leaves.Leaf.{Leaf}
 use Rattle.elab_node.specs.Leaves.{entry_of, declared, AreReady, with_node}
-use Rattle.elab_node.specs.Nodes.{IsNode, number_at}
-use Rattle.elab_node.proofs.Kept.{node_kept, number_kept, keeps_then, keeps_same}
+use Rattle.elab_node.specs.declared.nodes.Wire.{Wire}
+use Rattle.elab_node.specs.Nodes.{IsNode, IsWire, number_at, wire_word}
+use Rattle.elab_node.proofs.Kept.{node_kept, number_kept, word_is, keeps_then, keeps_same}
 use Rattle.elab_block.specs.declared.targets.Spot.{Spot}
 use Rattle.elab_block.specs.declared.targets.Spot.TheVariants as s
 use Rattle.elab_block.specs.declared.targets.Target.{Target}
@@ -100,6 +104,11 @@ pub puts_is : (t : Target) (n r : ℕ) (ls : List Leaf) (l : Leaf) (a b : List N
 puts_is t n r ls l a b lt g p k m w e d h =
     put_shown e (width_at ls t.leaf) (bit_at e a t.spot) t.count (number_at e a n) d ls t.leaf r l a b lt g p k m h
     (w e ∙ ap (λ z. write_bits z (bit_at e a t.spot) t.count (number_at e a n) (number_at e a l.node)) (sym (leaf_width ls t.leaf l lt g)))
+
+-- ---- an index that is a constant
+
+pub constant_here : (ns : List Node) (a : Wire) (n : Node) (w : Bits) → FitFrom [] ns → IsWire ns a → n ≡ get_or ns a.node n → n ≡ Const w → (e : Naming) → wire_word e ns a ≡ w
+constant_here ns a n w fit h at is e = sym (word_is e ns a.node a.width fit h) ∙ value_there e ns a.node (Const w) fit (h.0, subst (λ (m : Node). m ≡ get_or ns a.node m) is at)
 
 -- ---- in a dag that grows, and for leaves of the same names
 

@@ -1,4 +1,3 @@
-mod Making
 mod Writing
 mod Trying
 mod Joins

@@ -1,6 +1,6 @@
 -- Case statements that are run on nodes.
 use Rattle.std.proofs.Common.{arith, ◌≡◌, ℕ, zero, suc, ◌+◌, ◌<◌, ◌≤◌, max, Bool, true, false, ◌&&◌, List, [], ◌∷◌, ◌++◌, length, get_or, drop, map, refl, sym, ap, ◌∙◌, subst, Option}
-use Rattle.std.specs.Prelude.{nat_eq, if◌then◌else◌}
+use Rattle.std.specs.Prelude.{not, nat_eq, if◌then◌else◌}
 use Rattle.word_dag.specs.declared.node.Node.{Node}
 use Rattle.word_dag.specs.Nodes.{Naming}
 use Rattle.word_dag.specs.Adding.{Keeps}
@@ -9,6 +9,7 @@ use Rattle.vlog_tree.specs.declared.expr.Expr.{Expr}
 use Rattle.vlog_tree.specs.declared.stmt.CaseItem.{CaseItem}
 use Rattle.vlog_tree.specs.declared.stmt.CaseKind.{CaseKind}
 use Rattle.vlog_tree.specs.declared.stmt.Labels.{Labels}
+use Rattle.vlog_tree.specs.declared.stmt.Labels.TheVariants as label
 use Rattle.vlog_tree.specs.declared.stmt.Stmt.{Stmt, Row_of-CaseItem, end_of-CaseItem, more_of-CaseItem, items-the_row-CaseItem, items_hidden-the_row-CaseItem-2}
 use Rattle.vlog_tree.specs.declared.stmt.Stmt.TheVariants as s
 use Rattle.vlog_tree.specs.declared.stmt.Stmt.TheBlock.{hidden-the_row-CaseItem-2}
@@ -29,7 +30,7 @@ use Rattle.elab_block.specs.Saving.{put_back, AreSaved, IsSaved}
 use Rattle.elab_block.specs.Sparing.{Spares, ItemsSpare, Covers, EachCovered}
 use Rattle.elab_block.specs.Targets.{name_at}
 use Rattle.elab_block.specs.Ready.{ArePlaced, IsReadyStmt, AreReadyItems, EachReadyItem}
-use Rattle.elab_block.specs.Cases.{each_labels, each_items, each_default, case_test, picked, AreMatches}
+use Rattle.elab_block.specs.Cases.{each_labels, each_default, case_test, picked, AreMatches}
 use Rattle.elab_block.specs.Runs.{seen_by, is_at_once, AreBefore, AreSet, Runs, Tests, Branches, AreBits, AreTests, Picks, IsDefaultAt}
 use Rattle.elab_block.proofs.Joins.{shown_kept, shown_same, leaves_same}
 use Rattle.elab_block.proofs.Saving.{saved_moved, back_ready, back_after, back_saved, away_agrees, covers_same}
@@ -38,6 +39,11 @@ use Rattle.elab_block.proofs.Storing.{before_kept, shown_seen}
 use Rattle.elab_block.proofs.Labelling.{drop_at, drop_all}
 
 -- ---- rows of items as lists
+
+-- what the first item makes of a cycle of which a label passes a test, and otherwise this cycle
+abbrev pub each_items : Bool → Place → (Labels → Bool) → List CaseItem → Cycle → Cycle → Cycle → Cycle
+each_items at_once p test [] c d otherwise x = otherwise x
+each_items at_once p test (i ∷ rest) c d otherwise x = if test i.labels then run at_once p i.body c d x else each_items at_once p test rest c d otherwise x
 
 labels_row : {m : _} (row : Row_of-CaseItem m) → labels_in row ≡ each_labels (items-the_row-CaseItem m row)
 labels_row end_of-CaseItem = refl
@@ -152,7 +158,7 @@ pub picked_spared : (ls : List Leaf) (gs : List Signal) (o : Bool) (items : List
 picked_spared ls gs o [] bs c d other x leaves h e = e
 picked_spared ls gs o (i ∷ rest) [] c d other x leaves h e = e
 picked_spared ls gs o (i ∷ rest) (b ∷ bs) c d other x leaves h e =
-    one_of (nat_eq b 1) (run o (flat gs) i.body c d x) (picked o (flat gs) rest bs c d other x) (d x) (h.0 gs o c d leaves) (picked_spared ls gs o rest bs c d other x leaves h.1 e)
+    one_of (not (is_default i.labels) && nat_eq b 1) (run o (flat gs) i.body c d x) (picked o (flat gs) rest bs c d other x) (d x) (h.0 gs o c d leaves) (picked_spared ls gs o rest bs c d other x leaves h.1 e)
 
 spared_drop : (ls : List Leaf) (items : List CaseItem) (k : ℕ) (x : Name) → ItemsSpare ls items x → ItemsSpare ls (drop k items) x
 spared_drop ls [] zero x h = h
@@ -174,14 +180,25 @@ bit_is : (t : Bool) → nat_eq (bit t) 1 ≡ t
 bit_is true = refl
 bit_is false = refl
 
+-- a bit of an item counts, the default aside, as a test of its labels does that no default passes
+default_aside : (skipped b t : Bool) → b ≡ t → (skipped ≡ true → t ≡ false) → (not skipped && b) ≡ t
+default_aside true b t h none = sym (none refl)
+default_aside false b t h none = h
+
 picked_is : (reads : Option (List Leaf)) (t : List Signal → Cycle → Cycle → Labels → Bool) (ms : List Leaf) (a b d : List Node) (is : List CaseItem) (zs : List ℕ) (gs : List Signal) (e : Naming) (p q other : Cycle) (x : Name)
-    → Keeps b d → AreBits is zs b → AreTests reads t ms a b is zs → AreLeavesOf gs ms → AreBefore e a reads p → AreShown e a ms q
+    → ((labels : Labels) → is_default labels ≡ true → t gs p q labels ≡ false) → Keeps b d → AreBits is zs b → AreTests reads t ms a b is zs → AreLeavesOf gs ms → AreBefore e a reads p → AreShown e a ms q
     → picked (is_at_once reads) (flat gs) is (map (number_at e d) zs) p q other x ≡ each_items (is_at_once reads) (flat gs) (t gs p q) is p q other x
-picked_is reads t ms a b d [] zs gs e p q other x k n h leaves before now = refl
-picked_is reads t ms a b d (i ∷ is) [] gs e p q other x k n h leaves before now = absurd n
-picked_is reads t ms a b d (i ∷ is) (z ∷ zs) gs e p q other x k n h leaves before now =
-    let here : nat_eq (number_at e d z) 1 ≡ t gs p q i.labels = ap (λ m. nat_eq m 1) (number_kept e b d z 1 k n.0 ∙ h.0 gs e p q leaves before now) ∙ bit_is (t gs p q i.labels) in
-    λ j. if here j then run (is_at_once reads) (flat gs) i.body p q x else picked_is reads t ms a b d is zs gs e p q other x k n.1 h.1 leaves before now j
+picked_is reads t ms a b d [] zs gs e p q other x none k n h leaves before now = refl
+picked_is reads t ms a b d (i ∷ is) [] gs e p q other x none k n h leaves before now = absurd n
+picked_is reads t ms a b d (i ∷ is) (z ∷ zs) gs e p q other x none k n h leaves before now =
+    let bit_one : nat_eq (number_at e d z) 1 ≡ t gs p q i.labels = ap (λ m. nat_eq m 1) (number_kept e b d z 1 k n.0 ∙ h.0 gs e p q leaves before now) ∙ bit_is (t gs p q i.labels) in
+    let here : (not (is_default i.labels) && nat_eq (number_at e d z) 1) ≡ t gs p q i.labels = default_aside (is_default i.labels) (nat_eq (number_at e d z) 1) (t gs p q i.labels) bit_one (none i.labels) in
+    λ j. if here j then run (is_at_once reads) (flat gs) i.body p q x else picked_is reads t ms a b d is zs gs e p q other x none k n.1 h.1 leaves before now j
+
+-- no label of a default matches
+default_unmatched : (o : Bool) (p : Place) (kind : CaseKind) (subject : Expr) (items : List CaseItem) (c d : Cycle) (labels : Labels) → is_default labels ≡ true → case_test o p kind subject items c d labels ≡ false
+default_unmatched o p kind subject items c d (label.Exprs xs) h = cc
+default_unmatched o p kind subject items c d label.Default h = refl
 
 -- the items from one on, so far
 pub record Picking (reads : Option (List Leaf)) (items : List CaseItem) (tests : List ℕ) (before : List Saved) (ms : List Leaf) (a : List Node) (os : List Leaf) (b : List Node) (k : ℕ) : Type 0 where
@@ -207,9 +224,18 @@ picking_start reads items tests before ms a k is keeps set nodes bits ready = re
   picks = λ gs e p q d leaves earlier shown now. subst (λ (xs : List CaseItem). AreShown e a ms (picked (is_at_once reads) (flat gs) xs (map (number_at e a) (drop k tests)) p q d)) (sym (drop_all items k (omega (arith, is)))) now;
 }
 
+-- the items from place k on, by the one there and those after it
+picked_from : (e : Naming) (ks : List Leaf) (a c : List Node) (o : Bool) (gs : List Signal) (items : List CaseItem) (tests : List ℕ) (k : ℕ) (d : CaseItem) (p q other : Cycle) → k < length items → k < length tests
+    → AreShown e c ks (picked o (flat gs) (get_or items k d ∷ drop (k + 1) items) (number_at e a (get_or tests k 0) ∷ map (number_at e a) (drop (k + 1) tests)) p q other)
+    → AreShown e c ks (picked o (flat gs) (drop k items) (map (number_at e a) (drop k tests)) p q other)
+picked_from e ks a c o gs items tests k d p q other lt zlt shown =
+    subst (λ (xs : List CaseItem). AreShown e c ks (picked o (flat gs) xs (map (number_at e a) (drop k tests)) p q other)) (sym (drop_at items k d lt))
+    (subst (λ (ys : List ℕ). AreShown e c ks (picked o (flat gs) (get_or items k d ∷ drop (k + 1) items) (map (number_at e a) ys) p q other)) (sym (drop_at tests k 0 zlt)) shown)
+
 pub picking_next : (reads : Option (List Leaf)) (items : List CaseItem) (tests : List ℕ) (before held : List Saved) (ms os ks : List Leaf) (a b c : List Node) (n k z : ℕ) (d : CaseItem) (body : Stmt) → n ≡ k + 1 → AreSet reads ms a → AreSaved ms before a → EachCovered ms before items → AreBits items tests a
-    → Picking reads items tests before ms a os b n → body ≡ (get_or items k d).body → z ≡ get_or tests k 0 → held ≡ before → Keeps b c → declared ks ≡ declared os → AreSet reads ks c → Branches reads body z held os b ks c → Picking reads items tests before ms a ks c k
-picking_next reads items tests before held ms os ks a b c n k z d body is set nodes covers bits h body_is z_is held_is keeps same set' branch = record {
+    → Picking reads items tests before ms a os b n → is_default (get_or items k d).labels ≡ false → body ≡ (get_or items k d).body → z ≡ get_or tests k 0 → held ≡ before → Keeps b c → declared ks ≡ declared os → AreSet reads ks c → Branches reads body z held os b ks c
+    → Picking reads items tests before ms a ks c k
+picking_next reads items tests before held ms os ks a b c n k z d body is set nodes covers bits h labelled body_is z_is held_is keeps same set' branch = record {
   keeps = keeps_then a b c h.keeps keeps;
   same = same ∙ h.same;
   set = set';
@@ -228,10 +254,28 @@ picking_next reads items tests before held ms os ks a b c n k z d body is set no
       (λ j in' away. picked_spared ms gs (is_at_once reads) (drop (k + 1) items) (map (number_at e a) (drop (k + 1) tests)) p q other (name_at ms j) leaves (spared_drop ms items (k + 1) (name_at ms j) (covers j in' away)) (sym (away_agrees e a ms before q other j shown now in' away)))) in
       let f = branch gs e p q _ (leaves_same gs ms os h.same leaves) (before_kept e reads ms a b p set h.keeps earlier) sb rest in
       let number : number_at e b z ≡ number_at e a (get_or tests k 0) = ap (number_at e b) z_is ∙ number_kept e a b (get_or tests k 0) 1 h.keeps (bit_at items tests a k 0 bits lt) in
-      let g : AreShown e c ks (picked (is_at_once reads) (flat gs) (get_or items k d ∷ drop (k + 1) items) (number_at e a (get_or tests k 0) ∷ map (number_at e a) (drop (k + 1) tests)) p q other) =
-      shown_same e ks c _ _ (λ x. λ j. if nat_eq (sym number j) 1 then run (is_at_once reads) (flat gs) (sym body_is j) p q x else picked (is_at_once reads) (flat gs) (drop (k + 1) items) (map (number_at e a) (drop (k + 1) tests)) p q other x) f in
-      subst (λ (xs : List CaseItem). AreShown e c ks (picked (is_at_once reads) (flat gs) xs (map (number_at e a) (drop k tests)) p q other)) (sym (drop_at items k d lt))
-      (subst (λ (ys : List ℕ). AreShown e c ks (picked (is_at_once reads) (flat gs) (get_or items k d ∷ drop (k + 1) items) (map (number_at e a) ys) p q other)) (sym (drop_at tests k 0 zlt)) g);
+      picked_from e ks a c (is_at_once reads) gs items tests k d p q other lt zlt
+      (shown_same e ks c _ _ (λ x. λ j. if not (labelled j) && nat_eq (sym number j) 1 then run (is_at_once reads) (flat gs) (sym body_is j) p q x else picked (is_at_once reads) (flat gs) (drop (k + 1) items) (map (number_at e a) (drop (k + 1) tests)) p q other x) f);
+}
+
+-- the default is passed over
+pub picking_skip : (reads : Option (List Leaf)) (items : List CaseItem) (tests : List ℕ) (before : List Saved) (ms os : List Leaf) (a b : List Node) (n k : ℕ) (d : CaseItem) → n ≡ k + 1 → AreBits items tests a
+    → Picking reads items tests before ms a os b n → is_default (get_or items k d).labels ≡ true → Picking reads items tests before ms a os b k
+picking_skip reads items tests before ms os a b n k d is bits h default = record {
+  keeps = h.keeps;
+  same = h.same;
+  set = h.set;
+  nodes = h.nodes;
+  bits = h.bits;
+  items_ready = h.items_ready;
+  within = omega (arith, is, h.within);
+  picks = λ gs e p q other leaves earlier shown now.
+      let lt : k < length items = omega (arith, is, h.within) in
+      let zlt : k < length tests = omega (arith, lt, bits_long items tests a bits) in
+      let rest : AreShown e b os (picked (is_at_once reads) (flat gs) (drop (k + 1) items) (map (number_at e a) (drop (k + 1) tests)) p q other) =
+      subst (λ m. AreShown e b os (picked (is_at_once reads) (flat gs) (drop m items) (map (number_at e a) (drop m tests)) p q other)) is (h.picks gs e p q other leaves earlier shown now) in
+      picked_from e os a b (is_at_once reads) gs items tests k d p q other lt zlt
+      (shown_same e os b _ _ (λ x. λ j. if not (default j) && nat_eq (number_at e a (get_or tests k 0)) 1 then run (is_at_once reads) (flat gs) (get_or items k d).body p q x else picked (is_at_once reads) (flat gs) (drop (k + 1) items) (map (number_at e a) (drop (k + 1) tests)) p q other x) rest);
 }
 
 pub picking_end : (reads : Option (List Leaf)) (items : List CaseItem) (tests : List ℕ) (before : List Saved) (ms os : List Leaf) (a b : List Node) (k : ℕ) → k ≡ 0 → Picking reads items tests before ms a os b k → Picks reads items tests before ms a os b
@@ -275,7 +319,7 @@ case_runs reads kind subject items tree zs before ms os ks a b d k is set ab bd 
     let done = picks gs e p q (each_default o (flat gs) items p q) (leaves_same gs ms os same leaves) (before_kept e reads ms a d p set ad earlier) shown other in
     shown_same e ks k _ _
     (λ x. case_run o (flat gs) kind subject items tree p q x is
-    ∙ sym (picked_is reads (λ g. case_test o (flat g) kind subject items) ms a b d items zs gs e p q (each_default o (flat gs) items p q) x bd bits tests leaves earlier now)) done
+    ∙ sym (picked_is reads (λ g. case_test o (flat g) kind subject items) ms a b d items zs gs e p q (each_default o (flat gs) items p q) x (default_unmatched o (flat gs) kind subject items p q) bd bits tests leaves earlier now)) done
 
 get_same : (items : List CaseItem) (k : ℕ) (d i : CaseItem) → k < length items → get_or items k d ≡ get_or items k i
 get_same [] k d i lt = absurd (omega arith)

@@ -31,7 +31,7 @@ use Rattle.elab_node.proofs.Placed.{leaf_placed, leaf_absent}
 use Rattle.elab_node.proofs.Kept.{valued_kept, number_kept}
 use Rattle.elab_node.proofs.Read.{named_leaf, depth_is, stands_leaf}
 use Rattle.elab_node.proofs.Shaped.{shape_valued, alone_taken}
-use Rattle.elab_block.specs.declared.indexed.Own.{Own}
+use Rattle.elab_node.specs.declared.indexed.Own.{Own}
 use Rattle.elab_block.specs.Standing.{flat, IsLeafOf, AreLeavesOf, AreShown}
 use Rattle.elab_block.specs.declared.targets.Spot.TheVariants as s
 use Rattle.elab_block.specs.declared.targets.Target.{Target}

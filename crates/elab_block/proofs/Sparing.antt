@@ -23,7 +23,7 @@ use Rattle.elab_node.specs.declared.leaves.Leaf.{Leaf}
 use Rattle.elab_node.specs.Leaves.{entries}
 use Rattle.elab_node.proofs.Read.{depth_is}
 use Rattle.elab_block.specs.declared.branches.Saved.{Saved}
-use Rattle.elab_block.specs.Cases.{each_items, each_default}
+use Rattle.elab_block.specs.Cases.{each_default}
 use Rattle.elab_block.specs.Lefts.{IsLeafAt}
 use Rattle.elab_block.specs.Runs.{each_runs}
 use Rattle.elab_block.specs.Saving.{saved_at, places_of, AreWithin, IsSavedAt, IsAway}
@@ -32,7 +32,7 @@ use Rattle.elab_block.specs.Standing.{flat, Lacks, AreApart, AreLeavesOf}
 use Rattle.elab_block.specs.Targets.{name_at}
 use Rattle.elab_block.proofs.Giving.{other_name}
 use Rattle.elab_block.proofs.Joins.{take_next}
-use Rattle.elab_block.proofs.Picking.{case_run, one_of, default_spared}
+use Rattle.elab_block.proofs.Picking.{each_items, case_run, one_of, default_spared}
 use Rattle.elab_block.proofs.Saving.{places_saved}
 use Rattle.elab_block.proofs.Sides.{one_entry, row_flat, name_is}
 use Rattle.elab_block.proofs.Storing.{block_runs}

@@ -1,5 +1,5 @@
 -- Which labels of a case statement match a number (IEEE 1364-2005, section 9.5).
-use Rattle.std.specs.Prelude.{ℕ, ◌≡◌, Bool, List, [], ◌∷◌, ◌++◌, nat_eq, bit_or, if◌then◌else◌}
+use Rattle.std.specs.Prelude.{ℕ, ◌≡◌, Bool, List, [], ◌∷◌, ◌++◌, not, ◌&&◌, nat_eq, bit_or, if◌then◌else◌}
 use Rattle.std.specs.List.{list_any}
 use Rattle.vlog_tree.specs.declared.expr.Expr.{Expr}
 use Rattle.vlog_tree.specs.declared.stmt.CaseItem.{CaseItem}
@@ -32,11 +32,6 @@ abbrev pub each_labels : List CaseItem → List Expr
 each_labels [] = []
 each_labels (i ∷ rest) = exprs_in i.labels ++ each_labels rest
 
--- what the first item makes of a cycle of which a label passes a test, and otherwise this cycle
-abbrev pub each_items : Bool → Place → (Labels → Bool) → List CaseItem → Cycle → Cycle → Cycle → Cycle
-each_items at_once p test [] c d otherwise x = otherwise x
-each_items at_once p test (i ∷ rest) c d otherwise x = if test i.labels then run at_once p i.body c d x else each_items at_once p test rest c d otherwise x
-
 -- what stands for `default`
 abbrev pub each_default : Bool → Place → List CaseItem → Cycle → Cycle → Cycle
 each_default at_once p [] c d x = d x
@@ -57,8 +52,9 @@ AreMatches kind ls subject n signed old (i ∷ rest) (z ∷ zs) new =
     IsNode new z 1 × ((e : Naming) → number_at e new z ≡ bit (any_matches kind (valued ls (words e old)) n signed subject i.labels))
     × AreMatches kind ls subject n signed old rest zs new
 
--- what the first item makes of a cycle whose bit is 1, and otherwise another one
+-- what the first item whose bit is 1 makes of a cycle, the default aside, and otherwise another one
 abbrev pub picked : Bool → Place → List CaseItem → List ℕ → Cycle → Cycle → Cycle → Cycle
 picked at_once p [] bs c d otherwise x = otherwise x
 picked at_once p (i ∷ rest) [] c d otherwise x = otherwise x
-picked at_once p (i ∷ rest) (b ∷ bs) c d otherwise x = if nat_eq b 1 then run at_once p i.body c d x else picked at_once p rest bs c d otherwise x
+picked at_once p (i ∷ rest) (b ∷ bs) c d otherwise x =
+    if not (is_default i.labels) && nat_eq b 1 then run at_once p i.body c d x else picked at_once p rest bs c d otherwise x

@@ -11,10 +11,9 @@ use Rattle.vlog_runs.specs.declared.flat.Signal.{Signal}
 use Rattle.vlog_runs.specs.Places.{Name, Cycle, pieces}
 use Rattle.elab_node.specs.declared.leaves.Leaf.{Leaf}
 use Rattle.elab_node.specs.Leaves.{declared, valued, leaf_at}
-use Rattle.elab_node.specs.Nodes.{number_at, words}
-use Rattle.elab_block.specs.declared.indexed.Own.{Own}
+use Rattle.elab_node.specs.Nodes.{number_at, words, IsWire}
+use Rattle.elab_node.specs.declared.indexed.Own.{Own}
 use Rattle.elab_block.specs.declared.targets.Target.{Target}
-use Rattle.elab_block.specs.Wires.{IsWire}
 use Rattle.elab_block.specs.Standing.{flat, AreLeavesOf, AreShown}
 use Rattle.elab_block.specs.Targets.{IsTarget, AreTargets, piece_of, pieces_of, bits_in}
 use Rattle.elab_block.specs.Ready.{left_width}

@@ -1,4 +1,3 @@
-pub mod Wires
 pub mod Standing
 pub mod Saving
 pub mod Sparing

@@ -6,11 +6,10 @@ use Rattle.vlog_tree.specs.Valuation.{IsLength}
 use Rattle.vlog_tree.specs.Value.{integer}
 use Rattle.vlog_runs.specs.Places.{Name, Cycle, Piece, give, put}
 use Rattle.elab_node.specs.declared.leaves.Leaf.{Leaf}
-use Rattle.elab_node.specs.Nodes.{number_at}
+use Rattle.elab_node.specs.Nodes.{number_at, IsWire}
 use Rattle.elab_block.specs.declared.targets.Spot.{Spot}
 use Rattle.elab_block.specs.declared.targets.Spot.TheVariants as s
 use Rattle.elab_block.specs.declared.targets.Target.{Target}
-use Rattle.elab_block.specs.Wires.{IsWire}
 use Rattle.elab_block.specs.Standing.{AreShown}
 
 -- the name and the length of the leaf of this number

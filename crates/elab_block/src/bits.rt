@@ -2,10 +2,9 @@
 ghost use Rattle.std.specs.Prelude.{◌≡◌, ℕ, ◌+◌, ◌-◌, ◌*◌, ◌/◌, ◌%◌, ◌^◌, ◌≤◌, ◌<◌, IfOk, ℤ, pos, negsuc, ◌≤ℤ◌, ◌<ℤ◌};
 ghost use Rattle.word_dag.specs.Adding.{Keeps};
 ghost use Rattle.vlog_runs.specs.Places.{write_bits};
-ghost use Rattle.elab_node.specs.Nodes.{Makes, number_at};
-ghost use Rattle.elab_block.specs.Wires.{IsWire};
+ghost use Rattle.elab_node.specs.Nodes.{Makes, number_at, IsWire};
 
-use crate::nodes::{Wire, length_of, slice, two};
+use elab_node::{Wire, length_of, slice, two};
 use std::alloc::AllocError;
 use word_dag::{Dag, Op};
 use write_laws::bits_are_written;

@@ -307,7 +307,12 @@ fn run_items(
     let mut left = items.len();
     while left > 0 {
         left -= 1;
-        let body = covered(&items[left], before, state);
+        let item = &items[left];
+        // no label of the default matches
+        if is_default(&item.labels) {
+            continue;
+        }
+        let body = covered(item, before, state);
         branch(
             alloc,
             dag,

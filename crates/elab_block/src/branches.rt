@@ -6,8 +6,7 @@ ghost use Rattle.elab_node.specs.Nodes.{Makes, IsNode, number_at};
 ghost use Rattle.elab_block.specs.Saving.{node_at, saved_at, places_of, put_back, AreWithin, AreSaved};
 ghost use Rattle.elab_block.specs.Runs.{Joins};
 
-use crate::nodes::{Wire, choice};
-use elab_node::Leaves;
+use elab_node::{Leaves, Wire, choice};
 use std::alloc::{AllocError, Global};
 use word_dag::Dag;
 

@@ -6,16 +6,14 @@ ghost use Rattle.vlog_tree.specs.declared.stmt.Labels.TheVariants as b;
 ghost use Rattle.vlog_tree.specs.Value.{bit, value_of};
 ghost use Rattle.vlog_runs.specs.Blocks.{ignored};
 ghost use Rattle.elab_node.specs.Leaves.{AreReady, declared, valued};
-ghost use Rattle.elab_node.specs.Nodes.{Makes, IsNode, number_at, words};
-ghost use Rattle.elab_block.specs.Wires.{IsWire};
+ghost use Rattle.elab_node.specs.Nodes.{Makes, IsNode, number_at, words, IsWire};
 ghost use Rattle.elab_block.specs.Ready.{IsPlaced, ArePlaced};
 ghost use Rattle.elab_block.specs.Cases.{is_same_but, is_match, is_chosen};
 
-use crate::codes::low_bits;
-use crate::nodes::{Wire, constant, length_of, two};
-use elab_node::{Leaves, node_of};
+use elab_node::{Leaves, Wire, constant, length_of, node_of, two};
 use std::alloc::AllocError;
 use vlog_tree::{CaseKind, Expr, Labels};
+use vlog_value::low_bits;
 use word_dag::{Dag, Op};
 
 // The bits of a label that aren't compared.

@@ -4,12 +4,10 @@ ghost use Rattle.word_dag.specs.Adding.{Keeps};
 ghost use Rattle.vlog_tree.specs.Value.{integer};
 ghost use Rattle.vlog_runs.specs.Places.{write_bits};
 ghost use Rattle.elab_node.specs.Indexed.{is_same};
-ghost use Rattle.elab_node.specs.Nodes.{Makes, number_at};
-ghost use Rattle.elab_block.specs.Wires.{IsWire};
+ghost use Rattle.elab_node.specs.Nodes.{Makes, number_at, IsWire};
 
 use crate::bits::written;
-use crate::codes::{code_of, hit};
-use crate::nodes::{Wire, choice, length_of};
+use elab_node::{Own, Wire, choice, code_of, hit, length_of};
 use std::alloc::AllocError;
 use word_dag::Dag;
 use write_laws::bits_are_written;
@@ -19,13 +17,6 @@ use write_laws::bits_are_written;
 pub struct Change {
     pub old: Wire,
     pub bits: Wire,
-}
-
-/// A word that is taken by itself, and its sign.
-#[derive(Clone, Copy)]
-pub struct Own {
-    pub wire: Wire,
-    pub signed: bool,
 }
 
 // The word with its change at this place where another word has this number, and a third one where it hasn't.

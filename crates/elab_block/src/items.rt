@@ -5,15 +5,12 @@ ghost use Rattle.vlog_tree.specs.Value.{IsFormed, bit};
 ghost use Rattle.vlog_value.specs.Shapes.{HasShape, each_formed};
 ghost use Rattle.vlog_runs.specs.Blocks.{widest, all_signed, case_width, case_sign, exprs_in};
 ghost use Rattle.elab_node.specs.Leaves.{AreReady, declared, valued};
-ghost use Rattle.elab_node.specs.Nodes.{Makes, number_at, words};
-ghost use Rattle.elab_block.specs.Wires.{IsWire};
+ghost use Rattle.elab_node.specs.Nodes.{Makes, number_at, words, IsWire};
 ghost use Rattle.elab_block.specs.Ready.{ArePlaced};
 ghost use Rattle.elab_block.specs.Cases.{is_chosen, each_labels, AreMatches};
 
 use crate::cases::any_node;
-use crate::left::shape;
-use crate::nodes::{Wire, constant};
-use elab_node::{Leaves, node_of};
+use elab_node::{Leaves, Wire, constant, node_of, shape};
 use std::alloc::{AllocError, Global};
 use vlog_tree::{CaseItem, CaseKind, Expr, Labels};
 use word_dag::Dag;

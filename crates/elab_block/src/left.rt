@@ -6,23 +6,19 @@ ghost use Rattle.vlog_tree.specs.declared.stmt.Lval.TheVariants as l;
 ghost use Rattle.vlog_tree.specs.Value.{Stands, IsFormed, NamesOnly, IsPartConstant, operand_of, own_integer, part_width, natural};
 ghost use Rattle.vlog_tree.specs.Valuation.{IsLength};
 ghost use Rattle.vlog_runs.specs.Places.{read};
-ghost use Rattle.vlog_value.specs.Shapes.{HasShape};
 ghost use Rattle.elab_node.specs.Leaves.{AreReady, declared};
 ghost use Rattle.elab_node.specs.Terms.{nothing};
 ghost use Rattle.vlog_tree.specs.declared.expr.Span.TheVariants as w;
 ghost use Rattle.elab_block.specs.Ready.{IsSingle, IsReadyLeft, EachReadyLeft};
 ghost use Rattle.elab_block.specs.Lefts.{IsLeafAt, IsIndex, IsPart, AreParts};
 
-use crate::codes::integer;
-use crate::indexed::Own;
-use crate::nodes::Wire;
 use crate::targets::{Spot, Target};
-use elab_node::{Leaves, node_of};
+use elab_node::{Leaves, Own, Wire, node_of, shape};
 use outside::Text;
 use sqlite_items::Items;
 use std::alloc::{AllocError, Global};
 use vlog_tree::{Expr, Lval, Span};
-use vlog_value::{checked_own_value, shape_of};
+use vlog_value::{checked_own_value, integer};
 use word_dag::Dag;
 
 /// The number of a name's leaf.
@@ -32,17 +28,6 @@ pub fn leaf_number(name: &Text, leaves: &Leaves) -> usize
 {
     match leaves.place(name.bytes(), 0) {
         Some(number) => number,
-        None => unreachable!(),
-    }
-}
-
-/// The length and the sign that an expression has by itself.
-pub fn shape(expr: &Expr, leaves: &Leaves) -> (u8, bool)
-    requires { IsFormed (declared leaves.now) expr.now }
-    ensures { HasShape (declared leaves.now) expr.now result.0 result.1 }
-{
-    match shape_of(expr, leaves.declared()) {
-        Some(shape) => shape,
         None => unreachable!(),
     }
 }

@@ -14,9 +14,8 @@ ghost use Rattle.elab_block.specs.Cases.{each_labels, case_test};
 
 use crate::items::item_tests;
 use crate::left::targets_of;
-use crate::nodes::Wire;
 use crate::targets::{Target, give};
-use elab_node::{Leaves, assigned_node, holds_node};
+use elab_node::{Leaves, Wire, assigned_node, holds_node};
 use std::alloc::{AllocError, Global};
 use vlog_tree::{CaseItem, CaseKind, Expr, Lval};
 use word_dag::Dag;

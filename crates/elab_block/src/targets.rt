@@ -1,19 +1,21 @@
 // Numbers given to the parts of a left side.
-ghost use Rattle.std.specs.Prelude.{◌≡◌, ◌+◌, ◌≤◌, IfOk};
+ghost use Rattle.std.specs.Prelude.{◌≡◌, ◌+◌, ◌≤◌, ◌^◌, IfOk, IfSome, pos, negsuc, ◌≤ℤ◌, ◌<ℤ◌, ◌-ℤ◌};
+ghost use Rattle.word_dag.specs.Nodes.{Naming};
 ghost use Rattle.word_dag.specs.Adding.{Keeps};
+ghost use Rattle.vlog_tree.specs.Value.{integer};
 ghost use Rattle.elab_node.specs.Leaves.{AreReady, declared};
-ghost use Rattle.elab_node.specs.Nodes.{Makes, number_at};
+ghost use Rattle.elab_node.specs.Nodes.{Makes, number_at, IsWire, wire_word};
 ghost use Rattle.vlog_runs.specs.Places.{write_bits};
-ghost use Rattle.elab_block.specs.Wires.{IsWire};
 ghost use Rattle.elab_block.specs.Standing.{AreApart};
 ghost use Rattle.elab_block.specs.Targets.{IsSpot, IsTarget, AreTargets, bits_in, bit_at, Puts, PutsFrom, Gives};
 
 use crate::bits::written;
-use crate::indexed::{Change, Own, indexed};
-use crate::nodes::{Wire, length_of, slice};
-use elab_node::Leaves;
+use crate::indexed::{Change, indexed};
+use elab_node::{Leaves, Own, Wire, length_of, slice};
 use std::alloc::AllocError;
-use word_dag::Dag;
+use vlog_value::integer;
+use word_core::Word;
+use word_dag::{Dag, Node};
 
 /// Where the bits of a part begin, counted from the lowest bit of its signal.
 #[derive(Clone, Copy)]
@@ -31,6 +33,42 @@ pub struct Target {
     pub count: u8,
 }
 
+// The word of a node that is a constant.
+fn constant_word(dag: &Dag, a: Wire) -> Option<Word>
+    requires { IsWire dag.now a }
+    ensures { IfSome result (λ w. (e : Naming) → wire_word e dag.now a ≡ w) }
+{
+    // the nodes of a dag fit
+    let _fit = dag.nodes();
+    match dag.node(a.node) {
+        Node::Const(word) => Some(*word),
+        _ => None,
+    }
+}
+
+// A word after bits are written in it at an index. A constant one names a single place.
+fn changed_at(dag: &mut Dag, change: Change, index: Own, from: i128) -> Result<u64, AllocError>
+    requires old { IsWire dag.old change.old }
+    requires bits { IsWire dag.old change.bits }
+    requires index { IsWire dag.old index.wire }
+    requires low { negsuc (2 ^ 80) ≤ℤ from }
+    requires high { from <ℤ pos (2 ^ 80) }
+    ensures keeps { Keeps dag.old dag.new }
+    ensures makes { IfOk result (λ r. Makes dag.new r change.old.width (λ e. write_bits change.old.width (integer index.signed index.wire.width (number_at e dag.old index.wire.node) -ℤ from) change.bits.width (number_at e dag.old change.bits.node) (number_at e dag.old change.old.node))) }
+{
+    match constant_word(dag, index.wire) {
+        Some(word) => {
+            let at = integer(word, index.signed) - from;
+            let number = written(dag, change.old, change.bits, at)?;
+            Ok(number)
+        }
+        None => {
+            let number = indexed(dag, change, index, from)?;
+            Ok(number)
+        }
+    }
+}
+
 // A word after bits are written in it at a spot.
 fn changed(dag: &mut Dag, change: Change, spot: Spot) -> Result<u64, AllocError>
     requires old { IsWire dag.old change.old }
@@ -45,7 +83,7 @@ fn changed(dag: &mut Dag, change: Change, spot: Spot) -> Result<u64, AllocError>
             Ok(number)
         }
         Spot::Indexed(index, from) => {
-            let number = indexed(dag, change, index, from)?;
+            let number = changed_at(dag, change, index, from)?;
             Ok(number)
         }
     }

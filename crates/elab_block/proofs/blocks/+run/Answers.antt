@@ -2,7 +2,7 @@ use Rattle.std.proofs.Common.{ℕ, ◌≡◌, ◌+◌, ◌-◌, ◌<◌, ◌≤�
 use Rattle.std.specs.Prelude.{not}
 use Rattle.std.specs.Option.{option_copied}
 use Rattle.vlog_tree.specs.declared.stmt.CaseItem.{CaseItem}
-use Rattle.vlog_runs.specs.Blocks.{run, seen, is_false, case_width, case_sign}
+use Rattle.vlog_runs.specs.Blocks.{is_default, run, seen, is_false, case_width, case_sign}
 use Rattle.elab_node.specs.Leaves.{declared}
 use Rattle.elab_node.proofs.Kept.{keeps_same, keeps_then, ready_kept}
 use Rattle.elab_block.specs.Ready.{IsReadyStmt, ArePlaced}
@@ -13,7 +13,7 @@ use Rattle.elab_block.specs.Saving.{places_of, AreSaved, IsSaved, IsAway}
 use Rattle.elab_block.specs.Sparing.{ItemsSpare, EachCovered}
 use Rattle.elab_block.specs.Targets.{name_at}
 use Rattle.elab_block.specs.Runs.{is_at_once, Runs, Branches, AreBits, AreTests, Picks}
-use Rattle.elab_block.proofs.Picking.{case_ready, case_runs, bits_kept, bits_long, bit_at, ready_item, picking_next, picking_end, covered_item}
+use Rattle.elab_block.proofs.Picking.{case_ready, case_runs, bits_kept, bits_long, bit_at, ready_item, picking_next, picking_skip, picking_end, covered_item}
 use Rattle.elab_block.proofs.Saving.{saved_own, saved_within, saved_is, covers_same, each_same}
 use Rattle.elab_block.proofs.Storing.{set_next, branch_is, choose_runs, stay_runs, runs_to, runs_from, tests_kept, if_runs, if_else_runs, if_ready, if_else_ready, block_runs, runs_same, each_ready, running_at, running_end}
 use Rattle.elab_block.proofs.blocks.+run.Goals as goal
@@ -224,12 +224,20 @@ run_items-bit-requires t c =
     let lt : c.loop-left.left - 1 < length c.args.items.now = omega (arith, h.within, c.loop-left-test.true) in
     bit_at c.args.items.now c.args.tests.now c.loop-left.dag (c.loop-left.left - 1) 0 h.bits lt
 
+pub run_items-loop-left-preserved-then-is_default : goal.run_items-loop-left-preserved-then-is_default
+run_items-loop-left-preserved-then-is_default t c =
+    let is : c.loop-left.left ≡ c.loop-left.left - 1 + 1 = omega (arith, c.loop-left-test.true) in
+    picking_skip (option_copied c.args.reads) c.args.items.now c.args.tests.now c.args.before.now c.args.state.now c.loop-left.state c.args.dag.now c.loop-left.dag
+    c.loop-left.left (c.loop-left.left - 1) c.index-items-left.result is c.requires.tests c.loop-left.invariant
+    (ap (λ (i : CaseItem). is_default i.labels) (sym c.index-items-left.is) ∙ (sym c.is_default.ensures ∙ c.if-is_default.true))
+
 pub run_items-loop-left-preserved : goal.run_items-loop-left-preserved
 run_items-loop-left-preserved t c =
     let r = c.in_ok-branch.ensures in
     let is : c.loop-left.left ≡ c.loop-left.left - 1 + 1 = omega (arith, c.loop-left-test.true) in
     picking_next (option_copied c.args.reads) c.args.items.now c.args.tests.now c.args.before.now c.args.before.now c.args.state.now c.loop-left.state c.branch-alloc.new.state c.args.dag.now c.loop-left.dag c.branch-alloc.new.dag
     c.loop-left.left (c.loop-left.left - 1) c.bit.result c.index-items-left.result c.covered-body.result.now is c.requires.set c.requires.before c.requires.covers c.requires.tests c.loop-left.invariant
+    (ap (λ (i : CaseItem). is_default i.labels) (sym c.index-items-left.is) ∙ (sym c.is_default.ensures ∙ c.if-is_default.false))
     (c.covered-body.ensures.same ∙ ap (λ (i : CaseItem). i.body) c.index-items-left.is) c.bit.ensures.same refl r.keeps r.same r.set r.branches
 
 pub run_items-returns-clause-picks : goal.run_items-returns-clause-picks
