@@ -1,12 +1,10 @@
--- The places in a set, and the signals of a list at some places.
+-- The signals of a list at some places.
 use Rattle.std.proofs.Common.{◌≡◌, ℕ, zero, suc, ◌+◌, ◌<◌, ◌≤◌, ◌↔◌, inl, inr, Bool, true, false, List, [], ◌∷◌, ◌++◌, length, get_or, drop, append_assoc, Some, arith, refl, sym, ap, ◌∙◌, subst}
 use Rattle.std.specs.List.{slice_get}
 use Rattle.std.proofs.lemmas.List.{append-nil}
 use Rattle.vlog_runs.specs.declared.flat.Signal.{Signal}
 use Rattle.vlog_runs.specs.Places.{Name, Among}
-use Rattle.elab_flow.specs.Marks.{IsPlaceOf, Adds}
-use Rattle.elab_flow.specs.Own.{places_from, AreSignalsAt}
-use Rattle.elab_flow.specs.Sets.{Has}
+use Rattle.elab_flow.specs.Own.{AreSignalsAt}
 use Rattle.elab_flow.specs.Shows.{IsAt}
 use Rattle.elab_flow.specs.Words.{IsSignalAt}
 use Rattle.elab_flow.proofs.Marking.{cut, drop_past}
@@ -14,6 +12,18 @@ use Rattle.elab_flow.proofs.Setting.{among_signals, one_signal}
 
 pub some_is : {A : Type 0} (x y : A) → Some x ≡ Some y → x ≡ y
 some_is x y e = cc
+
+-- ---- what stands at a place
+
+pub got : (xs : List ℕ) (j m d : ℕ) → slice_get xs j ≡ Some m → get_or xs j d ≡ m
+got [] j m d e = cc
+got (x ∷ xs) zero m d e = some_is x m e
+got (x ∷ xs) (suc j) m d e = got xs j m d e
+
+pub got_lt : (xs : List ℕ) (j m : ℕ) → slice_get xs j ≡ Some m → j < length xs
+got_lt [] j m e = cc
+got_lt (x ∷ xs) zero m e = omega arith
+got_lt (x ∷ xs) (suc j) m e = let h : j < length xs = got_lt xs j m e in omega arith
 
 -- ---- signals of a list
 
@@ -26,46 +36,6 @@ pub name_there : (gs : List Signal) (i : ℕ) (g : Signal) (x : Name) → IsSign
 name_there [] i g x a e = absurd a
 name_there (k ∷ gs) zero g x a e = ap (λ (z : Signal). z.name) a ∙ e
 name_there (k ∷ gs) (suc i) g x a e = name_there gs i g x a e
-
--- ---- places in a set
-
-no_place : false ≡ true → ⊥
-no_place e = cc
-
-pub has_place : (k : ℕ) (set : List Bool) (m n : ℕ) → n ≡ k + m → Has set m → Among (places_from k set) n
-has_place k [] m n e h = absurd (no_place h)
-has_place k (true ∷ set) zero n e h = inl (let i : n ≡ k + zero = e in omega arith)
-has_place k (false ∷ set) zero n e h = absurd (no_place h)
-has_place k (true ∷ set) (suc m) n e h = inr (has_place (suc k) set m n (let i : n ≡ k + suc m = e in omega arith) h)
-has_place k (false ∷ set) (suc m) n e h = has_place (suc k) set m n (let i : n ≡ k + suc m = e in omega arith) h
-
-pub from_zero : (i : ℕ) → i ≡ 0 + i
-from_zero i = omega arith
-
-not_before : (k : ℕ) (set : List Bool) (j m : ℕ) → slice_get (places_from k set) j ≡ Some m → k ≤ m
-not_before k [] j m e = cc
-not_before k (true ∷ set) zero m e = let i : k ≡ m = some_is k m e in omega arith
-not_before k (true ∷ set) (suc j) m e = let i : suc k ≤ m = not_before (suc k) set j m e in omega arith
-not_before k (false ∷ set) j m e = let i : suc k ≤ m = not_before (suc k) set j m e in omega arith
-
--- each stands there once
-pub once : (k : ℕ) (set : List Bool) (i j m : ℕ) → slice_get (places_from k set) i ≡ Some m → slice_get (places_from k set) j ≡ Some m → i ≡ j
-once k [] i j m a b = cc
-once k (true ∷ set) zero zero m a b = refl
-once k (true ∷ set) zero (suc j) m a b = let e : k ≡ m = some_is k m a in let l : suc k ≤ m = not_before (suc k) set j m b in absurd (omega arith)
-once k (true ∷ set) (suc i) zero m a b = let e : k ≡ m = some_is k m b in let l : suc k ≤ m = not_before (suc k) set i m a in absurd (omega arith)
-once k (true ∷ set) (suc i) (suc j) m a b = ap suc (once (suc k) set i j m a b)
-once k (false ∷ set) i j m a b = once (suc k) set i j m a b
-
-pub places_within : (k : ℕ) (set : List Bool) (m : ℕ) → Among (places_from k set) m → m < k + length set
-places_within k [] m h = absurd h
-places_within k (true ∷ set) m (inl e) = let i : k ≡ m = e in omega arith
-places_within k (true ∷ set) m (inr h) = let i : m < suc k + length set = places_within (suc k) set m h in omega arith
-places_within k (false ∷ set) m h = let i : m < suc k + length set = places_within (suc k) set m h in omega arith
-
--- a set to which the places of names were added alone
-pub only_named : (names xs : List Name) (old new : List Bool) → ((i : ℕ) → Has old i → ⊥) → Adds names xs old new → (i : ℕ) → Has new i ↔ IsPlaceOf names xs i
-only_named names xs old new none h i = (λ k. elim ((h i).0 k) [ inl f ↦ absurd (none i f) | inr f ↦ f ], λ k. (h i).1 (inr k))
 
 -- ---- signals at places
 

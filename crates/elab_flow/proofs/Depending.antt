@@ -30,7 +30,8 @@ use Rattle.elab_flow.specs.Asked.{CanPass}
 use Rattle.elab_flow.specs.Edges.{edge, part_place, part_places, pairs, assign_edges, AnyBlockEdge, AreDependences}
 use Rattle.elab_flow.specs.Sets.{Has}
 use Rattle.elab_flow.specs.Shows.{IsAt, Marks}
-use Rattle.elab_flow.proofs.Marking.{reads_names, parts_names}
+use Rattle.elab_flow.proofs.Marking.{parts_names}
+use Rattle.elab_flow.proofs.Stating.{side_names, swapped, listed, listing}
 use Rattle.elab_flow.proofs.Setting.{among_signals}
 use Rattle.elab_flow.proofs.Placing.{place_name, place_of_name, shown_signal}
 use Rattle.elab_flow.proofs.Showing.{at_lt}
@@ -55,43 +56,6 @@ rows_long rows n e = sym (graph_long rows) ∙ (ap length e ∙ length-replicate
 
 pub no_edges : (rows : List Row) (n i j : ℕ) → graph_of rows ≡ replicate n [] → Lists (successors (graph_of rows) i) j → ⊥
 no_edges rows n i j e h = subst (λ z. Lists z j) (ap (λ g. successors g i) e ∙ empty_row n i) h
-
--- ---- names that an assignment reads
-
-mutual
-  left_reads_names : (left : Lval) → map part_name (left_reads left) ≡ flat_map names_in (numbers_in left)
-  left_reads_names (l.Name x) = refl
-  left_reads_names (l.Select x a) = map-append part_name (reads_of a) [] ∙ ap (λ z. z ++ []) (sym (reads_names a))
-  left_reads_names (l.Part x span a c) =
-      let k : map part_name (reads_of a ++ reads_of c) ≡ names_in a ++ names_in c = map-append part_name (reads_of a) (reads_of c) ∙ (λ i. sym (reads_names a) i ++ sym (reads_names c) i) in
-      map-append part_name (reads_of a ++ reads_of c) [] ∙ (ap (λ z. z ++ []) k ∙ assoc (names_in a) (names_in c))
-    where
-      assoc : (xs ys : List Name) → (xs ++ ys) ++ [] ≡ xs ++ (ys ++ [])
-      assoc [] ys = refl
-      assoc (x ∷ xs) ys = ap (λ z. x ∷ z) (assoc xs ys)
-  left_reads_names (l.Concat' g row) = row_reads_names row
-
-  row_reads_names : {n : _} (row : Row_of-Lval n) → map part_name (flat_map part_reads (row_parts_of row)) ≡ flat_map names_in (row_numbers_in row)
-  row_reads_names end_of-Lval = refl
-  row_reads_names (more_of-Lval a rest) =
-      ap (map part_name) (flat_append part_reads (parts_of a) (row_parts_of rest)) ∙ (map-append part_name (left_reads a) (flat_map part_reads (row_parts_of rest))
-      ∙ ((λ i. left_reads_names a i ++ row_reads_names rest i) ∙ sym (flat_append names_in (numbers_in a) (row_numbers_in rest))))
-
-assign_names : (a : Assign) → map part_name (left_reads a.left ++ reads_of a.right) ≡ flat_map names_in (numbers_in a.left) ++ names_in a.right
-assign_names a = map-append part_name (left_reads a.left) (reads_of a.right) ∙ (λ i. left_reads_names a.left i ++ sym (reads_names a.right) i)
-
-swapped : (xs ys : List Name) (z : Name) → Among (xs ++ ys) z → Among (ys ++ xs) z
-swapped xs ys z h = elim (among_append xs ys z h) [ inl f ↦ append_right ys xs z f | inr f ↦ append_left ys xs z f ]
-
--- ---- places of parts
-
-listed : (o : Option ℕ) (i : ℕ) → Among (option_to_list o) i → o ≡ Some i
-listed None i h = absurd h
-listed (Some x) i (inl e) = ap Some e
-listed (Some x) i (inr e) = absurd e
-
-listing : (o : Option ℕ) (i : ℕ) → o ≡ Some i → Among (option_to_list o) i
-listing o i e = subst (λ z. Among (option_to_list z) i) (sym e) (inl refl)
 
 module _ (m : Flat) (can : CanPass m) where
   abbrev gs : List Signal
@@ -144,14 +108,14 @@ module _ (m : Flat) (can : CanPass m) where
             a,
             r.1,
             subst (λ xs. Among xs y) (sym (parts_names a.left)) ((place_named (parts_of a.left) i y p).0 k.0),
-            swapped (flat_map names_in (numbers_in a.left)) (names_in a.right) z (subst (λ xs. Among xs z) (assign_names a) ((place_named (left_reads a.left ++ reads_of a.right) j z q).0 k.1)),
+            swapped (flat_map names_in (numbers_in a.left)) (names_in a.right) z (subst (λ xs. Among xs z) (side_names a.left a.right) ((place_named (left_reads a.left ++ reads_of a.right) j z q).0 k.1)),
           )
 
       back : Assigned y z → Among (flat_map (assign_edges names) m.assigns) (edge i j)
       back (a, among, left, reads) =
           flat_among (assign_edges names) m.assigns a (edge i j) among
           (pairing (part_places names (parts_of a.left)) (part_places names (left_reads a.left ++ reads_of a.right)) i j ((place_named (parts_of a.left) i y p).1 (subst (λ xs. Among xs y) (parts_names a.left) left))
-          ((place_named (left_reads a.left ++ reads_of a.right) j z q).1 (subst (λ xs. Among xs z) (sym (assign_names a)) (swapped (names_in a.right) (flat_map names_in (numbers_in a.left)) z reads))))
+          ((place_named (left_reads a.left ++ reads_of a.right) j z q).1 (subst (λ xs. Among xs z) (sym (side_names a.left a.right)) (swapped (names_in a.right) (flat_map names_in (numbers_in a.left)) z reads))))
 
   -- ---- all edges
 

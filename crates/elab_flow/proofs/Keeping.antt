@@ -17,7 +17,7 @@ use Rattle.elab_flow.specs.Sets.{at}
 use Rattle.elab_flow.specs.Shows.{IsAt}
 use Rattle.elab_flow.proofs.Placing.{named_signal}
 use Rattle.elab_flow.proofs.Agreeing.{misses_moves, unset_moves, depends_moves, outside_moves}
-use Rattle.elab_flow.proofs.Choosing.{some_is, signal_place, name_there, whole_place}
+use Rattle.elab_flow.proofs.Choosing.{some_is, got, got_lt, signal_place, name_there, whole_place}
 use Rattle.elab_flow.proofs.Naming.{depends_named}
 use Rattle.elab_flow.proofs.Owning.{no_memories}
 
@@ -48,16 +48,6 @@ module _ (gs : List Signal) (v : AreVectors gs) (body : Stmt) (places : List ℕ
 
   pub besides_own : (listed : List Name) (x : Name) → ReadsBesides (place_over gs) body listed x → ReadsBesides (place_over hs) body listed x
   besides_own listed x (r, absent) = (outside_moves gs hs memoryless memoryless' body own.alike x r, absent)
-
-  got : (xs : List ℕ) (j m d : ℕ) → slice_get xs j ≡ Some m → get_or xs j d ≡ m
-  got [] j m d e = cc
-  got (x ∷ xs) zero m d e = some_is x m e
-  got (x ∷ xs) (suc j) m d e = got xs j m d e
-
-  got_lt : (xs : List ℕ) (j m : ℕ) → slice_get xs j ≡ Some m → j < length xs
-  got_lt [] j m e = cc
-  got_lt (x ∷ xs) zero m e = omega arith
-  got_lt (x ∷ xs) (suc j) m e = let h : j < length xs = got_lt xs j m e in omega arith
 
   -- a place among its own signals is within the list of their places, which gives the one among all
   pub place_kept : (j d : ℕ) (x : Name) → IsAt hs j x → (j < length places) × IsAt gs (get_or places j d) x

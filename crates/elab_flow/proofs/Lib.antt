@@ -12,10 +12,12 @@ pub mod Blocks
 pub mod Starting
 pub mod Finding
 pub mod Edging
+pub mod Stating
 pub mod Depending
 pub mod Naming
 pub mod Forming
 pub mod Agreeing
 pub mod Choosing
+pub mod Rising
 pub mod Owning
 pub mod Keeping

@@ -1,6 +1,7 @@
 -- The signals of a list that a statement names: it can be passed through among them.
-use Rattle.std.proofs.Common.{◌≡◌, ℕ, ◌⊎◌, inl, inr, Bool, List, [], ◌∷◌, ◌++◌, map, Option, Some, None, refl, sym, ap, ◌∙◌, subst}
-use Rattle.std.specs.List.{flat_map, slice_get}
+use Rattle.std.proofs.Common.{◌≡◌, ℕ, ◌<◌, ◌⊎◌, inl, inr, List, [], ◌∷◌, ◌++◌, map, length, Option, Some, None, refl, sym, ap, ◌∙◌, subst}
+use Rattle.std.specs.List.{flat_map}
+use Rattle.std.specs.List.Sorted.{IsStrictlyIncreasing}
 use Rattle.vlog_tree.specs.declared.expr.Expr.{Expr}
 use Rattle.vlog_tree.specs.declared.stmt.Lval.{Lval}
 use Rattle.vlog_tree.specs.declared.stmt.Stmt.{Stmt, Row_of-Stmt, end_of-Stmt, more_of-Stmt, Row_of-CaseItem, end_of-CaseItem, more_of-CaseItem}
@@ -16,13 +17,14 @@ use Rattle.elab_drive.specs.Spots.{signal_name}
 use Rattle.elab_drive.specs.Pieces.{Action, Tests, Assigns, Schedules, actions, row_actions, case_actions}
 use Rattle.elab_flow.specs.Asked.{AreVectors, IsPassable}
 use Rattle.elab_flow.specs.Marks.{IsPlaceOf}
-use Rattle.elab_flow.specs.Own.{names_of, DeclareAlike, places_from, AreSignalsAt, AreOwn}
+use Rattle.elab_flow.specs.Own.{names_of, DeclareAlike, AreSignalsAt, AreOwn}
 use Rattle.elab_flow.specs.Ready.{IsReady, AreReady, AreItemsReady}
-use Rattle.elab_flow.specs.Sets.{Has}
 use Rattle.elab_flow.specs.Shows.{AreDistinct, AreDeclared, AreAllDeclared, RowDeclared, ItemsDeclared}
-use Rattle.elab_flow.proofs.Placing.{named_signal, place_of_name, shape_of}
+use Rattle.elab_flow.proofs.Placing.{named_signal, place_name, place_of_name, shape_of}
+use Rattle.elab_flow.proofs.Showing.{at_lt}
 use Rattle.elab_flow.proofs.Agreeing.{ActAlike, acts, first_acts, other_acts, later_acts, tested, compared, comparable_moves}
-use Rattle.elab_flow.proofs.Choosing.{signal_place, name_there, has_place, from_zero, once, whole_place, own_place, whole_signal}
+use Rattle.elab_flow.proofs.Choosing.{signal_place, name_there, whole_place, own_place, whole_signal}
+use Rattle.elab_flow.proofs.Rising.{once}
 
 option_cases : {A : Type 0} (o : Option A) → (o ≡ None) ⊎ ((a : A) × (o ≡ Some a))
 option_cases None = inl refl
@@ -120,18 +122,20 @@ module _ (gs hs : List Signal) (vectors : AreNoMemories gs) (vectors' : AreNoMem
 
 -- ---- the signals of a statement
 
+pub placed_within : (gs : List Signal) (body : Stmt) (i : ℕ) → IsPlaceOf (map signal_name gs) (names_of body) i → i < length gs
+placed_within gs body i (x, m, e) = at_lt gs i x (place_name gs x i e)
+
 pub no_memories : (gs : List Signal) → AreVectors gs → AreNoMemories gs
 no_memories gs v g m = (v.narrow g m).depth
 
-module _ (gs : List Signal) (v : AreVectors gs) (body : Stmt) (set : List Bool) (places : List ℕ) (hs : List Signal) (chosen : places ≡ places_from 0 set)
-    (marks : (i : ℕ) → IsPlaceOf (map signal_name gs) (names_of body) i → Has set i) (there : AreSignalsAt gs places hs) where
+module _ (gs : List Signal) (v : AreVectors gs) (body : Stmt) (places : List ℕ) (hs : List Signal) (rises : IsStrictlyIncreasing places)
+    (all : (i : ℕ) → IsPlaceOf (map signal_name gs) (names_of body) i → Among places i) (there : AreSignalsAt gs places hs) where
   own_distinct : AreDistinct hs
   own_distinct i j x a b =
       let r = whole_place gs places hs there i x a in
       let r' = whole_place gs places hs there j x b in
       let e = v.distinct r.0 r'.0 x r.2 r'.2 in
-      let at : (k m : ℕ) → slice_get places k ≡ Some m → slice_get (places_from 0 set) k ≡ Some m = λ k m h. ap (λ z. slice_get z k) (sym chosen) ∙ h in
-      once 0 set i j r'.0 (at i r'.0 (r.1 ∙ ap Some e)) (at j r'.0 r'.1)
+      once places rises i j r'.0 (r.1 ∙ ap Some e) r'.1
 
   own_vectors : AreVectors hs
   own_vectors = record {
@@ -145,8 +149,7 @@ module _ (gs : List Signal) (v : AreVectors gs) (body : Stmt) (set : List Bool) 
       let k = at_among gs x g e in
       let i = signal_place gs g k.0 in
       let a = name_there gs i.0 g x i.1 k.1 in
-      let has = has_place 0 set i.0 i.0 (from_zero i.0) (marks i.0 (x, m, place_of_name gs v.distinct x i.0 a)) in
-      let j = own_place gs places hs there i.0 g (subst (λ z. Among z i.0) (sym chosen) has) i.1 in
+      let j = own_place gs places hs there i.0 g (all i.0 (x, m, place_of_name gs v.distinct x i.0 a)) i.1 in
       shape_of hs x j.0 g (place_of_name hs own_distinct x j.0 (name_there hs j.0 g x j.1 k.1)) j.1
 
   none_alike : (x : Name) → signal_at gs x ≡ None → signal_at hs x ≡ None

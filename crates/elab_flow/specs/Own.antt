@@ -1,11 +1,15 @@
 -- The signals of a list that a statement names.
-use Rattle.std.specs.Prelude.{ℕ, suc, ◌≡◌, ◌++◌, Bool, List, [], ◌∷◌, if◌then◌else◌}
+use Rattle.std.specs.Prelude.{ℕ, ◌≡◌, ◌++◌, List, [], ◌∷◌}
 use Rattle.std.specs.List.{flat_map}
+use Rattle.vlog_tree.specs.declared.stmt.Lval.{Lval}
 use Rattle.vlog_tree.specs.declared.stmt.Stmt.{Stmt}
 use Rattle.vlog_runs.specs.declared.flat.Signal.{Signal}
 use Rattle.vlog_runs.specs.Places.{Name, Among}
 use Rattle.vlog_runs.specs.Blocks.{signal_at, left_names}
 use Rattle.flat_faults.specs.Texts.{names_in, numbers_in}
+use Rattle.elab_faults.specs.Drivers.{parts_of}
+use Rattle.elab_drive.specs.Parts.{reads_of}
+use Rattle.elab_drive.specs.Wanting.{left_reads}
 use Rattle.elab_drive.specs.Pieces.{Action, Tests, Assigns, Schedules, actions}
 use Rattle.elab_flow.specs.Asked.{AreVectors, IsPassable}
 use Rattle.elab_flow.specs.Words.{IsSignalAt}
@@ -20,14 +24,15 @@ action_names (Schedules left right) = left_names left ++ flat_map names_in (righ
 abbrev pub names_of : Stmt → List Name
 names_of body = flat_map action_names (actions body)
 
+-- the parts of signals in what a statement does at one place of its text
+abbrev pub action_parts : Action → List Lval
+action_parts (Tests a) = reads_of a
+action_parts (Assigns left right) = parts_of left ++ (left_reads left ++ reads_of right)
+action_parts (Schedules left right) = parts_of left ++ (left_reads left ++ reads_of right)
+
 -- two lists of signals declare some names alike
 abbrev pub DeclareAlike : List Signal → List Signal → List Name → Type 0
 DeclareAlike gs hs xs = (x : Name) → Among xs x → signal_at gs x ≡ signal_at hs x
-
--- the places in a set, from i on
-abbrev pub places_from : ℕ → List Bool → List ℕ
-places_from i [] = []
-places_from i (b ∷ bs) = if b then i ∷ places_from (suc i) bs else places_from (suc i) bs
 
 -- the signals at some places of a list, in their order
 abbrev pub AreSignalsAt : List Signal → List ℕ → List Signal → Type 0

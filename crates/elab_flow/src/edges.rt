@@ -2,20 +2,17 @@
 
 ghost use Rattle.std.specs.Prelude.{◌≡◌, ◌++◌, ◌+◌, ◌*◌, ◌<◌, ◌⊎◌, ◌↔◌, ℕ, false, map, length, IfOk, OnOk};
 ghost use Rattle.std.specs.List.{flat_map};
-ghost use Rattle.std.specs.Option.{option_to_list};
 ghost use Rattle.vlog_runs.specs.Places.{Among};
-ghost use Rattle.flat_scopes.specs.Finding.{place_in};
-ghost use Rattle.elab_drive.specs.Parts.{part_meant};
-ghost use Rattle.elab_drive.specs.Claims.{part_name};
 ghost use Rattle.elab_flow.specs.Asked.{AreVectors, IsPassable, ArePassable};
-ghost use Rattle.elab_flow.specs.Edges.{edge, moved_edge, part_place, part_places, pairs, assign_edges, IsCell, IsCellBelow, IsBlockEdge, AnyBlockEdge};
+ghost use Rattle.elab_flow.specs.Edges.{edge, moved_edge, pairs, assign_edges, IsCell, IsCellBelow, IsBlockEdge, AnyBlockEdge};
 ghost use Rattle.elab_flow.specs.declared.edges.Edge.{Edge as Arrow};
 ghost use Rattle.elab_flow.specs.Sets.{tables, IsSized};
 
 use crate::block::flow_of;
 use crate::own::{own_signals, whole_place};
+use crate::places::places_of;
 use crate::scope::Scope;
-use elab_drive::{Part, add_store_reads, name_of, parts_of};
+use elab_drive::{add_store_reads, parts_of};
 use flat_scopes::Names;
 use std::alloc::{AllocError, Global};
 use vlog_runs::Always;
@@ -29,25 +26,6 @@ pub struct Edge {
 }
 
 // ---- continuous assignments
-
-fn add_place(all: &mut Vec<usize>, names: &Names<'_>, part: Part<'_>) -> Result<(), AllocError>
-    ensures { OnOk result (all.new.items ≡ all.old.items ++ part_place names.now (part_meant part.entry)) }
-{
-    if let Some(place) = names.place(name_of(part).bytes()) {
-        all.push(place)?;
-    }
-    Ok(())
-}
-
-fn places_of(alloc: Global, names: &Names<'_>, parts: &[Part<'_>]) -> Result<Vec<usize>, AllocError>
-    ensures { IfOk result (λ r. r.items ≡ part_places names.now (map part_meant parts.now)) }
-{
-    let mut all = Vec::new(alloc);
-    for part in parts {
-        add_place(&mut all, names, *part)?;
-    }
-    Ok(all)
-}
 
 fn add_edges(all: &mut Vec<Edge>, from: usize, to: &[usize]) -> Result<(), AllocError>
     ensures { OnOk result (all.new.items ≡ all.old.items ++ map (edge from) to.now) }

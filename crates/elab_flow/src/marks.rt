@@ -1,22 +1,20 @@
-// The places of the names in expressions, left sides and statements.
+// The places of the names in expressions and left sides.
 
-ghost use Rattle.std.specs.Prelude.{◌≡◌, [], ◌∷◌, ◌++◌, map, length, OnOk};
+ghost use Rattle.std.specs.Prelude.{◌≡◌, [], ◌∷◌, map, length, OnOk};
 ghost use Rattle.std.specs.List.{flat_map};
 ghost use Rattle.vlog_runs.specs.Blocks.{left_names};
 ghost use Rattle.flat_faults.specs.Texts.{names_in, numbers_in};
 ghost use Rattle.flat_scopes.specs.Borrowed.{name_meant};
 ghost use Rattle.elab_drive.specs.Parts.{part_meant};
 ghost use Rattle.elab_drive.specs.Claims.{part_name};
-ghost use Rattle.elab_drive.specs.Pieces.{piece_meant};
 ghost use Rattle.elab_flow.specs.Cases.{expr_meant};
 ghost use Rattle.elab_flow.specs.Marks.{Adds};
-ghost use Rattle.elab_flow.specs.Own.{action_names, names_of};
 
-use elab_drive::{Part, Piece, name_of, parts_of, pieces_of, reads_of};
+use elab_drive::{Part, name_of, parts_of, reads_of};
 use flat_scopes::Names;
 use outside::Text;
 use std::alloc::{AllocError, Global};
-use vlog_tree::{Expr, Lval, Stmt};
+use vlog_tree::{Expr, Lval};
 
 fn mark(set: &mut [bool], names: &Names<'_>, name: &Text)
     requires { length set.old ≡ length names.now }
@@ -154,55 +152,6 @@ fn mark_all(
 {
     for expr in exprs {
         mark_reads(set, alloc, names, expr)?;
-    }
-    Ok(())
-}
-
-// Adds the places of the names that an assignment assigns and reads.
-fn mark_sides(
-    set: &mut [bool],
-    alloc: Global,
-    names: &Names<'_>,
-    left: &Lval,
-    right: &Expr,
-) -> Result<(), AllocError>
-    requires { length set.old ≡ length names.now }
-    ensures { OnOk result (Adds names.now (left_names left.now ++ flat_map names_in (right.now ∷ numbers_in left.now)) set.old set.new) }
-{
-    mark_left(set, alloc, names, left)?;
-    mark_assignment(set, alloc, names, left, right)
-}
-
-// Adds the places of the names at one place of a statement's text.
-fn mark_piece(
-    set: &mut [bool],
-    alloc: Global,
-    names: &Names<'_>,
-    piece: Piece<'_>,
-) -> Result<(), AllocError>
-    requires { length set.old ≡ length names.now }
-    ensures { OnOk result (Adds names.now (action_names (piece_meant piece.entry)) set.old set.new) }
-{
-    match piece {
-        Piece::Test(expr) => mark_reads(set, alloc, names, expr),
-        Piece::Blocking(left, right) => mark_sides(set, alloc, names, left, right),
-        Piece::Nonblocking(left, right) => mark_sides(set, alloc, names, left, right),
-    }
-}
-
-/// Adds the places of the names in a statement. Refused only for want of memory.
-pub fn mark_body(
-    set: &mut [bool],
-    alloc: Global,
-    names: &Names<'_>,
-    body: &Stmt,
-) -> Result<(), AllocError>
-    requires { length set.old ≡ length names.now }
-    ensures { OnOk result (Adds names.now (names_of body.now) set.old set.new) }
-{
-    let pieces = pieces_of(alloc, body)?;
-    for piece in &pieces {
-        mark_piece(set, alloc, names, *piece)?;
     }
     Ok(())
 }

@@ -1,22 +1,27 @@
 // The signals that a statement names, apart from all others of a module: what is done for each pair of signals then goes with the size of the
 // statement alone.
 
-ghost use Rattle.std.specs.Prelude.{◌≡◌, ◌<◌, ◌↔◌, ℕ, length, map, slice_index, IfOk};
+ghost use Rattle.std.specs.Prelude.{◌≡◌, ◌++◌, ◌<◌, ◌↔◌, ℕ, length, map, slice_index, IfOk, OnOk};
+ghost use Rattle.std.specs.List.{flat_map};
+ghost use Rattle.std.specs.List.Sorted.{IsStrictlyIncreasing};
 ghost use Rattle.vlog_runs.specs.Places.{Among};
+ghost use Rattle.elab_faults.specs.Drivers.{parts_of};
+ghost use Rattle.elab_drive.specs.Parts.{part_meant, reads_of};
+ghost use Rattle.elab_drive.specs.Pieces.{piece_meant, actions};
 ghost use Rattle.elab_drive.specs.Spots.{signal_name};
+ghost use Rattle.elab_drive.specs.Wanting.{left_reads};
 ghost use Rattle.elab_flow.specs.Asked.{AreVectors, IsPassable};
 ghost use Rattle.elab_flow.specs.Marks.{IsPlaceOf};
-ghost use Rattle.elab_flow.specs.Own.{names_of, places_from, AreSignalsAt, AreOwn};
-ghost use Rattle.elab_flow.specs.Sets.{Has};
+ghost use Rattle.elab_flow.specs.Own.{names_of, action_parts, AreSignalsAt, AreOwn};
 ghost use Rattle.elab_flow.specs.Words.{IsSignalAt};
 
-use crate::marks::mark_body;
+use crate::places::places_of;
 use crate::scope::Scope;
-use crate::sets::none;
+use elab_drive::{Part, Piece, add_parts, add_reads, add_store_reads, pieces_of};
 use outside::Text;
 use std::alloc::{AllocError, Global};
 use vlog_runs::Signal;
-use vlog_tree::Stmt;
+use vlog_tree::{Expr, Lval, Stmt};
 
 /// The signals of a list that a statement names.
 #[derive(Drop)]
@@ -26,26 +31,63 @@ pub struct OwnSignals {
     pub signals: Vec<Signal>,
 }
 
-// The set of the places of a statement's names.
-fn named(alloc: Global, scope: &Scope<'_>, body: &Stmt) -> Result<Vec<bool>, AllocError>
-    ensures size { IfOk result (λ r. length r.items ≡ length scope.now) }
-    ensures named { IfOk result (λ r. (i : ℕ) → Has r.items i ↔ IsPlaceOf (map signal_name scope.now) (names_of body.now) i) }
+// Adds the parts of signals that an assignment assigns and reads.
+fn add_sides<'a>(
+    all: &mut Vec<Part<'a>>,
+    alloc: Global,
+    left: &'a Lval,
+    right: &'a Expr,
+) -> Result<(), AllocError>
+    ensures { OnOk result (map part_meant all.new.items ≡ map part_meant all.old.items ++ (parts_of left.now ++ (left_reads left.now ++ reads_of right.now))) }
 {
-    let mut set = none(alloc, scope.list().len())?;
-    mark_body(&mut set, alloc, scope.names(), body)?;
-    Ok(set)
+    add_parts(all, left)?;
+    add_store_reads(all, alloc, left, right)
 }
 
-// The places in a set, in their order.
-fn places_in(alloc: Global, set: &[bool]) -> Result<Vec<usize>, AllocError>
-    ensures { IfOk result (λ r. r.items ≡ places_from 0 set.now) }
+// Adds the parts of signals that a statement names at one place of its text.
+fn add_piece_parts<'a>(
+    all: &mut Vec<Part<'a>>,
+    alloc: Global,
+    piece: Piece<'a>,
+) -> Result<(), AllocError>
+    ensures { OnOk result (map part_meant all.new.items ≡ map part_meant all.old.items ++ action_parts (piece_meant piece.entry)) }
 {
-    let mut places = Vec::new(alloc);
-    for place in 0..set.len() {
-        if set[place] {
-            places.push(place)?;
-        }
+    match piece {
+        Piece::Test(expr) => add_reads(all, expr),
+        Piece::Blocking(left, right) => add_sides(all, alloc, left, right),
+        Piece::Nonblocking(left, right) => add_sides(all, alloc, left, right),
     }
+}
+
+// The parts of signals that a statement names.
+fn named_parts(alloc: Global, body: &Stmt) -> Result<Vec<Part<'_>>, AllocError>
+    ensures { IfOk result (λ r. map part_meant r.items ≡ flat_map action_parts (actions body.now)) }
+{
+    let pieces = pieces_of(alloc, body)?;
+    let mut all = Vec::new(alloc);
+    for piece in &pieces {
+        add_piece_parts(&mut all, alloc, *piece)?;
+    }
+    Ok(all)
+}
+
+// Puts numbers in their order, each once.
+fn put_in_order(numbers: &mut Vec<usize>)
+    ensures rises { IsStrictlyIncreasing numbers.new.items }
+    ensures same { (i : ℕ) → Among numbers.new.items i ↔ Among numbers.old.items i }
+{
+    numbers.sort_unstable();
+    numbers.dedup();
+}
+
+// The places of a statement's names, in their order.
+fn named(alloc: Global, scope: &Scope<'_>, body: &Stmt) -> Result<Vec<usize>, AllocError>
+    ensures rises { IfOk result (λ r. IsStrictlyIncreasing r.items) }
+    ensures named { IfOk result (λ r. (i : ℕ) → Among r.items i ↔ IsPlaceOf (map signal_name scope.now) (names_of body.now) i) }
+{
+    let parts = named_parts(alloc, body)?;
+    let mut places = places_of(alloc, scope.names(), &parts)?;
+    put_in_order(&mut places);
     Ok(places)
 }
 
@@ -86,8 +128,7 @@ pub fn own_signals(alloc: Global, scope: &Scope<'_>, body: &Stmt) -> Result<OwnS
     requires body { IsPassable scope.now body.now }
     ensures { IfOk result (λ r. AreOwn scope.now body.now r.places.items r.signals.items) }
 {
-    let set = named(alloc, scope, body)?;
-    let places = places_in(alloc, &set)?;
+    let places = named(alloc, scope, body)?;
     let signals = signals_at(alloc, scope.list(), &places)?;
     Ok(OwnSignals { places, signals })
 }

@@ -122,56 +122,6 @@ fn past(
     Ok(same)
 }
 
-// A part of a statement.
-fn part<'a>(boxed: &'a Boxed<Stmt>, scope: &Scope<'_>) -> &'a Stmt
-    requires { IsReady scope.now boxed.now }
-    ensures same { result.now ≡ boxed.now }
-    ensures ready { IsReady scope.now result.now }
-{
-    let _scope = scope;
-    boxed.get()
-}
-
-// A statement of a block.
-fn one<'a>(stmt: &'a Stmt, scope: &Scope<'_>) -> &'a Stmt
-    requires { IsReady scope.now stmt.now }
-    ensures same { result.now ≡ stmt.now }
-    ensures ready { IsReady scope.now result.now }
-{
-    let _scope = scope;
-    stmt
-}
-
-// The body of an item.
-fn body<'a>(item: &'a CaseItem, scope: &Scope<'_>) -> &'a Stmt
-    requires { IsReady scope.now item.now.body }
-    ensures same { result.now ≡ item.now.body }
-    ensures ready { IsReady scope.now result.now }
-{
-    let _scope = scope;
-    &item.body
-}
-
-// The statements of a block.
-fn statements<'a>(stmts: &'a Items<Stmt>, scope: &Scope<'_>) -> &'a [Stmt]
-    requires { EachReady scope.now stmts.now }
-    ensures same { result.now ≡ stmts.now }
-    ensures ready { EachReady scope.now result.now }
-{
-    let _scope = scope;
-    stmts.as_slice()
-}
-
-// The items of a case statement.
-fn listed<'a>(items: &'a Items<CaseItem>, scope: &Scope<'_>) -> &'a [CaseItem]
-    requires { EachItemReady scope.now items.now }
-    ensures same { result.now ≡ items.now }
-    ensures ready { EachItemReady scope.now result.now }
-{
-    let _scope = scope;
-    items.as_slice()
-}
-
 /// After a statement, with the places that the conditions around it count as. Refused only for want of memory.
 #[cycle(pass)]
 pub fn pass(
@@ -191,9 +141,9 @@ pub fn pass(
 {
     match stmt {
         Stmt::Empty => Ok(()),
-        Stmt::Block(_, stmts) => pass_row(flow, alloc, scope, around, statements(stmts, scope)),
+        Stmt::Block(_, stmts) => pass_row(flow, alloc, scope, around, stmts.as_slice()),
         Stmt::If(test, body) => {
-            let body = part(body, scope);
+            let body = body.get();
             let inner = enter_test(flow, alloc, scope, around, test)?;
             let otherwise = flow.copy(alloc)?;
             pass(flow, alloc, scope, &inner, body)?;
@@ -201,8 +151,8 @@ pub fn pass(
             Ok(())
         }
         Stmt::IfElse(test, body, other) => {
-            let body = part(body, scope);
-            let other = part(other, scope);
+            let body = body.get();
+            let other = other.get();
             let inner = enter_test(flow, alloc, scope, around, test)?;
             let mut otherwise = flow.copy(alloc)?;
             pass(flow, alloc, scope, &inner, body)?;
@@ -211,7 +161,7 @@ pub fn pass(
             Ok(())
         }
         Stmt::Case(kind, subject, items) => {
-            let items = listed(items, scope);
+            let items = items.as_slice();
             let labels = labels_of(alloc, items)?;
             let inner = enter_case(flow, alloc, scope, around, subject, &labels)?;
             let mut all = past(flow, alloc, scope, *kind, subject, &labels, items)?;
@@ -249,7 +199,7 @@ fn pass_row(
     ensures sized { OnOk result (IsSized (length scope.now) (tables flow.new)) }
 {
     for stmt in stmts {
-        pass(flow, alloc, scope, around, one(stmt, scope))?;
+        pass(flow, alloc, scope, around, stmt)?;
     }
     Ok(())
 }
@@ -275,7 +225,7 @@ fn pass_items(
 {
     for item in items {
         let mut branch = flow.copy(alloc)?;
-        pass(&mut branch, alloc, scope, around, body(item, scope))?;
+        pass(&mut branch, alloc, scope, around, &item.body)?;
         all.join(&branch);
     }
     Ok(())

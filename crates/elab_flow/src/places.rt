@@ -1,16 +1,19 @@
-// Sets of the places of names.
+// Sets and lists of the places of names.
 
-ghost use Rattle.std.specs.Prelude.{◌≡◌, [], ◌∷◌, map, length, IfOk};
+ghost use Rattle.std.specs.Prelude.{◌≡◌, ◌++◌, [], ◌∷◌, map, length, IfOk, OnOk};
 ghost use Rattle.vlog_runs.specs.Places.{Among};
 ghost use Rattle.vlog_runs.specs.Blocks.{left_names};
 ghost use Rattle.flat_faults.specs.Texts.{numbers_in};
+ghost use Rattle.elab_drive.specs.Parts.{part_meant};
 ghost use Rattle.elab_drive.specs.Spots.{signal_name};
 ghost use Rattle.elab_flow.specs.Cases.{expr_meant};
+ghost use Rattle.elab_flow.specs.Edges.{part_place, part_places};
 ghost use Rattle.elab_flow.specs.Passes.{ReadsAt};
 ghost use Rattle.elab_flow.specs.Shows.{Marks, AreDistinct};
 
 use crate::marks::{mark_assignment, mark_compared, mark_left, mark_reads};
 use crate::sets::none;
+use elab_drive::{Part, name_of};
 use flat_scopes::Names;
 use std::alloc::{AllocError, Global};
 use vlog_runs::Signal;
@@ -84,4 +87,30 @@ pub fn places_compared(
     let mut set = none(alloc, signals.len())?;
     mark_compared(&mut set, alloc, names, subject, labels)?;
     Ok(set)
+}
+
+// ---- as lists
+
+fn add_place(all: &mut Vec<usize>, names: &Names<'_>, part: Part<'_>) -> Result<(), AllocError>
+    ensures { OnOk result (all.new.items ≡ all.old.items ++ part_place names.now (part_meant part.entry)) }
+{
+    if let Some(place) = names.place(name_of(part).bytes()) {
+        all.push(place)?;
+    }
+    Ok(())
+}
+
+/// The places of the signals that parts name, in the order of the parts. Refused only for want of memory.
+pub fn places_of(
+    alloc: Global,
+    names: &Names<'_>,
+    parts: &[Part<'_>],
+) -> Result<Vec<usize>, AllocError>
+    ensures { IfOk result (λ r. r.items ≡ part_places names.now (map part_meant parts.now)) }
+{
+    let mut all = Vec::new(alloc);
+    for part in parts {
+        add_place(&mut all, names, *part)?;
+    }
+    Ok(all)
 }
