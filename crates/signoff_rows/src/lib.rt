@@ -4,17 +4,15 @@
 #[cfg(test)]
 mod examples;
 #[cfg(test)]
-mod faults;
+mod failing;
 #[cfg(test)]
 mod gathering;
 #[cfg(test)]
+mod instances;
+#[cfg(test)]
 mod kept;
 #[cfg(test)]
-mod refusals;
-#[cfg(test)]
 mod reported;
-#[cfg(test)]
-mod rules;
 #[cfg(test)]
 mod running;
 #[cfg(test)]
