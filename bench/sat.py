@@ -6,7 +6,7 @@
                                     runs each command on each formula, for at most LIMIT seconds.
                                     In a command {} stands for the file; without it the file is standard input.
     sat.py table FOLDER LIMIT RUNS COMMAND MINISAT CADICAL
-                                    runs each of the three RUNS times, and writes the rows of the README's table: the least
+                                    runs each of the three RUNS times, and writes the rows of PERFORMANCE.md's table: the least
                                     seconds and the most memory of each, and how many times MINISAT's the first one's are
 """
 
@@ -206,7 +206,7 @@ def best(command, path, limit, runs):
 
 
 def row(name, path, limit, runs, commands):
-    """A row of the README's table."""
+    """A row of PERFORMANCE.md's table."""
     (ours, mine), (theirs, other), (third, _) = (best(c, path, limit, runs) for c in commands)
     ratios = f"{ours / max(theirs, 0.001):.1f}, {mine / max(other, 0.1):.1f}"
     return f"| {TITLES[name]} | {ours:.3f} s, {mine:.0f} MB | {theirs:.3f}, {other:.1f} | {third:.3f} | {ratios} |"

@@ -3,7 +3,7 @@ use Rattle.std.specs.Prelude.{ℕ, Bool, ◌&&◌, not, nat_eq, List, [], ◌∷
 use Rattle.std.specs.List.{starts_with}
 use Rattle.std.specs.Str.{bytes_eq}
 use Rattle.command_words.specs.declared.chosen.Choice.{Choice}
-use Rattle.command_words.specs.declared.chosen.Choice.TheVariants.{Budget, Workers, Store}
+use Rattle.command_words.specs.declared.chosen.Choice.TheVariants.{Budget, Workers, Store, Timeout}
 use Rattle.command_words.specs.Numbers.{number_within}
 
 -- what options have been given, and the plain words so far
@@ -11,14 +11,19 @@ pub record Choices : Type 0 where
   pub budget : Option ℕ
   pub workers : Option ℕ
   pub store : Option (List ℕ)
+  pub timeout : Option ℕ
   pub plain : List (List ℕ)
 
 abbrev pub nothing : Choices
-nothing = record { budget = None; workers = None; store = None; plain = [] }
+nothing = record { budget = None; workers = None; store = None; timeout = None; plain = [] }
+
+-- no option is given that tells how a desk is served
+abbrev pub serves_by_default : Choices → Bool
+serves_by_default c = is_none c.timeout
 
 -- no option is given
 abbrev pub has_no_options : Choices → Bool
-has_no_options c = is_none c.budget && (is_none c.workers && is_none c.store)
+has_no_options c = is_none c.budget && (is_none c.workers && (is_none c.store && serves_by_default c))
 
 -- a value is given to an option that has none yet
 abbrev pub with_budget : Option ℕ → Choices → Option Choices
@@ -32,10 +37,15 @@ with_workers (Some n) c = if is_some c.workers then None else Some (record c { w
 abbrev pub with_store : List ℕ → Choices → Option Choices
 with_store file c = if is_some c.store then None else Some (record c { store = Some file })
 
+abbrev pub with_timeout : Option ℕ → Choices → Option Choices
+with_timeout None c = None
+with_timeout (Some n) c = if is_some c.timeout then None else Some (record c { timeout = Some n })
+
 abbrev pub given : Choice → List ℕ → Choices → Option Choices
 given Budget word c = with_budget (number_within 1 10000000 word) c
 given Workers word c = with_workers (number_within 1 64 word) c
 given Store word c = with_store word c
+given Timeout word c = with_timeout (number_within 1 3600 word) c
 
 abbrev pub with_plain : List ℕ → Choices → Choices
 with_plain word c = record c { plain = c.plain ++ word ∷ [] }
@@ -56,17 +66,33 @@ pub data Kind : Type 0 where
   wrong : Kind
   plain : Kind
 
+-- the option that a word names
+abbrev pub named : List ℕ → Option Choice
+named word =
+    if bytes_eq word (codes "--budget") then Some Budget
+    else if bytes_eq word (codes "--workers") then Some Workers
+    else if bytes_eq word (codes "--store") then Some Store
+    else if bytes_eq word (codes "--timeout") then Some Timeout
+    else None
+
+-- a word that names none
+abbrev pub other_kind : List ℕ → Kind
+other_kind word =
+    if starts_with nat_eq word (codes "--budget=") then gives Budget (drop 9 word)
+    else if starts_with nat_eq word (codes "--workers=") then gives Workers (drop 10 word)
+    else if starts_with nat_eq word (codes "--store=") then gives Store (drop 8 word)
+    else if starts_with nat_eq word (codes "--timeout=") then gives Timeout (drop 10 word)
+    else if is_hyphened word && not (bytes_eq word (codes "-")) then wrong
+    else plain
+
+abbrev pub kind_named : List ℕ → Option Choice → Kind
+kind_named word (Some o) = waits o
+kind_named word None = other_kind word
+
 abbrev pub kind_of : List ℕ → Kind
 kind_of word =
     if bytes_eq word (codes "--") then ends
-    else if bytes_eq word (codes "--budget") then waits Budget
-    else if bytes_eq word (codes "--workers") then waits Workers
-    else if bytes_eq word (codes "--store") then waits Store
-    else if starts_with nat_eq word (codes "--budget=") then gives Budget (drop 9 word)
-    else if starts_with nat_eq word (codes "--workers=") then gives Workers (drop 10 word)
-    else if starts_with nat_eq word (codes "--store=") then gives Store (drop 8 word)
-    else if is_hyphened word && not (bytes_eq word (codes "-")) then wrong
-    else plain
+    else kind_named word (named word)
 
 abbrev pub and_then : Option Choices → (Choices → Option Choices) → Option Choices
 and_then None f = None

@@ -10,12 +10,16 @@ use Rattle.command_words.specs.declared.action.Command.{Command}
 use Rattle.command_words.specs.declared.action.Command.TheVariants as c
 use Rattle.command_words.specs.declared.action.Job.{Job}
 use Rattle.command_words.specs.declared.action.Service.{Service}
-use Rattle.command_words.specs.Choices.{Choices, chosen, has_no_options, nothing}
+use Rattle.command_words.specs.Choices.{Choices, chosen, has_no_options, nothing, serves_by_default}
 use Rattle.command_words.specs.Numbers.{number_within}
 
 -- a job over two files, with what options leave out
 abbrev pub job_of : Asked → List ℕ → List ℕ → Choices → Job
 job_of asked m s c = record { asked = asked; «module» = m; set = s; budget = unwrap_or c.budget 20000; workers = unwrap_or c.workers 4; store = c.store }
+
+-- a check of two files takes no options of serving
+abbrev pub texts_of : Asked → List ℕ → List ℕ → Choices → Option Command
+texts_of asked m s choices = if serves_by_default choices then Some (c.Texts (job_of asked m s choices)) else None
 
 -- a generated check takes no options
 abbrev pub demo_of : Choices → List ℕ → Option Command
@@ -27,7 +31,7 @@ migrate_of choices file = if has_no_options choices then Some (c.Migrate file) e
 
 -- a desk that is served takes no other file of proofs than its own
 abbrev pub service_of : ℕ → ℕ → List ℕ → Choices → Service
-service_of port count file c = record { port = port; count = count; file = file; budget = unwrap_or c.budget 20000; workers = unwrap_or c.workers 4 }
+service_of port count file c = record { port = port; count = count; file = file; timeout = unwrap_or c.timeout 10; budget = unwrap_or c.budget 20000; workers = unwrap_or c.workers 4 }
 
 abbrev pub serve_within : Option ℕ → Option ℕ → List ℕ → Choices → Option Command
 serve_within (Some port) (Some count) file choices = Some (c.Serve (service_of port count file choices))
@@ -41,9 +45,9 @@ serve_of choices port count file =
 -- the plain words are two files, for a trace also the name of a line; for a generated check its number of stages; a port, a number of connections and
 -- a file; for a move of kept proofs one file
 abbrev pub with_plain_words : Action → Choices → List (List ℕ) → Option Command
-with_plain_words Ops choices (m ∷ s ∷ []) = Some (c.Texts (job_of a.Ops m s choices))
-with_plain_words Check choices (m ∷ s ∷ []) = Some (c.Texts (job_of a.Check m s choices))
-with_plain_words Trace choices (m ∷ s ∷ n ∷ []) = Some (c.Texts (job_of (a.Trace n) m s choices))
+with_plain_words Ops choices (m ∷ s ∷ []) = texts_of a.Ops m s choices
+with_plain_words Check choices (m ∷ s ∷ []) = texts_of a.Check m s choices
+with_plain_words Trace choices (m ∷ s ∷ n ∷ []) = texts_of (a.Trace n) m s choices
 with_plain_words Demo choices (n ∷ []) = demo_of choices n
 with_plain_words Serve choices (p ∷ n ∷ file ∷ []) = serve_of choices p n file
 with_plain_words Migrate choices (file ∷ []) = migrate_of choices file
@@ -87,6 +91,14 @@ port_of (Some (c.Demo stages)) = None
 port_of (Some (c.Serve service)) = Some service.port
 port_of (Some (c.Migrate file)) = None
 
+-- the seconds that a peer has, which is 10 where no option says
+abbrev pub timeout_of : Option Command → ℕ
+timeout_of None = 10
+timeout_of (Some (c.Texts job)) = 10
+timeout_of (Some (c.Demo stages)) = 10
+timeout_of (Some (c.Serve service)) = service.timeout
+timeout_of (Some (c.Migrate file)) = 10
+
 -- a budget of at least 1, and 1 to 64 workers
 pub record HasBounds (j : Job) : Type 0 where
   pub budget : 0 < j.budget
@@ -99,6 +111,8 @@ pub record IsServed (s : Service) : Type 0 where
   pub few : s.workers ≤ 64
   pub some : 1 ≤ s.count
   pub most : s.count ≤ 1000000
+  pub waiting : 0 < s.timeout
+  pub brief : s.timeout ≤ 3600
 
 -- and 1 to 64 stages
 abbrev pub IsBounded : Command → Type 0

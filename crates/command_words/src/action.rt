@@ -35,13 +35,15 @@ pub struct Job {
     pub store: Option<Text>,
 }
 
-/// The port that is listened at (1 to 65,535), how many connections are served (1 to 1,000,000), the file that holds the desk, and for its checks the most
-/// steps of the solver for a line and the workers, as for a job.
+/// The port that is listened at (1 to 65,535), how many connections are served (1 to 1,000,000), the file that holds the desk, how many seconds a peer has
+/// for its request and as many for taking the reply (1 to 3,600, 10 where no option says), and for the desk's checks the most steps of the solver for a line
+/// and the workers, as for a job.
 #[derive(Drop)]
 pub struct Service {
     pub port: u16,
     pub count: u32,
     pub file: Text,
+    pub timeout: u32,
     pub budget: u64,
     pub workers: u32,
 }
@@ -59,9 +61,11 @@ pub enum Command {
     Migrate(Text),
 }
 
-/// What a command wants opened: the file that holds proofs or the desk, and the port that is listened at.
+/// What a command wants opened: the file that holds proofs or the desk, and the port that is listened at, with the seconds that a peer there has
+/// (10 where no option says).
 #[derive(Drop)]
 pub struct Wants {
     pub store: Option<Text>,
     pub port: Option<u16>,
+    pub timeout: u32,
 }

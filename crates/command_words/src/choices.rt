@@ -1,6 +1,6 @@
 // Options and plain words.
-ghost use Rattle.std.specs.Prelude.{◌≡◌, None, map, option_map, string_bytes, IfOk, IfSome};
-ghost use Rattle.command_words.specs.Choices.{all_plain, chosen, given, is_hyphened, kind_of, with_budget, with_plain, with_store, with_workers};
+ghost use Rattle.std.specs.Prelude.{◌≡◌, ◌≤◌, None, drop, length, map, option_map, string_bytes, IfOk, IfSome};
+ghost use Rattle.command_words.specs.Choices.{all_plain, chosen, given, is_hyphened, kind_of, named, other_kind, with_budget, with_plain, with_store, with_timeout, with_workers};
 ghost use Rattle.command_words.specs.Numbers.{number_within};
 ghost use Rattle.command_words.specs.Seen.{AreBounded, choices_of, kind_meant};
 
@@ -22,27 +22,58 @@ pub enum Kind<'a> {
     Plain,
 }
 
-fn kind_of(word: &[u8]) -> Kind<'_>
-    ensures { kind_meant result ≡ kind_of word.now }
+// The option that a word names, whose value is the next word.
+fn named(word: &[u8]) -> Option<Choice>
+    ensures { result ≡ named word.now }
 {
-    if word == b"--".as_slice() {
-        Kind::Ends
-    } else if word == b"--budget".as_slice() {
-        Kind::Waits(Choice::Budget)
+    if word == b"--budget".as_slice() {
+        Some(Choice::Budget)
     } else if word == b"--workers".as_slice() {
-        Kind::Waits(Choice::Workers)
+        Some(Choice::Workers)
     } else if word == b"--store".as_slice() {
-        Kind::Waits(Choice::Store)
-    } else if word.starts_with(b"--budget=") {
-        Kind::Gives(Choice::Budget, &word[9..])
+        Some(Choice::Store)
+    } else if word == b"--timeout".as_slice() {
+        Some(Choice::Timeout)
+    } else {
+        None
+    }
+}
+
+fn behind(word: &[u8], at: usize) -> &[u8]
+    requires { at ≤ length word.now }
+    ensures { result.now ≡ drop at word.now }
+{
+    &word[at..]
+}
+
+// What a word is that names no option: one with its value, a wrong one, or a plain word.
+fn other_kind(word: &[u8]) -> Kind<'_>
+    ensures { kind_meant result ≡ other_kind word.now }
+{
+    if word.starts_with(b"--budget=") {
+        Kind::Gives(Choice::Budget, behind(word, 9))
     } else if word.starts_with(b"--workers=") {
-        Kind::Gives(Choice::Workers, &word[10..])
+        Kind::Gives(Choice::Workers, behind(word, 10))
     } else if word.starts_with(b"--store=") {
-        Kind::Gives(Choice::Store, &word[8..])
+        Kind::Gives(Choice::Store, behind(word, 8))
+    } else if word.starts_with(b"--timeout=") {
+        Kind::Gives(Choice::Timeout, behind(word, 10))
     } else if word.starts_with(b"-") && word != b"-".as_slice() {
         Kind::Wrong
     } else {
         Kind::Plain
+    }
+}
+
+fn kind_of(word: &[u8]) -> Kind<'_>
+    ensures { kind_meant result ≡ kind_of word.now }
+{
+    if word == b"--".as_slice() {
+        return Kind::Ends;
+    }
+    match named(word) {
+        Some(choice) => Kind::Waits(choice),
+        None => other_kind(word),
     }
 }
 
@@ -88,6 +119,21 @@ fn with_store(alloc: Global, word: &[u8], so_far: Chosen) -> Result<Option<Chose
     Ok(Some(Chosen { store, ..so_far }))
 }
 
+fn with_timeout(word: &[u8], so_far: Chosen) -> Option<Chosen>
+    requires { AreBounded (choices_of so_far) }
+    ensures is { option_map choices_of result ≡ with_timeout (number_within 1 3600 word.now) (choices_of so_far) }
+    ensures bounded { IfSome result (λ c. AreBounded (choices_of c)) }
+{
+    let value = number_within(1, 3_600, word)?;
+    if so_far.timeout.is_some() {
+        return None;
+    }
+    Some(Chosen {
+        timeout: Some(value as u32),
+        ..so_far
+    })
+}
+
 // Choices with a value of an option that has none yet.
 fn given(
     alloc: Global,
@@ -103,6 +149,7 @@ fn given(
         Choice::Budget => Ok(with_budget(word, so_far)),
         Choice::Workers => Ok(with_workers(word, so_far)),
         Choice::Store => with_store(alloc, word, so_far),
+        Choice::Timeout => Ok(with_timeout(word, so_far)),
     }
 }
 

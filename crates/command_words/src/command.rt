@@ -1,6 +1,6 @@
 // Commands.
 ghost use Rattle.std.specs.Prelude.{◌≡◌, ◌≤◌, map, option_map, string_bytes, IfOk, IfSome};
-ghost use Rattle.command_words.specs.Commands.{HasBounds, IsBounded, action_of, command_of, demo_of, job_of, migrate_of, port_of, serve_of, service_of, store_of, with_plain_words, IsServed};
+ghost use Rattle.command_words.specs.Commands.{HasBounds, IsBounded, action_of, command_of, demo_of, job_of, migrate_of, port_of, serve_of, service_of, store_of, texts_of, timeout_of, with_plain_words, IsServed};
 ghost use Rattle.command_words.specs.Seen.{AreBounded, choices_of};
 
 use crate::action::{Action, Asked, Command, Job, Service, Wants};
@@ -56,6 +56,25 @@ fn job_of(
     })
 }
 
+// A check of two files, which takes no options of serving.
+fn texts_of(
+    alloc: Global,
+    asked: Asked,
+    module: &Text,
+    set: &Text,
+    choices: &Chosen,
+) -> Result<Option<Command>, AllocError>
+    requires { AreBounded (choices_of choices.now) }
+    ensures is { IfOk result (λ o. o ≡ texts_of asked «module».now set.now (choices_of choices.now)) }
+    ensures bounded { IfOk result (λ o. IfSome o IsBounded) }
+{
+    if !choices.serves_by_default() {
+        return Ok(None);
+    }
+    let job = job_of(alloc, asked, module, set, choices)?;
+    Ok(Some(Command::Texts(job)))
+}
+
 // A generated check, which takes no options.
 fn demo_of(choices: &Chosen, stages: &Text) -> Option<Command>
     ensures is { result ≡ demo_of (choices_of choices.now) stages.now }
@@ -97,6 +116,7 @@ fn service_of(
         port,
         count,
         file: Text::copy(alloc, file.bytes())?,
+        timeout: choices.timeout.unwrap_or(10),
         budget: choices.budget.unwrap_or(20_000),
         workers: choices.workers.unwrap_or(4),
     })
@@ -137,18 +157,11 @@ fn with_plain_words(
     ensures bounded { IfOk result (λ o. IfSome o IsBounded) }
 {
     match (action, choices.plain.as_slice()) {
-        (Action::Ops, [module, set]) => {
-            let job = job_of(alloc, Asked::Ops, module, set, choices)?;
-            Ok(Some(Command::Texts(job)))
-        }
-        (Action::Check, [module, set]) => {
-            let job = job_of(alloc, Asked::Check, module, set, choices)?;
-            Ok(Some(Command::Texts(job)))
-        }
-        (Action::Trace, [module, set, name]) => {
-            let asked = Asked::Trace(Text::copy(alloc, name.bytes())?);
-            let job = job_of(alloc, asked, module, set, choices)?;
-            Ok(Some(Command::Texts(job)))
+        (Action::Ops, [module, set]) => texts_of(alloc, Asked::Ops, module, set, choices),
+        (Action::Check, [module, set]) => texts_of(alloc, Asked::Check, module, set, choices),
+        (Action::Trace, [module, set, line]) => {
+            let line = Text::copy(alloc, line.bytes())?;
+            texts_of(alloc, Asked::Trace(line), module, set, choices)
         }
         (Action::Demo, [stages]) => Ok(demo_of(choices, stages)),
         (Action::Serve, [port, count, file]) => serve_of(alloc, choices, port, count, file),
@@ -173,6 +186,7 @@ pub fn command_in(alloc: Global, words: &[String]) -> Result<Option<Command>, Al
                     budget: None,
                     workers: None,
                     store: None,
+                    timeout: None,
                     plain: Vec::new(alloc),
                 };
                 match choices_in(alloc, rest, None, nothing)? {
@@ -185,27 +199,33 @@ pub fn command_in(alloc: Global, words: &[String]) -> Result<Option<Command>, Al
 }
 
 /// What the command that words spell wants opened: the file of proofs that the option `--store` of `ops`, `check` and `trace` names, that `migrate` moves,
-/// or that holds the desk of `serve`, and the port of `serve`. Nothing where the words are no command, or it names none. Refused only for want of memory.
+/// or that holds the desk of `serve`, and the port of `serve` with the seconds that its option `--timeout` gives a peer (10 where it gives none). Neither
+/// file nor port where the words are no command, or it names none. Refused only for want of memory.
 pub fn wants(alloc: Global, words: &[String]) -> Result<Wants, AllocError>
     ensures store { IfOk result (λ w. w.store ≡ store_of (command_of (map string_bytes words.now))) }
     ensures port { IfOk result (λ w. w.port ≡ port_of (command_of (map string_bytes words.now))) }
+    ensures timeout { IfOk result (λ w. w.timeout ≡ timeout_of (command_of (map string_bytes words.now))) }
 {
     match command_in(alloc, words)? {
         None | Some(Command::Demo(_)) => Ok(Wants {
             store: None,
             port: None,
+            timeout: 10,
         }),
         Some(Command::Texts(job)) => Ok(Wants {
             store: job.store,
             port: None,
+            timeout: 10,
         }),
         Some(Command::Serve(service)) => Ok(Wants {
             store: Some(service.file),
             port: Some(service.port),
+            timeout: service.timeout,
         }),
         Some(Command::Migrate(file)) => Ok(Wants {
             store: Some(file),
             port: None,
+            timeout: 10,
         }),
     }
 }

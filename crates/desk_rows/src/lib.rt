@@ -1,10 +1,6 @@
-//! Rows of what a program reaches outside itself, of the desk's keeper and connections, and of commands one after another at a desk.
+//! Rows of what a program reaches outside itself, and of the desk's keeper and connections.
 #![tactic(auto)]
 
-#[cfg(test)]
-mod asking;
-#[cfg(test)]
-mod commands;
 #[cfg(test)]
 mod connections;
 #[cfg(test)]
@@ -15,7 +11,3 @@ mod objects;
 mod replies;
 #[cfg(test)]
 mod requests;
-#[cfg(test)]
-mod telling;
-#[cfg(test)]
-mod texts;

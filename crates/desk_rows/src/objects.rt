@@ -9,6 +9,7 @@ use std::io::{Read, Write};
 use std::net::{SocketAddr, TcpListener, TcpStream};
 use std::process::Abort;
 use std::test::Fail;
+use std::time::Duration;
 
 fn text(alloc: Global, bytes: &[u8]) -> Result<Text, AllocError> {
     Text::copy(alloc, bytes)
@@ -162,14 +163,23 @@ fn the_standard_output_takes_bytes(rt: HostRuntime) -> Result<(), Fail> {
     Ok(())
 }
 
-// A port that listens, and its address.
-fn listening(rt: &HostRuntime) -> Result<(TcpPort, SocketAddr), Fail> {
-    let listener = TcpListener::bind(rt, "127.0.0.1:0")?;
-    let address = listener.local_addr()?;
-    Ok((TcpPort::new(Some(listener)), address))
+fn port(
+    rt: &HostRuntime,
+    listener: Option<TcpListener>,
+    seconds: u64,
+) -> Result<TcpPort<HostRuntime>, Fail> {
+    let limit = Duration::from_secs(seconds);
+    Ok(TcpPort::new(rt.clone()?, listener, limit))
 }
 
-fn connection(rt: &impl Abort, port: &mut TcpPort) {
+// A port that listens, whose peers have so many seconds, and its address.
+fn listening(rt: &HostRuntime, seconds: u64) -> Result<(TcpPort<HostRuntime>, SocketAddr), Fail> {
+    let listener = TcpListener::bind(rt, "127.0.0.1:0")?;
+    let address = listener.local_addr()?;
+    Ok((port(rt, Some(listener), seconds)?, address))
+}
+
+fn connection(rt: &impl Abort, port: &mut TcpPort<HostRuntime>) {
     let mut buffer = [0u8; 8];
     assert!(rt; port.next() == Ok(()));
     assert!(rt; port.read(&mut buffer) == Ok(3));
@@ -187,12 +197,30 @@ fn received(rt: &HostRuntime, peer: &mut TcpStream) -> Result<Vec<u8>, Fail> {
 // One thread: the peer connects and writes before the port takes the connection, and reads after it was closed.
 #[test]
 fn a_listener_takes_a_connection(rt: HostRuntime) -> Result<(), Fail> {
-    let (mut port, address) = listening(&rt)?;
+    let (mut port, address) = listening(&rt, 60)?;
     let mut peer = TcpStream::connect(&rt, address)?;
     peer.write_all(b"GET")?;
     connection(&rt, &mut port);
     let reply = received(&rt, &mut peer)?;
     assert!(rt; reply.as_slice() == b"200".as_slice());
-    assert!(rt; TcpPort::new(None).next() == Err(Failed));
+    Ok(())
+}
+
+#[test]
+fn no_listener_takes_no_connection(rt: HostRuntime) -> Result<(), Fail> {
+    assert!(rt; port(&rt, None, 60)?.next() == Err(Failed));
+    Ok(())
+}
+
+// The peer connects and sends nothing. Once its second is over there is nothing to be read or written.
+#[test]
+fn a_silent_peer_is_waited_for_no_longer_than_its_limit(rt: HostRuntime) -> Result<(), Fail> {
+    let (mut port, address) = listening(&rt, 1)?;
+    let _peer = TcpStream::connect(&rt, address)?;
+    let mut buffer = [0u8; 8];
+    assert!(rt; port.next() == Ok(()));
+    assert!(rt; port.read(&mut buffer) == Err(Failed));
+    assert!(rt; port.read(&mut buffer) == Err(Failed));
+    assert!(rt; port.finish() == Ok(()));
     Ok(())
 }

@@ -16,31 +16,36 @@ use vlog_tree::{CaseItem, CaseKind, Expr, Labels};
 use word_dag::Dag;
 
 // The longest length so far and that of some labels, and whether all are signed.
-fn with_labels(here: (u8, bool), labels: &[Expr], leaves: &Leaves) -> (u8, bool)
+fn with_labels(here: (u8, bool), labels: &[Expr], leaves: &Leaves) -> Result<(u8, bool), AllocError>
     requires { each_formed (declared leaves.now) labels.now }
-    ensures width { result.0 ≡ max here.0 (widest (declared leaves.now) labels.now) }
-    ensures sign { result.1 ≡ (here.1 && all_signed (declared leaves.now) labels.now) }
+    ensures width { IfOk result (λ s. s.0 ≡ max here.0 (widest (declared leaves.now) labels.now)) }
+    ensures sign { IfOk result (λ s. s.1 ≡ (here.1 && all_signed (declared leaves.now) labels.now)) }
 {
     let mut longest = here;
     for label in labels {
-        let own = shape(label, leaves);
+        let own = shape(label, leaves)?;
         longest = (longest.0.max(own.0), longest.1 && own.1);
     }
-    longest
+    Ok(longest)
 }
 
 // The length and the sign at which a case expression and the labels are compared.
-fn compared_at(subject: &Expr, items: &[CaseItem], leaves: &Leaves) -> (u8, bool)
+fn compared_at(
+    subject: &Expr,
+    items: &[CaseItem],
+    leaves: &Leaves,
+) -> Result<(u8, bool), AllocError>
     requires subject { IsFormed (declared leaves.now) subject.now }
     requires labels { each_formed (declared leaves.now) (each_labels items.now) }
-    ensures width { result.0 ≡ case_width (declared leaves.now) subject.now (each_labels items.now) }
-    ensures sign { result.1 ≡ case_sign (declared leaves.now) subject.now (each_labels items.now) }
+    ensures width { IfOk result (λ s. s.0 ≡ case_width (declared leaves.now) subject.now (each_labels items.now)) }
+    ensures sign { IfOk result (λ s. s.1 ≡ case_sign (declared leaves.now) subject.now (each_labels items.now)) }
 {
-    let mut longest = shape(subject, leaves);
+    let mut longest = shape(subject, leaves)?;
     for item in items {
-        longest = with_labels(longest, exprs_in(&item.labels), leaves);
+        let more = with_labels(longest, exprs_in(&item.labels), leaves)?;
+        longest = more;
     }
-    longest
+    Ok(longest)
 }
 
 // The expressions of an item, none where it is the default.
@@ -94,18 +99,15 @@ pub fn item_tests(
     ensures keeps { Keeps dag.old dag.new }
     ensures matches { IfOk result (λ r. AreMatches kind leaves.now subject.now (case_width (declared leaves.now) subject.now (each_labels items.now)) (case_sign (declared leaves.now) subject.now (each_labels items.now)) dag.old items.now r.items dag.new) }
 {
-    let (width, signed) = compared_at(subject, items, leaves);
-    let node = node_of(dag, subject, width, signed, leaves)?;
+    let place = compared_at(subject, items, leaves)?;
+    let node = node_of(dag, subject, place.0, place.1, leaves)?;
+    let wire = Wire {
+        node,
+        width: place.0,
+    };
     let mut tests = Vec::new(alloc);
     for item in items {
-        let test = item_node(
-            dag,
-            kind,
-            &item.labels,
-            Wire { node, width },
-            signed,
-            leaves,
-        )?;
+        let test = item_node(dag, kind, &item.labels, wire, place.1, leaves)?;
         tests.push(test)?;
     }
     Ok(tests)

@@ -18,7 +18,7 @@ use outside::Text;
 use sqlite_items::Items;
 use std::alloc::{AllocError, Global};
 use vlog_tree::{Expr, Lval, Span};
-use vlog_value::{checked_own_value, integer};
+use vlog_value::{evaluated, integer};
 use word_dag::Dag;
 
 /// The number of a name's leaf.
@@ -41,21 +41,24 @@ fn index_of(dag: &mut Dag, expr: &Expr, leaves: &Leaves) -> Result<Own, AllocErr
     ensures ready { AreReady leaves.now dag.new }
     ensures index { IfOk result (λ o. IsIndex leaves.now dag.new expr.now o) }
 {
-    let (width, signed) = shape(expr, leaves);
-    let node = node_of(dag, expr, width, signed, leaves)?;
-    let wire = Wire { node, width };
-    Ok(Own { wire, signed })
+    let own = shape(expr, leaves)?;
+    let node = node_of(dag, expr, own.0, own.1, leaves)?;
+    let wire = Wire { node, width: own.0 };
+    Ok(Own {
+        wire,
+        signed: own.1,
+    })
 }
 
 // The integer of an expression without names.
-fn constant_of(expr: &Expr, leaves: &Leaves) -> i128
+fn constant_of(expr: &Expr, leaves: &Leaves) -> Result<i128, AllocError>
     requires { IsSingle (declared leaves.now) expr.now }
-    ensures value { result ≡ own_integer (operand_of (declared leaves.now) expr.now) }
-    ensures low { negsuc (2 ^ 64) ≤ℤ result }
-    ensures high { result <ℤ pos (2 ^ 64) }
+    ensures value { IfOk result (λ i. i ≡ own_integer (operand_of (declared leaves.now) expr.now)) }
+    ensures low { IfOk result (λ i. negsuc (2 ^ 64) ≤ℤ i) }
+    ensures high { IfOk result (λ i. i <ℤ pos (2 ^ 64)) }
 {
-    match checked_own_value(expr, leaves.declared()) {
-        Some((word, signed)) => integer(word, signed),
+    match evaluated(leaves.allocator(), expr, leaves.declared())? {
+        Some((word, signed)) => Ok(integer(word, signed)),
         None => unreachable!(),
     }
 }
@@ -134,22 +137,22 @@ fn selected(dag: &mut Dag, name: &Text, index: &Expr, leaves: &Leaves) -> Result
 }
 
 // The bits of `[a:b]`.
-fn fixed(name: &Text, a: &Expr, b: &Expr, leaves: &Leaves) -> Target
+fn fixed(name: &Text, a: &Expr, b: &Expr, leaves: &Leaves) -> Result<Target, AllocError>
     requires name { Stands (declared leaves.now) (read name.now) }
     requires high { IsSingle (declared leaves.now) a.now }
     requires low { IsSingle (declared leaves.now) b.now }
     requires constant { IsPartConstant nothing w.Fixed a.now b.now }
     requires count { IsLength (part_width w.Fixed (own_integer (operand_of (declared leaves.now) a.now)) (own_integer (operand_of (declared leaves.now) b.now))) }
-    ensures { (ns : List Node) → IsPart leaves.now ns result (l.Part name.now w.Fixed a.now b.now) }
+    ensures { IfOk result (λ t. (ns : List Node) → IsPart leaves.now ns t (l.Part name.now w.Fixed a.now b.now)) }
 {
     let leaf = leaf_number(name, leaves);
-    let high = constant_of(a, leaves);
-    let low = constant_of(b, leaves);
-    Target {
+    let high = constant_of(a, leaves)?;
+    let low = constant_of(b, leaves)?;
+    Ok(Target {
         leaf,
         spot: Spot::Fixed(less(low, leaves.leaf(leaf).low)),
         count: between(high, low),
-    }
+    })
 }
 
 // The bits of `[a +: b]`.
@@ -171,7 +174,8 @@ fn upward(
     ensures part { IfOk result (λ t. IsPart leaves.now dag.new t (l.Part name.now w.Up a.now b.now)) }
 {
     let leaf = leaf_number(name, leaves);
-    let count = counted(constant_of(b, leaves));
+    let number = constant_of(b, leaves)?;
+    let count = counted(number);
     let index = index_of(dag, a, leaves)?;
     let from = plus(leaves.leaf(leaf).low, 0);
     Ok(Target {
@@ -200,7 +204,8 @@ fn downward(
     ensures part { IfOk result (λ t. IsPart leaves.now dag.new t (l.Part name.now w.Down a.now b.now)) }
 {
     let leaf = leaf_number(name, leaves);
-    let count = counted(constant_of(b, leaves));
+    let number = constant_of(b, leaves)?;
+    let count = counted(number);
     let index = index_of(dag, a, leaves)?;
     let from = plus(leaves.leaf(leaf).low, count - 1);
     Ok(Target {
@@ -226,7 +231,10 @@ fn part(
     ensures part { IfOk result (λ t. IsPart leaves.now dag.new t (l.Part name.now span a.now b.now)) }
 {
     match span {
-        Span::Fixed => Ok(fixed(name, a, b, leaves)),
+        Span::Fixed => {
+            let target = fixed(name, a, b, leaves)?;
+            Ok(target)
+        }
         Span::Up => upward(dag, name, a, b, leaves),
         Span::Down => downward(dag, name, a, b, leaves),
     }

@@ -8,7 +8,7 @@ ghost use Rattle.elab_drive.specs.Claims.{ones, known, IsEvaluable, IsPartReady,
 use crate::parts::{Part, reads_of};
 use std::alloc::{AllocError, Global};
 use vlog_tree::{Expr, Span, Valuation};
-use vlog_value::{checked_own_value, integer};
+use vlog_value::{evaluated, integer};
 
 /// Where a signal stands in the list of signals, its length and the number of its lowest bit.
 #[derive(Clone, Copy)]
@@ -42,7 +42,8 @@ pub fn known(alloc: Global, expr: &Expr) -> Result<Option<i128>, AllocError>
     if !reads.as_slice().is_empty() {
         return Ok(None);
     }
-    match checked_own_value(expr, &Valuation::new(alloc)) {
+    let own = evaluated(alloc, expr, &Valuation::new(alloc))?;
+    match own {
         Some((word, signed)) => Ok(Some(integer(word, signed))),
         None => unreachable!(),
     }

@@ -126,6 +126,12 @@ module _ (v : List Entry) (labels : List (Bor Expr)) (i : ℕ) where
         and_and s o (all_signed v rest) ∙ (ap (λ z. s && (z && all_signed v rest)) g ∙ (ap (λ z. s && all_signed v z) (sym e) ∙ h.1)),
       )
 
+  -- the same of what is the longer of both
+  pub longest_on : (x : Bor Expr) (n k m : ℕ) (s o t : Bool) (p : ℕ) (r : Bool) → i < length labels → x ≡ get_or labels i x → k ≡ width_of v x.now → o ≡ sign_of v x.now → p ≡ max n k → r ≡ (s && o)
+      → Longest v n s (drop i labels) m t → Longest v p r (drop (i + 1) labels) m t
+  longest_on x n k m s o t p r lt is w g e f h =
+      subst (λ z. Longest v z r (drop (i + 1) labels) m t) (sym e) (subst (λ z. Longest v (max n k) z (drop (i + 1) labels) m t) (sym f) (longest_next x n k m s o t lt is w g h))
+
   pub longest_end : (n m : ℕ) (s t : Bool) → length labels ≤ i → Longest v n s (drop i labels) m t → (n ≡ m) × (s ≡ t)
   longest_end n m s t le h =
       let e : map expr_meant (drop i labels) ≡ [] = ap (map expr_meant) (drop_past labels i le) in

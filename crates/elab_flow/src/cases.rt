@@ -5,7 +5,7 @@ ghost use Rattle.std.specs.HashSet.{contains};
 ghost use Rattle.vlog_tree.specs.declared.expr.Expr.{Expr as Text};
 ghost use Rattle.vlog_tree.specs.declared.stmt.CaseKind.TheVariants as kinds;
 ghost use Rattle.vlog_tree.specs.Valuation.{IsLength};
-ghost use Rattle.vlog_tree.specs.Value.{IsFormed, IsDefined, NamesOnly, extend, width_of, sign_of};
+ghost use Rattle.vlog_tree.specs.Value.{IsFormed, IsDefined, NamesOnly, extend, width_of, sign_of, value_of};
 ghost use Rattle.vlog_value.specs.Shapes.{HasShape};
 ghost use Rattle.vlog_runs.specs.Places.{Among};
 ghost use Rattle.vlog_runs.specs.Blocks.{exprs_in, is_default, widest, all_signed, case_width, case_sign};
@@ -19,7 +19,7 @@ use elab_drive::reads_of;
 use std::alloc::{AllocError, Global};
 use std::collections::HashSet;
 use vlog_tree::{CaseItem, CaseKind, Expr, Labels, Valuation};
-use vlog_value::{shape_of, value};
+use vlog_value::{evaluated_at, measured};
 use word_core::Word;
 
 fn add_exprs<'a>(all: &mut Vec<&'a Expr>, exprs: &'a [Expr]) -> Result<(), AllocError>
@@ -91,30 +91,68 @@ fn are_constant(alloc: Global, labels: &[&Expr]) -> Result<bool, AllocError>
 }
 
 // The length and the sign of an expression.
-fn shape(expr: &Expr, valuation: &Valuation) -> (u8, bool)
+fn shape(alloc: Global, expr: &Expr, valuation: &Valuation) -> Result<(u8, bool), AllocError>
     requires { IsFormed valuation.now expr.now }
-    ensures { HasShape valuation.now expr.now result.0 result.1 }
+    ensures { IfOk result (λ s. HasShape valuation.now expr.now s.0 s.1) }
 {
-    match shape_of(expr, valuation) {
-        Some(own) => own,
+    let own = measured(alloc, expr, valuation)?;
+    match own {
+        Some(own) => Ok(own),
         None => unreachable!(),
     }
 }
 
+// The longer of two lengths, and whether both are signed.
+fn longer(a: (u8, bool), b: (u8, bool)) -> (u8, bool)
+    requires first { IsLength a.0 }
+    requires second { IsLength b.0 }
+    ensures width { result.0 ≡ max a.0 b.0 }
+    ensures sign { result.1 ≡ (a.1 && b.1) }
+    ensures length { IsLength result.0 }
+{
+    (a.0.max(b.0), a.1 && b.1)
+}
+
 // The greatest of a length and those of labels, and whether all are signed.
-fn compared_at(own: (u8, bool), labels: &[&Expr], valuation: &Valuation) -> (u8, bool)
+fn compared_at(
+    alloc: Global,
+    own: (u8, bool),
+    labels: &[&Expr],
+    valuation: &Valuation,
+) -> Result<(u8, bool), AllocError>
     requires own { IsLength own.0 }
     requires formed { (b : Text) → Among (map expr_meant labels.now) b → IsFormed valuation.now b }
-    ensures width { result.0 ≡ max own.0 (widest valuation.now (map expr_meant labels.now)) }
-    ensures sign { result.1 ≡ (own.1 && all_signed valuation.now (map expr_meant labels.now)) }
-    ensures length { IsLength result.0 }
+    ensures width { IfOk result (λ r. r.0 ≡ max own.0 (widest valuation.now (map expr_meant labels.now))) }
+    ensures sign { IfOk result (λ r. r.1 ≡ (own.1 && all_signed valuation.now (map expr_meant labels.now))) }
+    ensures length { IfOk result (λ r. IsLength r.0) }
 {
     let mut longest = own;
     for label in labels {
-        let next = shape(label, valuation);
-        longest = (longest.0.max(next.0), longest.1 && next.1);
+        let next = shape(alloc, label, valuation)?;
+        longest = longer(longest, next);
     }
-    longest
+    Ok(longest)
+}
+
+// The value of a label.
+fn value_of(
+    alloc: Global,
+    label: &Expr,
+    length: u8,
+    signed: bool,
+    valuation: &Valuation,
+) -> Result<u64, AllocError>
+    requires formed { IsFormed valuation.now label.now }
+    requires long { width_of valuation.now label.now ≤ length }
+    requires defined { IsDefined valuation.now label.now length signed }
+    requires most { length ≤ 64 }
+    ensures { IfOk result (λ n. n ≡ value_of valuation.now label.now length signed) }
+{
+    let word = evaluated_at(alloc, label, length, signed, valuation)?;
+    match word {
+        Some(word) => Ok(word.value()),
+        None => unreachable!(),
+    }
 }
 
 // The values of labels.
@@ -133,7 +171,8 @@ fn values_of(
 {
     let mut values = HashSet::new(alloc);
     for label in labels {
-        values.insert(value(label, length, signed, valuation).value())?;
+        let number = value_of(alloc, label, length, signed, valuation)?;
+        values.insert(number)?;
     }
     Ok(values)
 }
@@ -200,8 +239,9 @@ fn covers_all(
     requires { IsComparable valuation.now subject.now (map expr_meant labels.now) }
     ensures { IfOk result (λ r. MatchBool r (CoversAll valuation.now subject.now (map expr_meant labels.now)) (CoversAll valuation.now subject.now (map expr_meant labels.now) → ⊥)) }
 {
-    let own = shape(subject, valuation);
-    let (length, signed) = compared_at(own, labels, valuation);
+    let own = shape(alloc, subject, valuation)?;
+    let common = compared_at(alloc, own, labels, valuation)?;
+    let (length, signed) = common;
     let values = values_of(alloc, labels, length, signed, valuation)?;
     if has_all(&values, length, length, false) {
         return Ok(true);

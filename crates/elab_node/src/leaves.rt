@@ -23,6 +23,7 @@ pub struct Leaf {
 /// Leaves by name and offset. Contracts see the list of them, each of 1 to 64 bits.
 #[derive(Drop)]
 pub struct Leaves {
+    alloc: Global,
     leaves: Vec<Leaf>,
     // The same names with the value 0, in which they are found.
     entries: Valuation,
@@ -49,9 +50,15 @@ impl Leaves {
         ensures { result ≡ [] }
     {
         Leaves {
+            alloc,
             leaves: Vec::new(alloc),
             entries: Valuation::new(alloc),
         }
+    }
+
+    /// Where memory for copies of expressions is taken from.
+    pub fn allocator(&self) -> Global {
+        self.alloc
     }
 
     /// How many leaves there are.

@@ -50,16 +50,16 @@ fn node_at(dag: &mut Dag, expr: &Expr, here: (u8, bool), leaves: &Leaves) -> Res
             Ok(node)
         }
         Expr::Part(name, span, a, b) => {
-            let (width, _) = shape(expr, leaves);
+            let own = shape(expr, leaves)?;
             if is_fixed(*span) {
-                let low = constant_integer(b, leaves);
+                let low = constant_integer(b, leaves)?;
                 let vector = name_vector(dag, name, leaves);
-                let node = fixed_bits(dag, vector, low, width, here.0)?;
+                let node = fixed_bits(dag, vector, low, own.0, here.0)?;
                 return Ok(node);
             }
             let base = own_node(dag, alone(a, leaves), leaves)?;
             let vector = name_vector(dag, name, leaves);
-            let node = based_bits(dag, vector, *span, base, width, here.0)?;
+            let node = based_bits(dag, vector, *span, base, own.0, here.0)?;
             Ok(node)
         }
         Expr::ConstantSelect(number, index) => {
@@ -73,10 +73,10 @@ fn node_at(dag: &mut Dag, expr: &Expr, here: (u8, bool), leaves: &Leaves) -> Res
                 let node = constant_node(dag, expr, here, leaves)?;
                 return Ok(node);
             }
-            let (width, _) = shape(expr, leaves);
+            let own = shape(expr, leaves)?;
             let base = own_node(dag, alone(a, leaves), leaves)?;
             let vector = constant_vector(dag, *number)?;
-            let node = based_bits(dag, vector, *span, base, width, here.0)?;
+            let node = based_bits(dag, vector, *span, base, own.0, here.0)?;
             Ok(node)
         }
         Expr::Cast(_, inner) => {
@@ -95,12 +95,13 @@ fn node_at(dag: &mut Dag, expr: &Expr, here: (u8, bool), leaves: &Leaves) -> Res
         }
         Expr::Repeat(count, items) => {
             let once = row_node(dag, row(items, leaves), leaves)?;
-            let all = copies(dag, once, count_of(count, once.width, leaves))?;
+            let times = count_of(count, once.width, leaves)?;
+            let all = copies(dag, once, times)?;
             let node = extended(dag, all, here.0, false)?;
             Ok(node)
         }
         Expr::Unary(op, inner) => {
-            let place = unary_place(expr, *op, inner, here, leaves);
+            let place = unary_place(expr, *op, inner, here, leaves)?;
             let inner = node_at(dag, operand(inner, place, leaves), place, leaves)?;
             let width = place.0;
             let node = made(dag, *op, here.0, Wire { node: inner, width })?;
@@ -111,7 +112,7 @@ fn node_at(dag: &mut Dag, expr: &Expr, here: (u8, bool), leaves: &Leaves) -> Res
                 let node = constant_node(dag, expr, here, leaves)?;
                 return Ok(node);
             }
-            let places = binary_places(expr, *op, a, b, here, leaves);
+            let places = binary_places(expr, *op, a, b, here, leaves)?;
             let left = places.left;
             let right = places.right;
             let a = node_at(dag, operand(a, left, leaves), left, leaves)?;
@@ -154,7 +155,7 @@ fn own_node(dag: &mut Dag, expr: &Expr, leaves: &Leaves) -> Result<Own, AllocErr
     ensures ready { AreReady leaves.now dag.new }
     ensures node { IfOk result (λ o. HasOwnNode leaves.now dag.new dag.new expr.now o.wire o.signed) }
 {
-    let here = own_place(expr, leaves);
+    let here = own_place(expr, leaves)?;
     let node = node_at(dag, expr, here, leaves)?;
     let wire = Wire {
         node,
@@ -223,9 +224,9 @@ pub fn assigned_node(
     ensures ready { AreReady leaves.now dag.new }
     ensures node { IfOk result (λ i. Makes dag.new i width (λ e. assigned (valued leaves.now (words e dag.old)) expr.now width)) }
 {
-    let (own, signed) = shape(expr, leaves);
-    let length = own.max(width);
-    let node = node_at(dag, expr, (length, signed), leaves)?;
+    let own = shape(expr, leaves)?;
+    let length = own.0.max(width);
+    let node = node_at(dag, expr, (length, own.1), leaves)?;
     let wire = Wire {
         node,
         width: length,

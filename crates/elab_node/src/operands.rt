@@ -1,5 +1,5 @@
 // The parts of expressions, as they are taken.
-ghost use Rattle.std.specs.Prelude.{◌≡◌, ◌*◌, ◌^◌, ◌≤◌, ◌<◌, IsTrue, ℤ, pos, negsuc, ◌≤ℤ◌, ◌<ℤ◌};
+ghost use Rattle.std.specs.Prelude.{◌≡◌, ◌*◌, ◌^◌, ◌≤◌, ◌<◌, IsTrue, IfOk, ℤ, pos, negsuc, ◌≤ℤ◌, ◌<ℤ◌};
 ghost use Rattle.std.specs.Bool.{MatchBool};
 ghost use Rattle.vlog_tree.specs.Valuation.{IsLength};
 ghost use Rattle.vlog_tree.specs.Value.{IsFormed, natural, operand_of, own_integer};
@@ -12,10 +12,9 @@ ghost use Rattle.elab_node.specs.Terms.{IsTaken, IsAlone, IsRow, IsInner, AreOpe
 use crate::leaves::Leaves;
 use crate::nodes::Wire;
 use sqlite_items::{Boxed, Items};
+use std::alloc::AllocError;
 use vlog_tree::{Binary, Expr, Span, Unary};
-use vlog_value::{
-    checked_own_value, family_of, inner_place, integer, left_place, right_place, shape_of,
-};
+use vlog_value::{evaluated, family_of, inner_place, integer, left_place, measured, right_place};
 
 /// The bits of a vector, and the number of the lowest one.
 #[derive(Clone, Copy)]
@@ -31,13 +30,13 @@ pub struct Places {
     pub right: (u8, bool),
 }
 
-/// The length and the sign that an expression has by itself.
-pub fn shape(expr: &Expr, leaves: &Leaves) -> (u8, bool)
+/// The length and the sign that an expression has by itself. It is refused for want of memory alone.
+pub fn shape(expr: &Expr, leaves: &Leaves) -> Result<(u8, bool), AllocError>
     requires { IsFormed (declared leaves.now) expr.now }
-    ensures { HasShape (declared leaves.now) expr.now result.0 result.1 }
+    ensures { IfOk result (λ s. HasShape (declared leaves.now) expr.now s.0 s.1) }
 {
-    match shape_of(expr, leaves.declared()) {
-        Some(shape) => shape,
+    match measured(leaves.allocator(), expr, leaves.declared())? {
+        Some(shape) => Ok(shape),
         None => unreachable!(),
     }
 }
@@ -85,10 +84,10 @@ pub fn row<'a>(items: &'a Items<Expr>, leaves: &Leaves) -> &'a [Expr]
 
 /// The length and the sign of an expression that is taken by itself.
 #[tactic(auto, using(crate::proofs::Shaped::alone_taken))]
-pub fn own_place(expr: &Expr, leaves: &Leaves) -> (u8, bool)
+pub fn own_place(expr: &Expr, leaves: &Leaves) -> Result<(u8, bool), AllocError>
     requires { IsAlone leaves.now expr.now }
-    ensures shape { HasShape (declared leaves.now) expr.now result.0 result.1 }
-    ensures taken { IsTaken leaves.now expr.now result.0 result.1 }
+    ensures shape { IfOk result (λ s. HasShape (declared leaves.now) expr.now s.0 s.1) }
+    ensures taken { IfOk result (λ s. IsTaken leaves.now expr.now s.0 s.1) }
 {
     shape(expr, leaves)
 }
@@ -100,14 +99,15 @@ pub fn unary_place(
     inner: &Boxed<Expr>,
     here: (u8, bool),
     leaves: &Leaves,
-) -> (u8, bool)
+) -> Result<(u8, bool), AllocError>
     requires is { expr.now ≡ Expr.Unary op inner.now }
     requires taken { IsTaken leaves.now expr.now here.0 here.1 }
-    ensures place { IsInner leaves.now op inner.now here.0 here.1 result.0 result.1 }
-    ensures taken { IsTaken leaves.now inner.now result.0 result.1 }
+    ensures place { IfOk result (λ p. IsInner leaves.now op inner.now here.0 here.1 p.0 p.1) }
+    ensures taken { IfOk result (λ p. IsTaken leaves.now inner.now p.0 p.1) }
 {
     let _expr = expr;
-    inner_place(op, here, shape(inner.get(), leaves))
+    let own = shape(inner.get(), leaves)?;
+    Ok(inner_place(op, here, own))
 }
 
 /// Where a binary operator takes its operands.
@@ -118,20 +118,20 @@ pub fn binary_places(
     b: &Boxed<Expr>,
     here: (u8, bool),
     leaves: &Leaves,
-) -> Places
+) -> Result<Places, AllocError>
     requires is { expr.now ≡ Expr.Binary op a.now b.now }
     requires taken { IsTaken leaves.now expr.now here.0 here.1 }
-    ensures places { AreOperands leaves.now op a.now b.now here.0 here.1 result.left.0 result.left.1 result.right.0 result.right.1 }
-    ensures left { IsTaken leaves.now a.now result.left.0 result.left.1 }
-    ensures right { IsTaken leaves.now b.now result.right.0 result.right.1 }
+    ensures places { IfOk result (λ p. AreOperands leaves.now op a.now b.now here.0 here.1 p.left.0 p.left.1 p.right.0 p.right.1) }
+    ensures left { IfOk result (λ p. IsTaken leaves.now a.now p.left.0 p.left.1) }
+    ensures right { IfOk result (λ p. IsTaken leaves.now b.now p.right.0 p.right.1) }
 {
     let _expr = expr;
-    let first = shape(a.get(), leaves);
-    let second = shape(b.get(), leaves);
-    Places {
+    let first = shape(a.get(), leaves)?;
+    let second = shape(b.get(), leaves)?;
+    Ok(Places {
         left: left_place(family_of(op), here, first, second),
         right: right_place(family_of(op), here, first, second),
-    }
+    })
 }
 
 /// Whether an operator divides.
@@ -149,24 +149,25 @@ pub fn is_fixed(span: Span) -> bool
 }
 
 /// The integer of a part that is the same whatever the names' values are.
-pub fn constant_integer(boxed: &Boxed<Expr>, leaves: &Leaves) -> i128
+pub fn constant_integer(boxed: &Boxed<Expr>, leaves: &Leaves) -> Result<i128, AllocError>
     requires { IsAlone leaves.now boxed.now }
-    ensures value { result ≡ own_integer (operand_of (declared leaves.now) boxed.now) }
-    ensures low { negsuc (2 ^ 64) ≤ℤ result }
-    ensures high { result <ℤ pos (2 ^ 64) }
+    ensures value { IfOk result (λ i. i ≡ own_integer (operand_of (declared leaves.now) boxed.now)) }
+    ensures low { IfOk result (λ i. negsuc (2 ^ 64) ≤ℤ i) }
+    ensures high { IfOk result (λ i. i <ℤ pos (2 ^ 64)) }
 {
-    match checked_own_value(boxed.get(), leaves.declared()) {
-        Some((word, signed)) => integer(word, signed),
+    match evaluated(leaves.allocator(), boxed.get(), leaves.declared())? {
+        Some((word, signed)) => Ok(integer(word, signed)),
         None => unreachable!(),
     }
 }
 
 /// How many copies of so many bits there are.
-pub fn count_of(boxed: &Boxed<Expr>, width: u8, leaves: &Leaves) -> u8
+pub fn count_of(boxed: &Boxed<Expr>, width: u8, leaves: &Leaves) -> Result<u8, AllocError>
     requires alone { IsAlone leaves.now boxed.now }
     requires length { IsLength (natural (own_integer (operand_of (declared leaves.now) boxed.now)) * width) }
-    ensures { result ≡ natural (own_integer (operand_of (declared leaves.now) boxed.now)) }
+    ensures { IfOk result (λ n. n ≡ natural (own_integer (operand_of (declared leaves.now) boxed.now))) }
 {
     let _width = width;
-    constant_integer(boxed, leaves) as u8
+    let count = constant_integer(boxed, leaves)?;
+    Ok(count as u8)
 }

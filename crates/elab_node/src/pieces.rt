@@ -16,7 +16,8 @@ use crate::nodes::{Wire, constant, extended};
 use crate::operands::Vector;
 use std::alloc::AllocError;
 use vlog_tree::{Constant, Expr, Name, Number, Span};
-use vlog_value::{low_bits, number_width, value};
+use vlog_value::{evaluated_at, low_bits, number_width};
+use word_core::Word;
 use word_dag::Dag;
 
 /// The node of a number.
@@ -192,6 +193,17 @@ pub fn based_bits(
     Ok(number)
 }
 
+// The value of an expression at the length and the sign at which it is taken, each name having the value 0.
+fn constant_word(expr: &Expr, here: (u8, bool), leaves: &Leaves) -> Result<Word, AllocError>
+    requires { IsTaken leaves.now expr.now here.0 here.1 }
+    ensures { IfOk result (λ w. w ≡ record { width = here.0; value = value_of (declared leaves.now) expr.now here.0 here.1 }) }
+{
+    match evaluated_at(leaves.allocator(), expr, here.0, here.1, leaves.declared())? {
+        Some(word) => Ok(word),
+        None => unreachable!(),
+    }
+}
+
 /// The node of an expression that is the same whatever the names' values are.
 pub fn constant_node(
     dag: &mut Dag,
@@ -203,7 +215,7 @@ pub fn constant_node(
     ensures keeps { Keeps dag.old dag.new }
     ensures makes { IfOk result (λ r. Makes dag.new r here.0 (λ e. value_of (declared leaves.now) expr.now here.0 here.1)) }
 {
-    let word = value(expr, here.0, here.1, leaves.declared());
+    let word = constant_word(expr, here, leaves)?;
     let number = constant(dag, here.0, word.value())?;
     Ok(number)
 }

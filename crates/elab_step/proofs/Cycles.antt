@@ -112,14 +112,18 @@ holds_itself gs g z m = rw (eq-eqb g.depth 0 (plain_signal gs g z m)) (inl refl)
 
 -- ---- which bits are driven
 
+-- a name is that of a signal
+abbrev pub Declares : List Signal → Name → Type 0
+Declares gs x = (g : Signal) × Among gs g × (g.name ≡ x)
+
 module _ (f : Flat) (plain : ArePlain f.signals) where
   full_drives : (left : Lval) (x : Name) (b : ℕ) → DrivesFull (flat_place f) left x b → Drives (flat_place f) left x b
   full_drives left x b h =
-      ⊎_elim (λ k. subst (λ y. Drives (flat_place f) left y b) (sym k.1) k.2)
+      ⊎_elim (λ k. subst (λ y. Drives (flat_place f) left y b) (sym k.3) k.4)
       (λ k. let t : true ≡ false = sym (eq-eqb k.0.depth 0 (plain_signal f.signals k.0 plain k.1)) ∙ k.2 in absurd (let u : true ≡ false = t in cc)) h
 
-  drives_full : (left : Lval) (x : Name) (b : ℕ) → Drives (flat_place f) left x b → DrivesFull (flat_place f) left x b
-  drives_full left x b h = inl (x, refl, h)
+  drives_full : (left : Lval) (x : Name) (b : ℕ) → Declares f.signals x → Drives (flat_place f) left x b → DrivesFull (flat_place f) left x b
+  drives_full left x b (g, m, e) h = inl (g, m, eq-eqb g.depth 0 (plain_signal f.signals g plain m), sym e, subst (λ y. Drives (flat_place f) left y b) (sym e) h)
 
   -- what drives a bit is a continuous assignment or a combinational block
   driven_by : (x : Name) (b : ℕ) → IsDriven f x b → (k : Stmt) × Among (processes f) k × DrivesBit (flat_place f) k x b
@@ -127,13 +131,13 @@ module _ (f : Flat) (plain : ArePlain f.signals) where
       ⊎_elim (λ a. (assign_stmt a.0, is_assign f a.0 a.1, (a.0.left, inl refl, full_drives a.0.left x b a.2)))
       (λ c. (c.0.body, is_body f c.0 c.1 c.2, (c.3, c.4, full_drives c.3 x b c.5))) h
 
-  is_driven : (k : Stmt) (x : Name) (b : ℕ) → Among (processes f) k → DrivesBit (flat_place f) k x b → IsDriven f x b
-  is_driven k x b m d =
+  is_driven : (k : Stmt) (x : Name) (b : ℕ) → Declares f.signals x → Among (processes f) k → DrivesBit (flat_place f) k x b → IsDriven f x b
+  is_driven k x b declared m d =
       ⊎_elim
       (λ a. let e : DrivesBit (flat_place f) (assign_stmt a.0) x b = subst (λ z. DrivesBit (flat_place f) z x b) (sym a.2) d in
-      inl (a.0, a.1, drives_full a.0.left x b (⊎_elim (λ (i : a.0.left ≡ e.0). subst (λ z. Drives (flat_place f) z x b) (sym i) e.2) (λ n. absurd n) e.1)))
+      inl (a.0, a.1, drives_full a.0.left x b declared (⊎_elim (λ (i : a.0.left ≡ e.0). subst (λ z. Drives (flat_place f) z x b) (sym i) e.2) (λ n. absurd n) e.1)))
       (λ a. let e : DrivesBit (flat_place f) a.0.body x b = subst (λ z. DrivesBit (flat_place f) z x b) (sym a.3) d in
-      inr (a.0, a.1, a.2, e.0, e.1, drives_full e.0 x b e.2))
+      inr (a.0, a.1, a.2, e.0, e.1, drives_full e.0 x b declared e.2))
       (processes_are f k m)
 
 -- what is known of a module whose nets can be solved
@@ -197,7 +201,7 @@ module _ (f : Flat) (depends : Name → Name → Type 0) (width : Name → ℕ) 
       undriven g b m nd nr ni =
           ⊎_elim
           (λ (l : b < g.width). (meets g.name (record { signal = g; is_declared = m; named = refl; no_register = nr; no_input = ni })).other_bits b (subst (λ w. b < w) (sym (can.widths g m)) l)
-          (λ k u d. nd (is_driven f can.plain k g.name b u d)))
+          (λ k u d. nd (is_driven f can.plain k g.name b (g, m, refl) u d)))
           (λ l. bit_at_above (c g.name) g.width b (fits g m) l) (less_or b g.width)
 
   -- the cycles are those that nets are solved to
@@ -269,7 +273,7 @@ module _ (f : Flat) (can : AreClocked f) where
       let none : (k : Stmt) → Among (clocked f.blocks) k → DrivesBit p k g.name b → ⊥ = λ k u d.
       let a = clocked_are f.blocks k u in
       let v : DrivesBit p a.0.body g.name b = subst (λ z. DrivesBit p z g.name b) (sym a.3) d in
-      n (h.driven a.0 a.1 a.2 v.0 v.1 g.name b (drives_full f can.plain v.0 g.name b v.2)
+      n (h.driven a.0 a.1 a.2 v.0 v.1 g.name b (drives_full f can.plain v.0 g.name b (g, m, refl) v.2)
       ∙ sym (edge_taken (clocked f.blocks) g.name b c c a.0.body (λ j z. z) (can.apart g b m l) (are_clocked f.blocks a.0 a.1 a.2) v refl)) in
       n (h.kept g.name b r (λ z. none z.0.body (are_clocked f.blocks z.0 z.1 z.2) (z.3, z.4, full_drives f can.plain z.3 g.name b z.5))
       ∙ sym (edge_stays (clocked f.blocks) g.name b c c (λ k u. u) none))))
@@ -296,5 +300,5 @@ module _ (f : Flat) (can : AreClocked f) where
         ∙ edge_stays (clocked f.blocks) x b c c (λ k m. m)
         (λ k m d. let a = clocked_are f.blocks k m in
         let d' : DrivesBit p a.0.body x b = subst (λ z. DrivesBit p z x b) (sym a.3) d in
-        n (a.0, a.1, a.2, d'.0, d'.1, drives_full f can.plain d'.0 x b d'.2));
+        n (a.0, a.1, a.2, d'.0, d'.1, drives_full f can.plain d'.0 x b (register_declared x r) d'.2));
   }

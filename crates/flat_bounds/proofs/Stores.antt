@@ -170,6 +170,12 @@ module _ (side : Side) (p : Place) (left : Lval) where
   breaks_store a names w (inl h) = inl (breaks_left names w h)
   breaks_store a names w (inr h) = inr (subst (λ t. Breaks test v t w) (stored_is h.0 a h.1.size) h.2)
 
+-- a part that breaks a rule, or the right side, in the assignment
+pub of_numbers : (side : Side) (test : Name → Bool) (v : List Entry) (qs : List Lval) (a : Expr) (w : Violation) → SomeBreaksNumbers side test v qs w → BreaksTo side test v qs a w
+of_numbers side test v qs a b.Constant h = inl h
+of_numbers side test v qs a b.Length h = inl (inl h)
+of_numbers side test v qs a b.Memory h = inl h.2
+
 -- a number that breaks a rule, in its part
 pub of_some : (side : Side) (test : Name → Bool) (v : List Entry) (q : Lval) (w : Violation) → SomeBreaks test v (map (alone v) (numbers_in q)) w → BreaksNumbers side test v q w
 of_some side test v q b.Constant h = inl h

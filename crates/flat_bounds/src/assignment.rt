@@ -50,6 +50,7 @@ fn check_assigned(
 {
     let parts = target_parts(alloc, assigned.left)?;
     check_store(
+        alloc,
         Side::Continuous,
         &parts,
         assigned.right,

@@ -36,11 +36,11 @@ fn check_site(
     ensures err { IfErr result (Fails (BreaksUsage (place_of (scope_meant scope.now)) (site_meant site.entry))) }
 {
     match site {
-        Site::Test(expr) => check_alone(expr, &scope.params, rest),
+        Site::Test(expr) => check_alone(alloc, expr, &scope.params, rest),
         Site::Cases(subject, items) => check_cases(alloc, subject, items, &scope.params, rest),
         Site::Store(left, right) => {
             let parts = parts_of(alloc, left)?;
-            check_store(Side::Procedural, &parts, right, &scope.params, rest)
+            check_store(alloc, Side::Procedural, &parts, right, &scope.params, rest)
         }
     }
 }

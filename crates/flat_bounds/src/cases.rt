@@ -62,17 +62,18 @@ fn exprs_of<'a>(
 
 // The greatest length of some expressions, and whether all are signed.
 fn common_shape(
+    alloc: Global,
     exprs: &[&Expr],
     params: &Valuation,
     rest: &Valuation,
 ) -> Result<(u8, bool), Violation>
     ensures ok { IfOk result (λ s. HasCommonShape (is_known params.now) rest.now (map expr_meant exprs.now) s.0 s.1) }
-    ensures err { (n : ℕ) (s : Bool) → IfErr result (λ w. (a : Form) × Among (map expr_meant exprs.now) a × Breaks (is_known params.now) rest.now (taken_at a n s) w) }
+    ensures err { (n : ℕ) (s : Bool) → IfErr result (Fails (λ w. (a : Form) × Among (map expr_meant exprs.now) a × Breaks (is_known params.now) rest.now (taken_at a n s) w)) }
 {
     let mut longest = 0;
     let mut all_signed = true;
     for expr in exprs {
-        match sound_shape(expr, params, rest) {
+        match sound_shape(alloc, expr, params, rest) {
             Ok((width, signed)) => {
                 longest = width.max(longest);
                 all_signed = all_signed && signed;
@@ -85,19 +86,19 @@ fn common_shape(
 
 // Expressions keep the rules at a length and a sign.
 fn check_all_at(
+    alloc: Global,
     exprs: &[&Expr],
-    length: u8,
-    signed: bool,
+    shape: (u8, bool),
     params: &Valuation,
     rest: &Valuation,
 ) -> Result<(), Violation>
-    requires ready { (a : Form) → Among (map expr_meant exprs.now) a → CanTake (is_known params.now) rest.now a length }
-    requires most { length ≤ 64 }
-    ensures ok { OnOk result ((a : Form) → Among (map expr_meant exprs.now) a → IsSound (is_known params.now) rest.now (taken_at a length signed)) }
-    ensures err { IfErr result (λ w. (a : Form) × Among (map expr_meant exprs.now) a × Breaks (is_known params.now) rest.now (taken_at a length signed) w) }
+    requires ready { (a : Form) → Among (map expr_meant exprs.now) a → CanTake (is_known params.now) rest.now a shape.0 }
+    requires most { shape.0 ≤ 64 }
+    ensures ok { OnOk result ((a : Form) → Among (map expr_meant exprs.now) a → IsSound (is_known params.now) rest.now (taken_at a shape.0 shape.1)) }
+    ensures err { IfErr result (Fails (λ w. (a : Form) × Among (map expr_meant exprs.now) a × Breaks (is_known params.now) rest.now (taken_at a shape.0 shape.1) w)) }
 {
     for expr in exprs {
-        match check_at(expr, length, signed, params, rest) {
+        match check_at(alloc, expr, shape, params, rest) {
             Ok(()) => {}
             Err(violation) => return Err(violation),
         }
@@ -117,8 +118,8 @@ pub fn check_cases(
     ensures err { IfErr result (Fails (SomeBreaks (is_known params.now) rest.now (compared rest.now (record { value = subject.now; labels = flat_map item_labels items.now })))) }
 {
     let exprs = exprs_of(alloc, subject, items)?;
-    match common_shape(&exprs, params, rest) {
-        Ok((width, signed)) => check_all_at(&exprs, width, signed, params, rest),
+    match common_shape(alloc, &exprs, params, rest) {
+        Ok(shape) => check_all_at(alloc, &exprs, shape, params, rest),
         Err(violation) => Err(violation),
     }
 }

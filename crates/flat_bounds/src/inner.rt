@@ -93,7 +93,7 @@ fn check_value(
     ensures err { IfErr result (Fails (BreaksGiven (place_of (scope_meant scope.now)) value.now width)) }
 {
     match width {
-        Some(least) => check_stored(value, least, &scope.params, rest),
+        Some(least) => check_stored(alloc, value, least, &scope.params, rest),
         None => check_output(alloc, scope, rest, signals, value),
     }
 }

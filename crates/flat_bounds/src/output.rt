@@ -109,14 +109,15 @@ pub fn check_output(
     ensures err { IfErr result (Fails (BreaksLeft d.Continuous (place_of (scope_meant scope.now)) (left_of value.now))) }
 {
     let parts = left_parts(alloc, value)?;
-    match check_numbers(Side::Continuous, &parts, &scope.params, rest) {
+    match check_numbers(alloc, Side::Continuous, &parts, &scope.params, rest) {
         Ok(()) => {}
         Err(violation) => return Err(violation),
     }
     if !are_of(&parts, signals) {
         return Ok(());
     }
-    match total_bits(&parts, rest) {
+    let bits = total_bits(alloc, &parts, rest)?;
+    match bits {
         Some(_) => Ok(()),
         None => Err(Violation::Length),
     }

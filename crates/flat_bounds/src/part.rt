@@ -1,6 +1,6 @@
 // The parts of left sides: their numbers, and how many bits they have (IEEE 1364-2005, sections 5.2.1 and 5.2.2).
 
-ghost use Rattle.std.specs.Prelude.{◌≡◌, ◌+◌, ◌^◌, ◌≤◌, ℤ, pos, negsuc, ◌≤ℤ◌, ◌<ℤ◌, ◌-ℤ◌, ◌+ℤ◌, IsTrue, IfSome, IfNone};
+ghost use Rattle.std.specs.Prelude.{◌≡◌, ◌+◌, ◌^◌, ◌≤◌, ℤ, pos, negsuc, ◌≤ℤ◌, ◌<ℤ◌, ◌-ℤ◌, ◌+ℤ◌, IsTrue, IfOk, IfSome, IfNone};
 ghost use Rattle.vlog_tree.specs.Valuation.{IsLength, named, depth_of};
 ghost use Rattle.vlog_tree.specs.Value.{IsFormed, operand_of, own_integer, own_defined, part_width};
 ghost use Rattle.vlog_runs.specs.Places.{read};
@@ -10,19 +10,21 @@ ghost use Rattle.elab_drive.specs.Parts.{part_meant};
 ghost use Rattle.flat_bounds.specs.Lefts.{part_count, HasDefinedNumbers};
 
 use elab_drive::Part;
+use std::alloc::{AllocError, Global};
 use vlog_tree::{Constant, Expr, Span, Valuation};
-use vlog_value::{checked_own_value, integer};
+use vlog_value::{evaluated, integer};
 
 // The integer that an expression stands for by itself.
-fn own_integer(expr: &Expr, rest: &Valuation) -> i128
+fn own_integer(alloc: Global, expr: &Expr, rest: &Valuation) -> Result<i128, AllocError>
     requires formed { IsFormed rest.now expr.now }
     requires defined { IsTrue (own_defined (operand_of rest.now expr.now)) }
-    ensures value { result ≡ own_integer (operand_of rest.now expr.now) }
-    ensures low { negsuc (2 ^ 64) ≤ℤ result }
-    ensures high { result <ℤ pos (2 ^ 64) }
+    ensures value { IfOk result (λ i. i ≡ own_integer (operand_of rest.now expr.now)) }
+    ensures low { IfOk result (λ i. negsuc (2 ^ 64) ≤ℤ i) }
+    ensures high { IfOk result (λ i. i <ℤ pos (2 ^ 64)) }
 {
-    match checked_own_value(expr, rest) {
-        Some((word, signed)) => integer(word, signed),
+    let own = evaluated(alloc, expr, rest)?;
+    match own {
+        Some((word, signed)) => Ok(integer(word, signed)),
         None => unreachable!(),
     }
 }
@@ -93,26 +95,25 @@ fn depth_of(name: &[u8], rest: &Valuation) -> u8
     }
 }
 
-/// How many bits a part of a left side has; none where it isn't well formed.
-pub fn part_bits(part: Part<'_>, rest: &Valuation) -> Option<u8>
+/// How many bits a part of a left side has; none where it isn't well formed. An `AllocError` is want of memory.
+pub fn part_bits(alloc: Global, part: Part<'_>, rest: &Valuation) -> Result<Option<u8>, AllocError>
     requires { HasDefinedNumbers rest.now (part_meant part) }
-    ensures some { IfSome result (λ n. IsLeftFormed rest.now (part_meant part.entry) × (n ≡ part_count rest.now (part_meant part.entry)) × (n ≤ 64)) }
-    ensures none { IfNone result (IsLeftFormed rest.now (part_meant part.entry) → ⊥) }
+    ensures some { IfOk result (λ o. IfSome o (λ n. IsLeftFormed rest.now (part_meant part.entry) × (n ≡ part_count rest.now (part_meant part.entry)) × (n ≤ 64))) }
+    ensures none { IfOk result (λ o. IfNone o (IsLeftFormed rest.now (part_meant part.entry) → ⊥)) }
 {
     match part {
-        Part::Whole(name) => Some(vector_of(name.bytes(), rest).width),
+        Part::Whole(name) => Ok(Some(vector_of(name.bytes(), rest).width)),
         Part::Bit(name, _) => {
             if depth_of(name.bytes(), rest) == 0 {
-                Some(1)
+                Ok(Some(1))
             } else {
-                Some(vector_of(name.bytes(), rest).width)
+                Ok(Some(vector_of(name.bytes(), rest).width))
             }
         }
-        Part::Bits(name, span, a, b) => part_width(
-            vector_of(name.bytes(), rest),
-            span,
-            own_integer(a, rest),
-            own_integer(b, rest),
-        ),
+        Part::Bits(name, span, a, b) => {
+            let a = own_integer(alloc, a, rest)?;
+            let b = own_integer(alloc, b, rest)?;
+            Ok(part_width(vector_of(name.bytes(), rest), span, a, b))
+        }
     }
 }

@@ -86,6 +86,19 @@ mutual
   any_from p gs m h (more_of-Lval a rest) d x b k =
       ⊎_elim (λ z. let r = drives_from p gs m h a d.0 x b z in (r.0, r.1, inl r.2)) (λ z. let r = any_from p gs m h rest d.1 x b z in (r.0, r.1, inr r.2)) k
 
+-- what is driven is named
+mutual
+  pub drives_named : (p : Place) (left : Lval) (x : Name) (b : ℕ) → Drives p left x b → Among (left_names left) x
+  drives_named p (l.Name z) x b k = inl k
+  drives_named p (l.Select z a) x b k = inl k.0
+  drives_named p (l.Part z span a a') x b k = inl k.0
+  drives_named p (l.Concat' q row) x b k = any_named p row x b k
+
+  any_named : {n : _} (p : Place) (row : Row_of-Lval n) (x : Name) (b : ℕ) → AnyDrives p row x b → Among (row_names row) x
+  any_named p end_of-Lval x b k = k
+  any_named p (more_of-Lval a rest) x b k =
+      ⊎_elim (λ z. append_left (left_names a) (row_names rest) x (drives_named p a x b z)) (λ z. append_right (left_names a) (row_names rest) x (any_named p rest x b z)) k
+
 -- ---- words of memories
 
 mutual

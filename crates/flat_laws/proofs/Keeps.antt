@@ -15,7 +15,7 @@ use Rattle.vlog_runs.specs.declared.flat.Always.{Always}
 use Rattle.vlog_runs.specs.declared.flat.Flat.{Flat}
 use Rattle.vlog_runs.specs.declared.flat.Signal.{Signal}
 use Rattle.vlog_runs.specs.Places.{read, Name, Cycle, Among, Place, holders, total, give}
-use Rattle.vlog_runs.specs.Blocks.{run, lefts, row_lefts, case_lefts, left_names, row_names, Stores}
+use Rattle.vlog_runs.specs.Blocks.{run, lefts, row_lefts, case_lefts, left_names, row_names, Drives, Stores}
 use Rattle.vlog_runs.specs.Contents.{Decl, Block, blocks_in, is_clocked, Inner, instances_in, signals_in, port_names, assigns_in}
 use Rattle.vlog_runs.specs.Scopes.{Scope, place_of, Link, links_of, own_link, inner_links, child, connections, connection, port_links, port_link, Given, given_to, decl_at, left_of}
 use Rattle.vlog_runs.specs.Cycles.{linked, IsAssigned, DrivesBit, DrivesWord, DrivesFull, IsRegisterFrom, IsDrivenFrom, IsCycleFrom, IsClockedFrom, FollowsFrom, flat_place, IsRegister, IsDriven, IsInput, IsCycle, IsClocked, Follows}
@@ -28,7 +28,7 @@ use Rattle.flat_laws.proofs.Sides.{pieces_moved, expr_moved, word_under}
 use Rattle.flat_laws.proofs.Statements.{run_moved}
 use Rattle.flat_laws.proofs.Finding.{bare, signal_known}
 use Rattle.flat_laws.proofs.Lows.{scope_moves}
-use Rattle.flat_laws.proofs.Driving.{drives_to, drives_from, stores_to, stores_from, lefts_moved, assigned_names, holders_moved}
+use Rattle.flat_laws.proofs.Driving.{drives_to, drives_from, drives_named, stores_to, stores_from, lefts_moved, assigned_names, holders_moved}
 
 -- ---- links
 
@@ -182,7 +182,13 @@ module _ (ms : List Module) (top : Name) (ss : List Scope) (f : Flat) (of : IsFl
       DrivesFull (place_of u) left x b → DrivesFull (flat_place f) (moved_left u.prefix u.params left) x b
   full_to u h left d x b k =
       ⊎_elim
-      (λ (i : DrivesBit (place_of u) left x b). inl (x, refl, drives_to (place_of u) f.signals (moves_in u h) (can.usable u h).constants left d x i.0 b i.1 i.2))
+      (λ (i : DrivesBit (place_of u) left x b). inl (
+        moved_signal u.prefix i.0,
+        signal_in u i.0 h i.1,
+        i.2,
+        i.3,
+        drives_to (place_of u) f.signals (moves_in u h) (can.usable u h).constants left d (u.prefix ++ i.0.name) i.0.name b refl i.4,
+      ))
       (λ (w : DrivesWord (place_of u) left x). inr (
         moved_signal u.prefix w.0,
         signal_in u w.0 h w.1,
@@ -199,8 +205,11 @@ module _ (ms : List Module) (top : Name) (ss : List Scope) (f : Flat) (of : IsFl
   full_from u h left d x b k =
       ⊎_elim
       (λ (i : DrivesBit (flat_place f) (moved_left u.prefix u.params left) x b).
-      let r = drives_from (place_of u) f.signals (moves_in u h) (can.usable u h).constants left d i.0 b i.2 in
-      inl (r.0, i.1 ∙ r.1, r.2))
+      let r = drives_from (place_of u) f.signals (moves_in u h) (can.usable u h).constants left d i.0.name b i.4 in
+      let o = own_signal u h r.0 (names_are (place_of u) left d r.0 (drives_named (place_of u) left r.0 b r.2)) i.0 i.1 r.1 in
+      let plain : nat_eq o.0.depth 0 ≡ true = ap (λ (z : Signal). nat_eq z.depth 0) o.3 ∙ i.2 in
+      let same : i.0.name ≡ u.prefix ++ o.0.name = r.1 ∙ ap (λ y. u.prefix ++ y) (sym o.2) in
+      inl (o.0, o.1, plain, i.3 ∙ same, subst (λ y. Drives (place_of u) left y b) (sym o.2) r.2))
       (λ (w : DrivesWord (flat_place f) (moved_left u.prefix u.params left) x).
       let n = stores_from (place_of u) f.signals (can.usable u h).constants left d w.0.name w.3 w.5 in
       let o = own_signal u h n.0 (names_are (place_of u) left d n.0 n.2) w.0 w.1 n.1 in

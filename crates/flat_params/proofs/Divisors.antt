@@ -1,6 +1,7 @@
 -- Whether no divisor is 0 in the bounds of each form of an expression.
-use Rattle.std.proofs.Common.{◌≡◌, ℕ, suc, ◌+◌, ◌<◌, Bool, true, false, ◌&&◌, List, ◌∷◌, length, drop, get_or, drop-cons, add-one, refl, sym, ap, subst, ◌∙◌}
+use Rattle.std.proofs.Common.{◌≡◌, ℕ, suc, ◌+◌, ◌<◌, Bool, true, false, ◌&&◌, List, ◌∷◌, Result, Ok, Err, length, drop, get_or, drop-cons, add-one, refl, sym, ap, subst, ◌∙◌}
 use Rattle.std.specs.Bool.{MatchBool}
+use Rattle.std.specs.Prelude.{IfOk}
 use Rattle.vlog_tree.specs.declared.expr.Name.{Name as Read}
 use Rattle.vlog_tree.specs.declared.expr.Span.{Span}
 use Rattle.vlog_tree.specs.declared.expr.Unary.{Unary}
@@ -31,6 +32,11 @@ pub decided_false : (P : Type 0) (b : Bool) → Decides P b → b ≡ false → 
 decided_false P true d e = cc
 decided_false P false d e = d
 
+-- what follows from what a call answers
+pub ok_as : {T E : Type 0} (o : Result T E) (P Q : T → Type 0) → ((r : T) → P r → Q r) → IfOk o P → IfOk o Q
+ok_as (Ok r) P Q f h = f r h
+ok_as (Err e) P Q f h = tt
+
 -- what says the same is decided alike
 pub decides_as : (P Q : Type 0) (r : Bool) → (P → Q) → (Q → P) → Decides P r → Decides Q r
 decides_as P Q true f g p = f p
@@ -46,6 +52,9 @@ module _ (v : List Entry) where
 
   abbrev pub Bounds : Expr → Bool → Type 0
   Bounds a b = Decides (BoundsDefined v a) b
+
+  abbrev pub EachDecided : List Expr → Bool → Type 0
+  EachDecided xs b = Decides (EachBoundsDefined v xs) b
 
   pub select_bounds : (tree : Expr) (n : Read) (a x : Expr) (r : Bool) → tree ≡ e.Select n a → x ≡ a → Bounds x r → Bounds tree r
   unfolding shape-the_row-Expr-0 hidden-the_row-Expr-0 denote.Hole.Carrier.hidden

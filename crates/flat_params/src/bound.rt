@@ -6,19 +6,28 @@ ghost use Rattle.flat_params.specs.Constants.{IsBound, IsUnfit};
 
 use crate::constant::known_shape;
 use crate::unfit::Unfit;
+use std::alloc::{AllocError, Global};
 use vlog_tree::{Expr, Valuation};
-use vlog_value::{checked_own_value, integer};
+use vlog_value::{evaluated, integer};
 
-/// The integer that a constant expression stands for by itself.
-pub fn bound(expr: &Expr, params: &Valuation) -> Result<i128, Unfit>
-    ensures ok { IfOk result (IsBound params.now expr.now) }
-    ensures err { IfErr result (IsUnfit params.now expr.now (width_of params.now expr.now)) }
+/// The integer that a constant expression stands for by itself. An `AllocError` is want of memory.
+pub fn bound(
+    alloc: Global,
+    expr: &Expr,
+    params: &Valuation,
+) -> Result<Result<i128, Unfit>, AllocError>
+    ensures ok { IfOk result (λ r. IfOk r (IsBound params.now expr.now)) }
+    ensures err { IfOk result (λ r. IfErr r (IsUnfit params.now expr.now (width_of params.now expr.now))) }
 {
-    match known_shape(expr, params) {
-        Ok(_) => match checked_own_value(expr, params) {
-            Some((word, signed)) => Ok(integer(word, signed)),
-            None => Err(Unfit::Divisor),
-        },
-        Err(unfit) => Err(unfit),
+    let known = known_shape(alloc, expr, params)?;
+    match known {
+        Ok(_) => {
+            let own = evaluated(alloc, expr, params)?;
+            match own {
+                Some((word, signed)) => Ok(Ok(integer(word, signed))),
+                None => Ok(Err(Unfit::Divisor)),
+            }
+        }
+        Err(unfit) => Ok(Err(unfit)),
     }
 }

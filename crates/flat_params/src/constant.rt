@@ -7,8 +7,9 @@ ghost use Rattle.flat_params.specs.Constants.{HasKnownShape, IsNumber, IsUnfit};
 use crate::bounds::bounds_defined;
 use crate::stranger::stranger_in;
 use crate::unfit::Unfit;
+use std::alloc::{AllocError, Global};
 use vlog_tree::{Expr, Valuation};
-use vlog_value::{checked_value, shape_of};
+use vlog_value::{evaluated_at, measured};
 use word_core::Word;
 
 /// The value of a constant expression in its place.
@@ -21,42 +22,57 @@ pub struct Number {
     pub word: Word,
 }
 
-/// The length and the sign of an expression over parameters.
-pub fn known_shape(expr: &Expr, params: &Valuation) -> Result<(u8, bool), Unfit>
-    ensures ok { IfOk result (λ s. HasKnownShape params.now expr.now s.0 s.1) }
-    ensures err { (n : ℕ) → IfErr result (IsUnfit params.now expr.now n) }
+/// The length and the sign of an expression over parameters. An `AllocError` is want of memory.
+pub fn known_shape(
+    alloc: Global,
+    expr: &Expr,
+    params: &Valuation,
+) -> Result<Result<(u8, bool), Unfit>, AllocError>
+    ensures ok { IfOk result (λ r. IfOk r (λ s. HasKnownShape params.now expr.now s.0 s.1)) }
+    ensures err { (n : ℕ) → IfOk result (λ r. IfErr r (IsUnfit params.now expr.now n)) }
 {
     if stranger_in(expr, params).is_some() {
-        return Err(Unfit::Name);
+        return Ok(Err(Unfit::Name));
     }
-    match shape_of(expr, params) {
-        Some(shape) => Ok(shape),
+    let shape = measured(alloc, expr, params)?;
+    match shape {
+        Some(shape) => Ok(Ok(shape)),
         None => {
-            if bounds_defined(expr, params) {
-                Err(Unfit::Length)
+            let defined = bounds_defined(alloc, expr, params)?;
+            if defined {
+                Ok(Err(Unfit::Length))
             } else {
-                Err(Unfit::Divisor)
+                Ok(Err(Unfit::Divisor))
             }
         }
     }
 }
 
 /// The value of an expression over parameters in a place of so many bits, of which 0 says that it stands alone. Each refusal has
-/// its cause, the names first.
-pub fn number_at(expr: &Expr, least: u8, params: &Valuation) -> Result<Number, Unfit>
+/// its cause, the names first. An `AllocError` is want of memory.
+pub fn number_at(
+    alloc: Global,
+    expr: &Expr,
+    least: u8,
+    params: &Valuation,
+) -> Result<Result<Number, Unfit>, AllocError>
     requires { least ≤ 64 }
-    ensures ok { IfOk result (IsNumber params.now expr.now least) }
-    ensures err { IfErr result (IsUnfit params.now expr.now (max (width_of params.now expr.now) least)) }
+    ensures ok { IfOk result (λ r. IfOk r (IsNumber params.now expr.now least)) }
+    ensures err { IfOk result (λ r. IfErr r (IsUnfit params.now expr.now (max (width_of params.now expr.now) least))) }
 {
-    match known_shape(expr, params) {
-        Ok((width, signed)) => match checked_value(expr, width.max(least), signed, params) {
-            Some(word) => Ok(Number {
-                width,
-                signed,
-                word,
-            }),
-            None => Err(Unfit::Divisor),
-        },
-        Err(unfit) => Err(unfit),
+    let known = known_shape(alloc, expr, params)?;
+    match known {
+        Ok((width, signed)) => {
+            let value = evaluated_at(alloc, expr, width.max(least), signed, params)?;
+            match value {
+                Some(word) => Ok(Ok(Number {
+                    width,
+                    signed,
+                    word,
+                })),
+                None => Ok(Err(Unfit::Divisor)),
+            }
+        }
+        Err(unfit) => Ok(Err(unfit)),
     }
 }

@@ -106,7 +106,8 @@ pub fn params_of(
     let mut at = 0;
     for param in &params {
         let expr = override_of(text, param, given_at(&names, given, param.name));
-        let constant = match value_of(param, expr, outer, &done) {
+        let value = value_of(alloc, param, expr, outer, &done)?;
+        let constant = match value {
             Ok(constant) => constant,
             Err(cause) => return Err(ParamFault::Bad(at, cause)),
         };

@@ -5,6 +5,7 @@ ghost use Rattle.flat_params.specs.Constants.{IsVector, IsBadRange, Spans, Missp
 
 use crate::bound::bound;
 use crate::unfit::BadRange;
+use std::alloc::{AllocError, Global};
 use vlog_tree::{Range, Valuation};
 
 /// The bits that a range declares.
@@ -37,18 +38,23 @@ fn spanned(high: i128, low: i128) -> Result<Vector, BadRange>
     })
 }
 
-/// The bits that a range over parameters declares. Each refusal has its cause, the higher bound first.
-pub fn vector_of(range: &Range, params: &Valuation) -> Result<Vector, BadRange>
-    ensures ok { IfOk result (IsVector params.now range.now) }
-    ensures err { IfErr result (IsBadRange params.now range.now) }
+/// The bits that a range over parameters declares. Each refusal has its cause, the higher bound first. An `AllocError` is want of
+/// memory.
+pub fn vector_of(
+    alloc: Global,
+    range: &Range,
+    params: &Valuation,
+) -> Result<Result<Vector, BadRange>, AllocError>
+    ensures ok { IfOk result (λ r. IfOk r (IsVector params.now range.now)) }
+    ensures err { IfOk result (λ r. IfErr r (IsBadRange params.now range.now)) }
 {
-    let high = match bound(&range.high, params) {
+    let high = match bound(alloc, &range.high, params)? {
         Ok(high) => high,
-        Err(unfit) => return Err(BadRange::High(unfit)),
+        Err(unfit) => return Ok(Err(BadRange::High(unfit))),
     };
-    let low = match bound(&range.low, params) {
+    let low = match bound(alloc, &range.low, params)? {
         Ok(low) => low,
-        Err(unfit) => return Err(BadRange::Low(unfit)),
+        Err(unfit) => return Ok(Err(BadRange::Low(unfit))),
     };
-    spanned(high, low)
+    Ok(spanned(high, low))
 }

@@ -19,16 +19,23 @@ use vlog_runs::Signal;
 use vlog_tree::{Range, Valuation};
 
 // The number of words of a memory, and 0 of any other name.
-fn depth_of(range: Option<&Range>, params: &Valuation) -> Result<u8, BadWords>
-    ensures ok { IfOk result (HasWords params.now (option_copied range.entry)) }
-    ensures err { IfErr result (λ cause. (x : Words) × (option_copied range.entry ≡ Some x) × IsBadWords params.now x cause) }
+fn depth_of(
+    alloc: Global,
+    range: Option<&Range>,
+    params: &Valuation,
+) -> Result<Result<u8, BadWords>, AllocError>
+    ensures ok { IfOk result (λ r. IfOk r (HasWords params.now (option_copied range.entry))) }
+    ensures err { IfOk result (λ r. IfErr r (λ cause. (x : Words) × (option_copied range.entry ≡ Some x) × IsBadWords params.now x cause)) }
 {
     match range {
-        Some(range) => match words_of(range, params) {
-            Ok(words) => Ok(words),
-            Err(cause) => Err(cause),
-        },
-        None => Ok(0),
+        Some(range) => {
+            let found = words_of(alloc, range, params)?;
+            match found {
+                Ok(words) => Ok(Ok(words)),
+                Err(cause) => Ok(Err(cause)),
+            }
+        }
+        None => Ok(Ok(0)),
     }
 }
 
@@ -56,18 +63,17 @@ pub fn signal_of(alloc: Global, decl: &Decl<'_>, params: &Valuation) -> Result<S
     ensures declared { IfOk result (λ g. IsDeclared params.now (decl_meant decl.now)) }
     ensures err { IfErr result (IsBadSignal params.now (decl_meant decl.now)) }
 {
-    let vector = match bits_of(range_of(decl.shape), params) {
+    let bits = bits_of(alloc, range_of(decl.shape), params)?;
+    let vector = match bits {
         Ok(vector) => vector,
         Err(cause) => return Err(BadSignal::Bits(cause)),
     };
-    let depth = match depth_of(decl.words, params) {
+    let words = depth_of(alloc, decl.words, params)?;
+    let depth = match words {
         Ok(depth) => depth,
         Err(cause) => return Err(BadSignal::Words(cause)),
     };
-    let name = match Text::copy(alloc, decl.name.bytes()) {
-        Ok(name) => name,
-        Err(_) => return Err(BadSignal::Memory),
-    };
+    let name = Text::copy(alloc, decl.name.bytes())?;
     Ok(Signal {
         name,
         width: width_of(vector),

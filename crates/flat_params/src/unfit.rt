@@ -1,5 +1,7 @@
 // Why an expression isn't a constant, a range isn't one of bits, and a parameter has no value.
 
+use std::alloc::AllocError;
+
 /// Why an expression has no constant value in its place.
 #[derive(Clone, Copy, PartialEq, Eq)]
 pub enum Unfit {
@@ -54,4 +56,15 @@ pub enum BadSignal {
     Words(BadWords),
     /// Memory is wanting.
     Memory,
+}
+
+impl From<AllocError> for BadSignal {
+    ghost use Rattle.std.specs.Prelude.{◌≡◌};
+    ghost use Rattle.flat_params.specs.declared.unfit.BadSignal.TheVariants.{Memory};
+
+    ghost from_gives = { λ _ fault. fault ≡ Memory };
+
+    fn from(_error: AllocError) -> BadSignal {
+        BadSignal::Memory
+    }
 }

@@ -13,6 +13,7 @@ use crate::constant::number_at;
 use crate::range::{Vector, vector_of};
 use crate::unfit::{BadParam, BadRange, Unfit};
 use flat_scopes::Param;
+use std::alloc::{AllocError, Global};
 use vlog_tree::{Constant, Expr, Range, Shape, Valuation};
 use word_core::Word;
 
@@ -28,66 +29,87 @@ pub fn range_of<'a>(shape: Option<&'a Shape>) -> Option<&'a Range>
     }
 }
 
-/// The bits that a range declares, where there is one.
-pub fn bits_of(range: Option<&Range>, done: &Valuation) -> Result<Option<Vector>, BadRange>
-    ensures ok { IfOk result (HasBits done.now (option_copied range.entry)) }
-    ensures err { IfErr result (λ cause. (x : Bits) × (option_copied range.entry ≡ Some x) × IsBadRange done.now x cause) }
+/// The bits that a range declares, where there is one. An `AllocError` is want of memory.
+pub fn bits_of(
+    alloc: Global,
+    range: Option<&Range>,
+    done: &Valuation,
+) -> Result<Result<Option<Vector>, BadRange>, AllocError>
+    ensures ok { IfOk result (λ r. IfOk r (HasBits done.now (option_copied range.entry))) }
+    ensures err { IfOk result (λ r. IfErr r (λ cause. (x : Bits) × (option_copied range.entry ≡ Some x) × IsBadRange done.now x cause)) }
 {
     match range {
-        Some(range) => match vector_of(range, done) {
-            Ok(vector) => Ok(Some(vector)),
-            Err(cause) => Err(cause),
-        },
-        None => Ok(None),
+        Some(range) => {
+            let found = vector_of(alloc, range, done)?;
+            match found {
+                Ok(vector) => Ok(Ok(Some(vector))),
+                Err(cause) => Ok(Err(cause)),
+            }
+        }
+        None => Ok(Ok(None)),
     }
 }
 
 /// The value of an expression in a vector of these bits.
-fn in_vector(expr: &Expr, over: &Valuation, signed: bool, vector: Vector) -> Result<Constant, Unfit>
+fn in_vector(
+    alloc: Global,
+    expr: &Expr,
+    over: &Valuation,
+    signed: bool,
+    vector: Vector,
+) -> Result<Result<Constant, Unfit>, AllocError>
     requires { IsLength vector.width }
-    ensures ok { IfOk result (Converts over.now expr.now signed (Some vector)) }
-    ensures err { IfErr result (IsUnfit over.now expr.now (max (width_of over.now expr.now) vector.width)) }
+    ensures ok { IfOk result (λ r. IfOk r (Converts over.now expr.now signed (Some vector))) }
+    ensures err { IfOk result (λ r. IfErr r (IsUnfit over.now expr.now (max (width_of over.now expr.now) vector.width))) }
 {
-    match number_at(expr, vector.width, over) {
-        Ok(number) => Ok(Constant {
+    let found = number_at(alloc, expr, vector.width, over)?;
+    match found {
+        Ok(number) => Ok(Ok(Constant {
             width: vector.width,
             low: vector.low,
             signed,
             value: Word::slice(number.word, 0, vector.width).value(),
-        }),
-        Err(unfit) => Err(unfit),
+        })),
+        Err(unfit) => Ok(Err(unfit)),
     }
 }
 
 /// The value of an expression at its own length.
-fn alone(expr: &Expr, over: &Valuation, signed: bool) -> Result<Constant, Unfit>
-    ensures ok { IfOk result (Converts over.now expr.now signed None) }
-    ensures err { IfErr result (IsUnfit over.now expr.now (max (width_of over.now expr.now) 0)) }
+fn alone(
+    alloc: Global,
+    expr: &Expr,
+    over: &Valuation,
+    signed: bool,
+) -> Result<Result<Constant, Unfit>, AllocError>
+    ensures ok { IfOk result (λ r. IfOk r (Converts over.now expr.now signed None)) }
+    ensures err { IfOk result (λ r. IfErr r (IsUnfit over.now expr.now (max (width_of over.now expr.now) 0))) }
 {
-    match number_at(expr, 0, over) {
-        Ok(number) => Ok(Constant {
+    let found = number_at(alloc, expr, 0, over)?;
+    match found {
+        Ok(number) => Ok(Ok(Constant {
             width: number.width,
             low: 0,
             signed: signed || number.signed,
             value: number.word.value(),
-        }),
-        Err(unfit) => Err(unfit),
+        })),
+        Err(unfit) => Ok(Err(unfit)),
     }
 }
 
 fn converted(
+    alloc: Global,
     expr: &Expr,
     over: &Valuation,
     signed: bool,
     vector: Option<Vector>,
-) -> Result<Constant, Unfit>
+) -> Result<Result<Constant, Unfit>, AllocError>
     requires { IfSome vector (λ d. IsLength d.width) }
-    ensures ok { IfOk result (Converts over.now expr.now signed vector) }
-    ensures err { IfErr result (IsUnfit over.now expr.now (max (width_of over.now expr.now) (width_with vector 0))) }
+    ensures ok { IfOk result (λ r. IfOk r (Converts over.now expr.now signed vector)) }
+    ensures err { IfOk result (λ r. IfErr r (IsUnfit over.now expr.now (max (width_of over.now expr.now) (width_with vector 0)))) }
 {
     match vector {
-        Some(vector) => in_vector(expr, over, signed, vector),
-        None => alone(expr, over, signed),
+        Some(vector) => in_vector(alloc, expr, over, signed, vector),
+        None => alone(alloc, expr, over, signed),
     }
 }
 
@@ -100,31 +122,38 @@ pub fn is_signed(shape: Option<&Shape>) -> bool
     }
 }
 
-/// What a parameter stands for: the value of its declaration over those before it, or what overrides it over the outer ones.
+/// What a parameter stands for: the value of its declaration over those before it, or what overrides it over the outer ones. An
+/// `AllocError` is want of memory.
 pub fn value_of(
+    alloc: Global,
     param: &Param<'_>,
     given: Option<&Expr>,
     outer: &Valuation,
     done: &Valuation,
-) -> Result<Constant, BadParam>
-    ensures ok { IfOk result (λ k. StandsFor (entry_with (param_meant param.now) (option_copied given.entry) outer.now done.now) k) }
-    ensures sound { IfOk result (λ _. IsSound (param_meant param.now) (option_copied given.entry) outer.now done.now) }
-    ensures err { IfErr result (IsBad (param_meant param.now) (option_copied given.entry) outer.now done.now) }
+) -> Result<Result<Constant, BadParam>, AllocError>
+    ensures ok { IfOk result (λ r. IfOk r (λ k. StandsFor (entry_with (param_meant param.now) (option_copied given.entry) outer.now done.now) k)) }
+    ensures sound { IfOk result (λ r. IfOk r (λ _. IsSound (param_meant param.now) (option_copied given.entry) outer.now done.now)) }
+    ensures err { IfOk result (λ r. IfErr r (IsBad (param_meant param.now) (option_copied given.entry) outer.now done.now)) }
 {
     let signed = is_signed(param.shape);
-    let vector = match bits_of(range_of(param.shape), done) {
+    let bits = bits_of(alloc, range_of(param.shape), done)?;
+    let vector = match bits {
         Ok(vector) => vector,
-        Err(cause) => return Err(BadParam::Range(cause)),
+        Err(cause) => return Ok(Err(BadParam::Range(cause))),
     };
-    let own = match converted(param.value, done, signed, vector) {
+    let declared = converted(alloc, param.value, done, signed, vector)?;
+    let own = match declared {
         Ok(own) => own,
-        Err(cause) => return Err(BadParam::Value(cause)),
+        Err(cause) => return Ok(Err(BadParam::Value(cause))),
     };
     match given {
-        Some(expr) => match converted(expr, outer, signed, vector) {
-            Ok(constant) => Ok(constant),
-            Err(cause) => Err(BadParam::Given(cause)),
-        },
-        None => Ok(own),
+        Some(expr) => {
+            let overridden = converted(alloc, expr, outer, signed, vector)?;
+            match overridden {
+                Ok(constant) => Ok(Ok(constant)),
+                Err(cause) => Ok(Err(BadParam::Given(cause))),
+            }
+        }
+        None => Ok(Ok(own)),
     }
 }

@@ -5,6 +5,7 @@ ghost use Rattle.flat_params.specs.Signals.{Counts, Miscounts, IsWords, IsBadWor
 
 use crate::bound::bound;
 use crate::unfit::BadWords;
+use std::alloc::{AllocError, Global};
 use vlog_tree::{Range, Valuation};
 
 // How many words there are from a first to a last one.
@@ -23,18 +24,23 @@ fn counted(first: i128, last: i128) -> Result<u8, BadWords>
     Ok(last as u8 + 1)
 }
 
-/// How many words a range `[0:n]` over parameters declares, from 1 to 64. Each refusal has its cause, the first bound first.
-pub fn words_of(range: &Range, params: &Valuation) -> Result<u8, BadWords>
-    ensures ok { IfOk result (IsWords params.now range.now) }
-    ensures err { IfErr result (IsBadWords params.now range.now) }
+/// How many words a range `[0:n]` over parameters declares, from 1 to 64. Each refusal has its cause, the first bound first. An
+/// `AllocError` is want of memory.
+pub fn words_of(
+    alloc: Global,
+    range: &Range,
+    params: &Valuation,
+) -> Result<Result<u8, BadWords>, AllocError>
+    ensures ok { IfOk result (λ r. IfOk r (IsWords params.now range.now)) }
+    ensures err { IfOk result (λ r. IfErr r (IsBadWords params.now range.now)) }
 {
-    let first = match bound(&range.high, params) {
+    let first = match bound(alloc, &range.high, params)? {
         Ok(first) => first,
-        Err(unfit) => return Err(BadWords::First(unfit)),
+        Err(unfit) => return Ok(Err(BadWords::First(unfit))),
     };
-    let last = match bound(&range.low, params) {
+    let last = match bound(alloc, &range.low, params)? {
         Ok(last) => last,
-        Err(unfit) => return Err(BadWords::Last(unfit)),
+        Err(unfit) => return Ok(Err(BadWords::Last(unfit))),
     };
-    counted(first, last)
+    Ok(counted(first, last))
 }

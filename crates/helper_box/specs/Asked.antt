@@ -1,7 +1,7 @@
 -- How often helpers were asked, and what a claim is worth.
-use Rattle.std.specs.Prelude.{◌≡◌, ℕ, ◌+◌, ◌-◌, ◌^◌, ◌<◌, ◌≤◌, List, ◌++◌, drop, length, map, max, min, take}
+use Rattle.std.specs.Prelude.{◌≡◌, ℕ, ◌+◌, ◌-◌, ◌^◌, ◌<◌, ◌≤◌, List, ◌++◌, count_by, drop, length, map, max, min, take}
 use Rattle.word_dag.specs.Nodes.{Parts, root_value}
-use Rattle.word_dag.specs.Given.{AllFit}
+use Rattle.word_dag.specs.Given.{AllFit, is_free}
 use Rattle.clause_check.specs.declared.formula.Cnf.{Cnf}
 use Rattle.clause_check.specs.Derivations.{IsRefutation}
 use Rattle.helper_box.specs.declared.claim.Claim.{Claim}
@@ -18,8 +18,9 @@ pub record AsksSome (before after : List ℕ) : Type 0 where
   pub first : 0 < length before → 0 < many
   pub after_is : after ≡ map one_more (take many before) ++ drop many before
 
--- the free words' values make the root 1
+-- there is one value for each free word, and they make the root 1
 pub record MakesRoot1 (ob : Parts) (values : List ℕ) : Type 0 where
+  pub count : length values ≡ count_by is_free ob.nodes
   pub fit : AllFit values ob.nodes
   pub root : (root_value values ob.nodes ob.root).value ≡ 1
 

@@ -1,20 +1,42 @@
 //! Whether a claim holds, by a check of our own.
-ghost use Rattle.std.specs.Prelude.{◌≡◌, ◌≤◌, ◌↔◌, IfOk, IsTrue, length};
+ghost use Rattle.std.specs.Prelude.{◌≡◌, ◌≤◌, ◌↔◌, IfOk, IsTrue, count_by, length};
 ghost use Rattle.clause_check.specs.Derivations.{IsRefutation};
+ghost use Rattle.word_dag.specs.Given.{is_free};
 ghost use Rattle.helper_box.specs.Asked.{MakesRoot1, Passes};
 
 use crate::claim::Claim;
 use clause_check::{Cnf, Marks, Step, accept};
 use std::alloc::{AllocError, Global};
-use word_dag::{Ob, Table, fits, value_at};
+use word_dag::{Node, Ob, Table, fits, value_at};
 
-/// Whether these are values of the free words at which the root is 1.
+/// How many nodes are free.
+fn free_count(nodes: &[Node]) -> usize
+    ensures { result ≡ count_by is_free nodes.now }
+{
+    let mut count = 0;
+    for node in nodes {
+        if is_free(node) {
+            count += 1;
+        }
+    }
+    count
+}
+
+fn is_free(node: &Node) -> bool
+    ensures { result ≡ is_free node.now }
+{
+    matches!(node, Node::Free { .. })
+}
+
+/// Whether these are the values of the free words, one each, at which the root is 1.
 pub fn makes_root_1(ob: &Ob, values: &[u64], table: &mut Table) -> bool
     requires room { length ob.now.nodes ≤ table.old }
     ensures root { IsTrue result ↔ MakesRoot1 ob.now values.now }
     ensures table { table.new ≡ table.old }
 {
-    fits(ob.nodes(), values) && value_at(ob, values, table).value() == 1
+    values.len() == free_count(ob.nodes())
+        && fits(ob.nodes(), values)
+        && value_at(ob, values, table).value() == 1
 }
 
 fn refutes(alloc: Global, cnf: &Cnf, steps: &[Step]) -> Result<bool, AllocError>

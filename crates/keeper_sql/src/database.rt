@@ -4,8 +4,15 @@ use outside::OutFault;
 use sqlite::types::{FromSql, ValueRef};
 use sqlite::{Alter, Connection, Error, ErrorCode, File, FileStore, MemStore, Row};
 use std::alloc::Global;
+use std::thread;
+use std::time::Duration;
 
 const NO_MEMORY: Error = Error::SqliteFailure(ErrorCode::OutOfMemory);
+
+// A file that another program holds is tried this often, with so many milliseconds between two tries: five seconds in all.
+const TRIES: u32 = 250;
+
+const PAUSE: u64 = 20;
 
 // Blobs compare in byte order, so each key is kept as one.
 const MAKE_TABLES: &str =
@@ -13,7 +20,9 @@ const MAKE_TABLES: &str =
     CREATE TABLE IF NOT EXISTS traces (place INTEGER PRIMARY KEY, block BLOB NOT NULL, line INTEGER NOT NULL, text BLOB NOT NULL) STRICT;
     CREATE INDEX IF NOT EXISTS traces_of_blocks ON traces (block);
     CREATE TABLE IF NOT EXISTS proofs (key BLOB PRIMARY KEY NOT NULL, bytes BLOB NOT NULL) STRICT;
-    CREATE TABLE IF NOT EXISTS signs (number INTEGER PRIMARY KEY, block BLOB NOT NULL, module BLOB NOT NULL, property_set BLOB NOT NULL, report BLOB NOT NULL) STRICT";
+    CREATE TABLE IF NOT EXISTS signs (number INTEGER PRIMARY KEY, block BLOB NOT NULL, module BLOB NOT NULL, property_set BLOB NOT NULL, report BLOB NOT NULL) STRICT;
+    CREATE TABLE IF NOT EXISTS sign_keys (number INTEGER PRIMARY KEY, digest INTEGER NOT NULL) STRICT;
+    CREATE INDEX IF NOT EXISTS sign_keys_by_digest ON sign_keys (digest)";
 
 /// Tables that statements can be run over.
 pub trait Tables {
@@ -57,6 +66,15 @@ fn query<S: Alter>(
     conn.query_all(sql, params).map_err(fault_of)
 }
 
+/// Opens the file, or makes it with a sum behind each page, unless another program holds it.
+fn try_to_open(rt: &HostRuntime, path: &str) -> Result<Option<Database>, OutFault> {
+    match Connection::open_with_sums(rt, path) {
+        Ok(conn) => Ok(Some(Database::OnDisk(conn))),
+        Err(Error::SqliteFailure(ErrorCode::DatabaseBusy)) => Ok(None),
+        Err(error) => Err(fault_of(error)),
+    }
+}
+
 fn make_tables<S: Alter>(conn: &mut Connection<S>) -> Result<(), OutFault> {
     conn.execute_batch(MAKE_TABLES).map_err(fault_of)
 }
@@ -83,12 +101,20 @@ impl Drop for Database {
 }
 
 impl Database {
-    /// The file at this path, which is made where it isn't there.
+    /// The file at this path, which is made where it isn't there. Where another program holds it, it is waited for.
     pub fn open(rt: &HostRuntime, path: &str) -> Result<Database, OutFault> {
-        match Connection::open(rt, path) {
-            Ok(conn) => Ok(Database::OnDisk(conn)),
-            Err(error) => Err(fault_of(error)),
+        for _ in 0..TRIES {
+            if let Some(database) = try_to_open(rt, path)? {
+                return Ok(database);
+            }
+            thread::sleep(rt, Duration::from_millis(PAUSE));
         }
+        Err(OutFault::Failed)
+    }
+
+    /// Whether there are tables.
+    pub fn is_open(&self) -> bool {
+        !matches!(self, Database::Shut)
     }
 
     /// A database in memory, without tables.

@@ -7,8 +7,8 @@ use crate::statements;
 use outside::{Block, Keeper, OutFault, Sign, Text};
 use std::alloc::{AllocError, Global};
 
-/// A store in four tables of a database: blocks, traces, proofs and sign-offs. It doesn't tell what they hold. Each call that fails
-/// leaves them as they were.
+/// A store in tables of a database: blocks, traces, proofs, sign-offs, and an index of these by digests of their texts. It doesn't
+/// tell what they hold. Each call that fails leaves them as they were.
 #[derive(Drop)]
 pub struct SqlKeeper {
     database: Database,
@@ -16,8 +16,9 @@ pub struct SqlKeeper {
 }
 
 impl SqlKeeper {
-    /// A keeper over the file at this path, with no faults so far. A file that isn't there is made, and so is each table that it
-    /// doesn't have. Refused only for want of memory: where the file can't be opened otherwise, or isn't such a database, the keeper's
+    /// A keeper over the file at this path, with no faults so far. A file that isn't there is made, with a sum behind each page, and so
+    /// is each table that it doesn't have. A file that another program holds is waited for, five seconds at most. Refused only for want
+    /// of memory: where the file can't be opened otherwise, isn't such a database, or has a page that its sum doesn't fit, the keeper's
     /// every call counts a fault.
     pub fn over(rt: &HostRuntime, path: &str) -> Result<SqlKeeper, AllocError>
         ensures { IfOk result (λ keeper. ⟦<SqlKeeper as Keeper>⟧.faults keeper ≡ 0) }
@@ -30,6 +31,11 @@ impl SqlKeeper {
         ensures { IfOk result (λ keeper. ⟦<SqlKeeper as Keeper>⟧.faults keeper ≡ 0) }
     {
         SqlKeeper::on(Database::in_memory(alloc))
+    }
+
+    /// Whether its tables could be opened. Where they couldn't, its every call counts a fault.
+    pub fn is_open(&self) -> bool {
+        self.database.is_open()
     }
 
     /// A keeper over what was opened, with its tables made.
@@ -51,6 +57,7 @@ impl SqlKeeper {
 fn with_tables(opened: Result<Database, OutFault>) -> Result<Database, OutFault> {
     let mut database = opened?;
     database.make_tables()?;
+    statements::index_signs(&mut database)?;
     Ok(database)
 }
 

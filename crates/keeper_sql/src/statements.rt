@@ -1,4 +1,4 @@
-// The statements over the four tables.
+// The statements over the tables.
 
 use crate::database::{Tables, value_at};
 use outside::{Block, OutFault, Sign, Text, TraceText, Traces};
@@ -188,50 +188,167 @@ pub fn proof_key_after<T: Tables>(
     Ok(found.map(Text::new))
 }
 
+/// What a sign-off is found by.
+#[derive(Clone, Copy)]
+struct Texts<'a> {
+    block: &'a [u8],
+    module: &'a [u8],
+    set: &'a [u8],
+}
+
+/// FNV-1a (Fowler, Noll and Vo, 64 bits) over further bytes.
+fn mixed(hash: u64, bytes: &[u8]) -> u64 {
+    let mut hash = hash;
+    for byte in bytes {
+        hash = (hash ^ u64::from(*byte)).wrapping_mul(0x100_0000_01b3);
+    }
+    hash
+}
+
+/// Texts that differ may have one digest, so a sign-off that is found by it is compared.
+fn digest(texts: &Texts<'_>) -> i64 {
+    let hash = mixed(0xcbf2_9ce4_8422_2325, texts.block);
+    let hash = mixed(mixed(hash, texts.module), texts.set);
+    i64::try_from(hash >> 1).unwrap_or(0)
+}
+
 pub fn find_sign<T: Tables>(
     tables: &mut T,
     block: &[u8],
-    module_text: &[u8],
-    set_text: &[u8],
+    module: &[u8],
+    set: &[u8],
+) -> Result<Option<u64>, OutFault> {
+    let texts = Texts { block, module, set };
+    let rows = tables.rows(
+        "SELECT number FROM sign_keys WHERE digest = ?1 ORDER BY number",
+        params![digest(&texts)],
+    )?;
+    for row in &rows {
+        let number: i64 = value_at(row, 0)?;
+        let found = sign_with(tables, number, &texts)?;
+        if found.is_some() {
+            return Ok(found);
+        }
+    }
+    Ok(None)
+}
+
+/// The number, where the sign-off that has it is of these texts.
+fn sign_with<T: Tables>(
+    tables: &mut T,
+    number: i64,
+    texts: &Texts<'_>,
 ) -> Result<Option<u64>, OutFault> {
     only_value(
         tables,
-        "SELECT number FROM signs WHERE block = ?1 AND module = ?2 AND property_set = ?3 ORDER BY number LIMIT 1",
-        params![block, module_text, set_text],
+        "SELECT number FROM signs WHERE number = ?1 AND block = ?2 AND module = ?3 AND property_set = ?4",
+        params![number, texts.block, texts.module, texts.set],
     )
 }
 
 pub fn put_sign<T: Tables>(
     tables: &mut T,
     block: &[u8],
-    module_text: &[u8],
-    set_text: &[u8],
+    module: &[u8],
+    set: &[u8],
     report: &[u8],
 ) -> Result<u64, OutFault> {
     let number = next_sign(tables)?;
     let Ok(answer) = u64::try_from(number) else {
         return Err(OutFault::Failed);
     };
+    tables.run("BEGIN", &[])?;
+    let written = write_sign(tables, number, &Texts { block, module, set }, report);
+    end(tables, written)?;
+    Ok(answer)
+}
+
+fn write_sign<T: Tables>(
+    tables: &mut T,
+    number: i64,
+    texts: &Texts<'_>,
+    report: &[u8],
+) -> Result<(), OutFault> {
     tables.run(
         "INSERT INTO signs (number, block, module, property_set, report) VALUES (?1, ?2, ?3, ?4, ?5)",
-        params![number, block, module_text, set_text, report],
+        params![number, texts.block, texts.module, texts.set, report],
     )?;
-    Ok(answer)
+    put_key(tables, number, digest(texts))
+}
+
+fn put_key<T: Tables>(tables: &mut T, number: i64, digest: i64) -> Result<(), OutFault> {
+    tables.run(
+        "INSERT INTO sign_keys (number, digest) VALUES (?1, ?2)",
+        params![number, digest],
+    )
 }
 
 /// One more than the number of sign-offs.
 fn next_sign<T: Tables>(tables: &mut T) -> Result<i64, OutFault> {
-    only_value(tables, "SELECT COUNT(*) + 1 FROM signs", &[])?.ok_or(OutFault::Failed)
+    only_value(tables, "SELECT COUNT(*) + 1 FROM sign_keys", &[])?.ok_or(OutFault::Failed)
 }
 
-pub fn signs<T: Tables>(tables: &mut T, alloc: Global) -> Result<Vec<Sign>, OutFault> {
+/// Enters the sign-offs that the index of digests doesn't have yet: those of a file that was written without it.
+pub fn index_signs<T: Tables>(tables: &mut T) -> Result<(), OutFault> {
+    let newest = "SELECT number FROM sign_keys ORDER BY number DESC LIMIT 1";
+    let mut last: i64 = only_value(tables, newest, &[])?.unwrap_or(0);
+    for _ in 0..u64::MAX {
+        match index_sign_after(tables, last)? {
+            Some(number) => last = number,
+            None => break,
+        }
+    }
+    Ok(())
+}
+
+/// Enters the first sign-off behind this number, and says which it is.
+fn index_sign_after<T: Tables>(tables: &mut T, last: i64) -> Result<Option<i64>, OutFault> {
     let rows = tables.rows(
-        "SELECT number, block, module, property_set, report FROM signs ORDER BY number",
-        &[],
+        "SELECT number, block, module, property_set FROM signs WHERE number > ?1 ORDER BY number LIMIT 1",
+        params![last],
     )?;
+    let Some(row) = rows.first() else {
+        return Ok(None);
+    };
+    let number = value_at(row, 0)?;
+    put_key(tables, number, digest_of(row)?)?;
+    Ok(Some(number))
+}
+
+fn digest_of(row: &Row) -> Result<i64, OutFault> {
+    let (block, module, set) = (text_at(row, 1)?, text_at(row, 2)?, text_at(row, 3)?);
+    Ok(digest(&Texts {
+        block: block.bytes(),
+        module: module.bytes(),
+        set: set.bytes(),
+    }))
+}
+
+/// All sign-offs. One row is held at a time besides what is answered.
+pub fn signs<T: Tables>(tables: &mut T, alloc: Global) -> Result<Vec<Sign>, OutFault> {
     let mut signs = Vec::new(alloc);
-    for row in &rows {
-        signs.push(sign_of(row)?)?;
+    let mut last = 0;
+    for _ in 0..u64::MAX {
+        let Some(sign) = sign_after(tables, last)? else {
+            break
+        };
+        last = sign.number;
+        signs.push(sign)?;
     }
     Ok(signs)
+}
+
+/// The first sign-off behind this number.
+fn sign_after<T: Tables>(tables: &mut T, last: u64) -> Result<Option<Sign>, OutFault> {
+    let Ok(last) = i64::try_from(last) else {
+        return Ok(None);
+    };
+    let rows = tables.rows(
+        "SELECT number, block, module, property_set, report FROM signs WHERE number > ?1 ORDER BY number LIMIT 1",
+        params![last],
+    )?;
+    match rows.first() {
+        Some(row) => Ok(Some(sign_of(row)?)),
+        None => Ok(None),
+    }
 }

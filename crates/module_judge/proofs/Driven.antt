@@ -33,7 +33,7 @@ use Rattle.flow_laws.specs.Laws.{place_over}
 use Rattle.elab_step.specs.Solving.{AreDistinct, ArePlain}
 use Rattle.elab_step.proofs.Solving.{bool_cases}
 use Rattle.elab_step.proofs.Fitting.{found_signal}
-use Rattle.elab_step.proofs.Cycles.{plain_signal, own_holder, holds_itself}
+use Rattle.elab_step.proofs.Cycles.{Declares, plain_signal, own_holder, holds_itself}
 use Rattle.elab_step.proofs.Elaborating.{wide_as}
 use Rattle.module_judge.specs.Driving.{spot_of, part_bits, bits_in, names, body_parts, chosen_parts, block_parts, assign_parts, net_parts, clocked_parts}
 
@@ -140,17 +140,17 @@ module _ (p : Place) (x : Name) (b : ℕ) where
 module _ (f : Flat) (plain : ArePlain f.signals) (x : Name) (b : ℕ) where
   -- no signal has words
   pub full_drives : (left : Lval) → DrivesFull (flat_place f) left x b → Drives (flat_place f) left x b
-  full_drives left (inl (y, e, d)) = subst (λ z. Drives (flat_place f) left z b) (sym e) d
+  full_drives left (inl (g, m, plain, e, d)) = subst (λ z. Drives (flat_place f) left z b) (sym e) d
   full_drives left (inr h) = let z : nat_eq h.0.depth 0 ≡ true = eq-eqb h.0.depth 0 (plain_signal f.signals h.0 plain h.1) in let w : true ≡ false = sym z ∙ h.2 in cc
 
-  pub drives_full : (left : Lval) → Drives (flat_place f) left x b → DrivesFull (flat_place f) left x b
-  drives_full left d = inl (x, refl, d)
+  pub drives_full : Declares f.signals x → (left : Lval) → Drives (flat_place f) left x b → DrivesFull (flat_place f) left x b
+  drives_full (g, m, e) left d = inl (g, m, eq-eqb g.depth 0 (plain_signal f.signals g plain m), sym e, subst (λ z. Drives (flat_place f) left z b) (sym e) d)
 
-  pub nets_drive : AnyPart (flat_place f) x b (net_parts f) → IsDriven f x b
-  nets_drive (q, h, d) =
+  pub nets_drive : Declares f.signals x → AnyPart (flat_place f) x b (net_parts f) → IsDriven f x b
+  nets_drive declared (q, h, d) =
       ⊎_elim
-      (λ n. let r = among_flat (λ (a : Assign). parts_of a.left) f.assigns q n in inl (r.0, r.1, drives_full r.0.left (drives_parts (flat_place f) x b r.0.left (q, r.2, d))))
-      (λ n. let r = chosen false f.blocks q n in let u = body_drives (flat_place f) x b r.0.body (q, r.3, d) in inr (r.0, r.1, r.2, u.0, u.1, drives_full u.0 u.2))
+      (λ n. let r = among_flat (λ (a : Assign). parts_of a.left) f.assigns q n in inl (r.0, r.1, drives_full declared r.0.left (drives_parts (flat_place f) x b r.0.left (q, r.2, d))))
+      (λ n. let r = chosen false f.blocks q n in let u = body_drives (flat_place f) x b r.0.body (q, r.3, d) in inr (r.0, r.1, r.2, u.0, u.1, drives_full declared u.0 u.2))
       (among_append (assign_parts f.assigns) (block_parts false f.blocks) q h)
 
   pub drive_nets : IsDriven f x b → AnyPart (flat_place f) x b (net_parts f)
@@ -161,8 +161,8 @@ module _ (f : Flat) (plain : ArePlain f.signals) (x : Name) (b : ℕ) where
       let r = drives_body (flat_place f) x b k.body left n (full_drives left d) in
       (r.0, append_right (assign_parts f.assigns) (block_parts false f.blocks) r.0 (into_chosen false f.blocks k r.0 m t r.1), r.2)
 
-  pub clocked_drive : AnyPart (flat_place f) x b (clocked_parts f) → IsClocked f x b
-  clocked_drive (q, h, d) = let r = chosen true f.blocks q h in let u = body_drives (flat_place f) x b r.0.body (q, r.3, d) in (r.0, r.1, r.2, u.0, u.1, drives_full u.0 u.2)
+  pub clocked_drive : Declares f.signals x → AnyPart (flat_place f) x b (clocked_parts f) → IsClocked f x b
+  clocked_drive declared (q, h, d) = let r = chosen true f.blocks q h in let u = body_drives (flat_place f) x b r.0.body (q, r.3, d) in (r.0, r.1, r.2, u.0, u.1, drives_full declared u.0 u.2)
 
   pub drive_clocked : IsClocked f x b → AnyPart (flat_place f) x b (clocked_parts f)
   drive_clocked (k, m, t, left, n, d) = let r = drives_body (flat_place f) x b k.body left n (full_drives left d) in (r.0, into_chosen true f.blocks k r.0 m t r.1, r.2)

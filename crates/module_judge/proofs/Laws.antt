@@ -1,5 +1,5 @@
 -- A module's tests say of values what the definitions say of their cycle.
-use Rattle.std.proofs.Common.{◌≡◌, ℕ, ◌^◌, ◌<◌, ◌≤◌, ◌⊎◌, inl, inr, ⊎_elim, Bool, true, false, not, ◌&&◌, ◌||◌, List, [], ◌∷◌, ◌++◌, map, nat_eq, arith, sym, ap, ◌∙◌, subst}
+use Rattle.std.proofs.Common.{◌≡◌, ℕ, ◌^◌, ◌<◌, ◌≤◌, ◌⊎◌, inl, inr, ⊎_elim, Bool, true, false, not, ◌&&◌, ◌||◌, List, [], ◌∷◌, ◌++◌, map, nat_eq, arith, sym, ap, ◌∙◌, subst, refl}
 use Rattle.std.specs.Prelude.{bit_and, bit_or}
 use Rattle.std.specs.Int.{bit_at}
 use Rattle.std.specs.List.{list_all}
@@ -101,13 +101,13 @@ module _ (f : Flat) (can : CanElaborate f) where
 
   module _ (g : Signal) (m : Among gs g) where
     set_drives : (b : ℕ) → bit_at (bits_in (net_parts f) g) b ≡ 1 → IsDriven f g.name b
-    set_drives b e = nets_drive f can.plain g.name b (bits_drive gs can.distinct g m (some g m) (net_parts f) b (nets_are f) e).1
+    set_drives b e = nets_drive f can.plain g.name b (g, m, refl) (bits_drive gs can.distinct g m (some g m) (net_parts f) b (nets_are f) e).1
 
     drives_set : (b : ℕ) → b < g.width → IsDriven f g.name b → bit_at (bits_in (net_parts f) g) b ≡ 1
     drives_set b lt d = drive_bits gs can.distinct g m (some g m) (net_parts f) b (nets_are f) lt (drive_nets f can.plain g.name b d)
 
     set_clocks : (b : ℕ) → bit_at (bits_in (clocked_parts f) g) b ≡ 1 → IsClocked f g.name b
-    set_clocks b e = clocked_drive f can.plain g.name b (bits_drive gs can.distinct g m (some g m) (clocked_parts f) b (clocked_are f) e).1
+    set_clocks b e = clocked_drive f can.plain g.name b (g, m, refl) (bits_drive gs can.distinct g m (some g m) (clocked_parts f) b (clocked_are f) e).1
 
     clocks_set : (b : ℕ) → b < g.width → IsClocked f g.name b → bit_at (bits_in (clocked_parts f) g) b ≡ 1
     clocks_set b lt d = drive_bits gs can.distinct g m (some g m) (clocked_parts f) b (clocked_are f) lt (drive_clocked f can.plain g.name b d)
@@ -291,4 +291,4 @@ module _ (f : Flat) (can : CanElaborate f) where
             (bits_each (bits_in (body_parts k.body)) (run false p k.body now now) next gs ws has_next (λ g i b t.
             let q = bits_drive gs can.distinct g i (some g i) (body_parts k.body) b (bodies_are k.body) t in
             let r = body_drives p g.name b k.body q.1 in
-            sym (h.driven k m e r.0 r.1 g.name b (drives_full f can.plain g.name b r.0 r.2))))
+            sym (h.driven k m e r.0 r.1 g.name b (drives_full f can.plain g.name b (g, i, refl) r.0 r.2))))

@@ -3,6 +3,7 @@ ghost use Rattle.std.specs.Prelude.{◌≡◌, IfOk, map};
 ghost use Rattle.std.specs.Bool.{MatchBool};
 ghost use Rattle.std.specs.List.{flat_map};
 ghost use Rattle.std.specs.Option.{option_map, option_to_list};
+ghost use Rattle.vlog_tree.specs.Value.{IsFormed};
 ghost use Rattle.set_lookup.specs.Formed.{formulas_of, formulas_in};
 ghost use Rattle.set_lookup.specs.Tests.{declared_entries, IsPresent, Judges};
 
@@ -13,7 +14,7 @@ use outside::Text;
 use set_tree::{Declaration, PropertyText, RuleText, SetText, Until};
 use std::alloc::{AllocError, Global};
 use vlog_tree::{Entry, Expr, Valuation};
-use vlog_value::shape_of;
+use vlog_value::measured;
 
 /// The declared names whose lengths are good, each with the value 0.
 fn valuation_of(alloc: Global, declarations: &[Declaration]) -> Result<Valuation, AllocError>
@@ -37,6 +38,16 @@ fn valuation_of(alloc: Global, declarations: &[Declaration]) -> Result<Valuation
     Ok(valuation)
 }
 
+// Whether an expression is well formed as it stands.
+fn is_measured(alloc: Global, valuation: &Valuation, expr: &Expr) -> Result<bool, AllocError>
+    ensures { IfOk result (λ t. MatchBool t (IsFormed valuation.now expr.now) (IsFormed valuation.now expr.now → ⊥)) }
+{
+    match measured(alloc, expr, valuation)? {
+        Some(_) => Ok(true),
+        None => Ok(false),
+    }
+}
+
 /// Whether a formula is well formed over the names of a valuation.
 fn is_formed(alloc: Global, valuation: &Valuation, formula: &Expr) -> Result<bool, AllocError>
     ensures { IfOk result (λ t. MatchBool t (IsPresent valuation.now formula.now) (IsPresent valuation.now formula.now → ⊥)) }
@@ -45,12 +56,9 @@ fn is_formed(alloc: Global, valuation: &Valuation, formula: &Expr) -> Result<boo
         return Ok(false);
     }
     let present = present(alloc, formula)?;
-    let shape = shape_of(&present, valuation);
+    let formed = is_measured(alloc, valuation, &present);
     drop(present);
-    match shape {
-        Some(_) => Ok(true),
-        None => Ok(false),
-    }
+    formed
 }
 
 /// Whether some formulas are.

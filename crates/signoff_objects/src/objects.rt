@@ -5,16 +5,17 @@ ghost use Rattle.command_words.specs.Commands.{command_of};
 use command_words::{Wants, wants};
 use helper_box::{Helper, Sampler, Table, Units};
 use keeper_sql::SqlKeeper;
-use outside::{Console, FileShelf, Keeper, MemKeeper, QuietGate, TcpPort, Text};
+use outside::{Console, FileShelf, Keeper, MemKeeper, QuietGate, Sink, TcpPort, Text};
 use reports::Book;
 use signoff_call::signoff;
 use std::alloc::{AllocError, Global};
 use std::net::{Ipv4Addr, SocketAddr, TcpListener};
 use std::thread::Threads;
+use std::time::Duration;
 
 /// Answers words over real objects: the status of the top call. The proofs and the desk are kept in the file that the words name, and in memory
-/// where they name none; connections come from this machine alone. Threads are started by a handle of their own. It is 70 where there is no
-/// memory for the objects.
+/// where they name none; connections come from this machine alone. Threads are started by a handle of their own. It is 8, with the line `keeper`, where a
+/// desk that is to be served can't be opened, and 70 where there is no memory for the objects.
 pub fn answer<R: Threads + Sync>(threads: &R, rt: &HostRuntime, words: &[String]) -> u8
     ensures no_command { command_of (map string_bytes words.now) ≡ None → (result ≡ 2) ⊎ (result ≡ 70) }
 {
@@ -33,10 +34,22 @@ fn ended<R: Threads + Sync>(
     ensures { IfOk result (λ status. command_of (map string_bytes words.now) ≡ None → (status ≡ 2) ⊎ (status ≡ 70)) }
 {
     let alloc = rt.alloc();
-    let Wants { store, port } = wants(alloc, words)?;
-    let mut port = TcpPort::new(listener(rt, port));
+    let Wants {
+        store,
+        port,
+        timeout,
+    } = wants(alloc, words)?;
+    let serves = port.is_some();
+    let limit = Duration::from_secs(u64::from(timeout));
+    let mut port = TcpPort::new(rt.clone()?, listener(rt, port), limit);
     match store {
-        Some(path) => over(threads, rt, words, &mut opened(rt, &path)?, &mut port),
+        Some(path) => {
+            let mut keeper = opened(rt, &path)?;
+            if serves && !keeper.is_open() {
+                return no_desk(rt);
+            }
+            over(threads, rt, words, &mut keeper, &mut port)
+        }
         None => over(
             threads,
             rt,
@@ -53,6 +66,13 @@ fn listener(rt: &HostRuntime, port: Option<u16>) -> Option<TcpListener> {
     TcpListener::bind(rt, at).ok()
 }
 
+// A desk that can't be opened would tell each peer so, for as long as it is served.
+fn no_desk(rt: &HostRuntime) -> Result<u8, AllocError> {
+    // The status stays where the line isn't taken.
+    let _ = Console::new(rt.clone()?).put(rt.alloc(), b"keeper\n");
+    Ok(8)
+}
+
 // A word is text, so its bytes are.
 fn opened(rt: &HostRuntime, path: &Text) -> Result<SqlKeeper, AllocError> {
     SqlKeeper::over(rt, str::from_utf8(path.bytes()).unwrap_or(""))
@@ -63,7 +83,7 @@ fn over<R: Threads + Sync, K: Keeper>(
     rt: &HostRuntime,
     words: &[String],
     keeper: &mut K,
-    port: &mut TcpPort,
+    port: &mut TcpPort<HostRuntime>,
 ) -> Result<u8, AllocError>
     ensures { IfOk result (λ status. command_of (map string_bytes words.now) ≡ None → (status ≡ 2) ⊎ (status ≡ 70)) }
 {

@@ -1,6 +1,4 @@
 // The example texts.
-use crate::running::Made;
-
 pub const COUNTER: &[u8] = b"module counter(input clk, input rst, input en, output reg [1:0] q);
   always @(posedge clk)
     if (rst) q <= 2'd0;
@@ -30,46 +28,10 @@ property reset { length 0; next mul; }
 operation mul { length 1; commit p@0 == r@0; next mul; }
 ";
 
-/// The counter's set.
-pub const SET: Made = Made {
-    text: COUNTER_SET,
-    old: b"",
-    new: b"",
-};
-
 /// The counter's set without its second operation.
-pub const STEP_ALONE: Made = Made {
-    text: b"block counter; clock clk; reset rst high 1;
+pub const STEP_ALONE: &[u8] = b"block counter; clock clk; reset rst high 1;
 input en; output [1:0] q;
 property reset { length 0; commit q@0 == 2'd0; cover q from 0 to 1; next step; }
 operation step { length 1; assume en@0; commit q@1 == q@0 + 2'd1; hand q@0;
   cover q from 1 to 2; next step; }
-",
-    old: b"",
-    new: b"",
-};
-
-/// The report of the counter.
-pub const COUNTER_REPORT: &[u8] = b"proved reset
-proved op step
-proved op hold
-proved split reset
-proved split step
-proved split hold
-proved choose reset step
-proved choose reset hold
-proved choose step step
-proved choose step hold
-proved choose hold step
-proved choose hold hold
-proved hand reset step
-proved hand reset hold
-proved hand step step
-proved hand step hold
-proved hand hold step
-proved hand hold hold
-proved determine reset
-proved determine step
-proved determine hold
-signed off
 ";

@@ -1,6 +1,6 @@
 // Workers that are at work at once.
 use crate::examples::{COUNTER, COUNTER_SET};
-use crate::running::{gated, plain};
+use crate::running::run;
 use outside::Gate;
 use std::sync::atomic::AtomicU64;
 use std::sync::atomic::Ordering::SeqCst;
@@ -37,8 +37,7 @@ fn two_lines_are_decided_at_once(rt: HostRuntime) -> Result<(), Fail> {
         met: AtomicU64::new(0),
     };
     let words = ["ops", "M", "S", "--workers", "2"];
-    let files = (plain(COUNTER), plain(COUNTER_SET));
-    let ran = gated(&rt, &words, files, &gathering)?;
+    let ran = run(&rt, &words, COUNTER, COUNTER_SET, &gathering)?;
     assert_eq!(rt; ran.status, 0);
     assert_eq!(rt; gathering.come.load(SeqCst), 3);
     assert_eq!(rt; gathering.met.load(SeqCst), 3);

@@ -1,19 +1,13 @@
-//! Rows of the top call over memory.
+//! Rows of the top call that a script of command lines can't tell: what stands in the book, how often helpers are asked, and workers at work at once.
 #![tactic(auto)]
 
 #[cfg(test)]
-mod examples;
+mod asked;
 #[cfg(test)]
-mod failing;
+mod examples;
 #[cfg(test)]
 mod gathering;
 #[cfg(test)]
-mod instances;
-#[cfg(test)]
-mod kept;
-#[cfg(test)]
-mod reported;
-#[cfg(test)]
 mod running;
 #[cfg(test)]
-mod served;
+mod spent;

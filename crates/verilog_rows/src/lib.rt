@@ -14,6 +14,4 @@ mod small;
 #[cfg(test)]
 mod tokens;
 #[cfg(test)]
-mod values;
-#[cfg(test)]
 mod vectors;

@@ -31,7 +31,7 @@ fn a_range_has_its_bits(rt: HostRuntime) -> Result<(), Fail> {
             high: number(high),
             low: number(low),
         };
-        let found = vector_of(&range, &none).ok();
+        let found = vector_of(rt.alloc(), &range, &none)?.ok();
         assert_eq!(rt; found.map(|vector| (vector.width, vector.low)), want);
     }
     Ok(())

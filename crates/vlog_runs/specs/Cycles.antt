@@ -42,9 +42,9 @@ IsHeldBy p y g x = (g.name ≡ y) × (w : Signal) × Among (holders g) w × (x �
 abbrev pub IsAssigned : Place → Stmt → Name → Type 0
 IsAssigned p body x = (y : Name) × Among (flat_map left_names (lefts body)) y × (g : Signal) × Among p.signals g × IsHeldBy p y g x
 
--- a left side of a place drives bit b of the signal x
+-- a left side of a place drives bit b of the declared vector x
 abbrev pub DrivesBit : Place → Lval → Name → ℕ → Type 0
-DrivesBit p left x b = (y : Name) × (x ≡ p.prefix ++ y) × Drives p left y b
+DrivesBit p left x b = (g : Signal) × Among p.signals g × (nat_eq g.depth 0 ≡ true) × (x ≡ p.prefix ++ g.name) × Drives p left g.name b
 
 -- a left side assigns to the word x of a memory
 abbrev pub DrivesWord : Place → Lval → Name → Type 0

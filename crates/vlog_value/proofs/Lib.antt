@@ -7,3 +7,4 @@ pub mod Facts
 pub mod Values
 pub mod WordNames
 pub mod Rows
+pub mod Meanings

@@ -12,18 +12,18 @@ returns c ns =
     let es = c.args.leaves.now in
     let i = c.leaf_number-leaf.result in
     let l = c.leaf.result.now in
-    let low = c.constant_of-low.ensures in
-    let high = c.constant_of-high.ensures in
+    let low = c.in_ok-low.ensures in
+    let high = c.in_ok-high.ensures in
     let f = c.less.ensures in
     let ho = high.low in
     let hh = high.high in
     let lo = low.low in
     let hi = low.high in
-    let yl : to_z w128 (of_z w128 c.constant_of-low.result) ≡ c.constant_of-low.result = omega (arith, ints, lo, hi) in
-    let yh : to_z w128 (of_z w128 c.constant_of-high.result) ≡ c.constant_of-high.result = omega (arith, ints, ho, hh) in
+    let yl : to_z w128 (of_z w128 c.in_ok-low.low) ≡ c.in_ok-low.low = omega (arith, ints, lo, hi) in
+    let yh : to_z w128 (of_z w128 c.in_ok-high.high) ≡ c.in_ok-high.high = omega (arith, ints, ho, hh) in
     let value = f.value ∙ ap (λ k. k -ℤ pos l.low) yl in
     let small = f.small in
     let z : to_z w128 (of_z w128 c.less.result) ≡ c.less.result = omega (arith, ints, value, small, lo, hi) in
-    fixed_part es c.args.name.now i (leaf_read es c.args.name.now i l c.leaf.ensures c.leaf_number-leaf.ensures) ns _ c.args.a.now c.args.b.now c.constant_of-high.result c.constant_of-low.result c.less.result
-    c.requires.constant.0 c.requires.constant.1 high.value low.value (fixed_length es c.args.a.now c.args.b.now c.constant_of-high.result c.constant_of-low.result high.value low.value c.requires.count) lo hi small value
+    fixed_part es c.args.name.now i (leaf_read es c.args.name.now i l c.leaf.ensures c.leaf_number-leaf.ensures) ns _ c.args.a.now c.args.b.now c.in_ok-high.high c.in_ok-low.low c.less.result
+    c.requires.constant.0 c.requires.constant.1 high.value low.value (fixed_length es c.args.a.now c.args.b.now c.in_ok-high.high c.in_ok-low.low high.value low.value c.requires.count) lo hi small value
     (λ r. record { leaf = i; spot = s.Fixed (z r); count = (c.between.ensures ∙ (λ q. part_width w.Fixed (yh q) (yl q))) r })

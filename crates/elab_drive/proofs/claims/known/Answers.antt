@@ -18,4 +18,5 @@ unreachable-requires c =
     let none = empty _ _ (sym c.if-not-is_empty.false ∙ c.is_empty.ensures ∙ ap (λ xs. nat_eq (length xs) 0) c.as_slice.ensures.value) c.in_ok-reads.ensures in
     let a = c.args.expr.now in
     let r = c.requires (no_names a none) in
-    subst (λ (v : List Entry). IsFormed v a → IsDefined v a (width_of v a) (sign_of v a) → ⊥) c.new.ensures c.in-None.ensures.none r.0 r.1
+    let refused = rw c.in-None.is at c.in_ok-own.ensures.none in
+    subst (λ (v : List Entry). IsFormed v a → IsDefined v a (width_of v a) (sign_of v a) → ⊥) c.new.ensures refused r.0 r.1

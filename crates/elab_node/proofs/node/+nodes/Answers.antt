@@ -24,8 +24,8 @@ node_at-alone-requires t c = select_index c.args.leaves.now c.args.expr.now c.ar
 pub node_at-name_vector-vector-requires-clause-formed : goal.node_at-name_vector-vector-requires-clause-formed
 node_at-name_vector-vector-requires-clause-formed t c = (select_formed (declared c.args.leaves.now) c.in-Select.name c.in-Select.index c.args.expr.now c.in-Select.is c.requires.taken.ready.formed).0
 
-pub node_at-constant_integer-low-requires : goal.node_at-constant_integer-low-requires
-node_at-constant_integer-low-requires t c = part_second c.args.leaves.now c.args.expr.now c.args.here.0 c.args.here.1 c.requires.taken c.in-Part.name c.in-Part.span c.in-Part.a c.in-Part.b c.in-Part.is
+pub node_at-constant_integer-requires : goal.node_at-constant_integer-requires
+node_at-constant_integer-requires t c = part_second c.args.leaves.now c.args.expr.now c.args.here.0 c.args.here.1 c.requires.taken c.in-Part.name c.in-Part.span c.in-Part.a c.in-Part.b c.in-Part.is
 
 pub node_at-name_vector-vector-requires-then-is_fixed-clause-formed : goal.node_at-name_vector-vector-requires-then-is_fixed-clause-formed
 node_at-name_vector-vector-requires-then-is_fixed-clause-formed t c = (part_formed (declared c.args.leaves.now) c.in-Part.name c.in-Part.span c.in-Part.a c.in-Part.b c.args.expr.now c.in-Part.is c.requires.taken.ready.formed).0
@@ -84,20 +84,20 @@ node_at-count_of-requires-clause-length t c =
 
 pub node_at-copies-requires-clause-some : goal.node_at-copies-requires-clause-some
 node_at-copies-requires-clause-some t c =
-    (counted (natural (own_integer (operand_of (declared c.args.leaves.now) c.in-Repeat.count))) c.in_ok-once-in-Repeat.once.width c.count_of.result c.count_of.ensures
+    (counted (natural (own_integer (operand_of (declared c.args.leaves.now) c.in-Repeat.count))) c.in_ok-once-in-Repeat.once.width c.in_ok-times-in-Repeat.times c.in_ok-times-in-Repeat.ensures
     (repeat_length c.args.leaves.now c.row_node-in-Repeat.new.dag c.in-Repeat.count c.in-Repeat.items c.row-in-Repeat.result.now c.in_ok-once-in-Repeat.once c.row-in-Repeat.ensures.same c.in_ok-once-in-Repeat.ensures.node
     (repeat_bits c.args.leaves.now c.args.expr.now c.args.here.0 c.args.here.1 c.requires.taken c.in-Repeat.count c.in-Repeat.items c.in-Repeat.is))).0
 
 pub node_at-copies-requires-clause-most : goal.node_at-copies-requires-clause-most
 node_at-copies-requires-clause-most t c =
-    (counted (natural (own_integer (operand_of (declared c.args.leaves.now) c.in-Repeat.count))) c.in_ok-once-in-Repeat.once.width c.count_of.result c.count_of.ensures
+    (counted (natural (own_integer (operand_of (declared c.args.leaves.now) c.in-Repeat.count))) c.in_ok-once-in-Repeat.once.width c.in_ok-times-in-Repeat.times c.in_ok-times-in-Repeat.ensures
     (repeat_length c.args.leaves.now c.row_node-in-Repeat.new.dag c.in-Repeat.count c.in-Repeat.items c.row-in-Repeat.result.now c.in_ok-once-in-Repeat.once c.row-in-Repeat.ensures.same c.in_ok-once-in-Repeat.ensures.node
     (repeat_bits c.args.leaves.now c.args.expr.now c.args.here.0 c.args.here.1 c.requires.taken c.in-Repeat.count c.in-Repeat.items c.in-Repeat.is))).1
 
 pub node_at-extended-requires-in-Repeat-clause-wider : goal.node_at-extended-requires-in-Repeat-clause-wider
 node_at-extended-requires-in-Repeat-clause-wider t c =
-    repeat_wide c.args.leaves.now c.row_node-in-Repeat.new.dag c.in-Repeat.count c.in-Repeat.items c.row-in-Repeat.result.now c.args.expr.now c.args.here.0 c.count_of.result c.in_ok-once-in-Repeat.once c.in_ok-all-in-Repeat.all c.in-Repeat.is c.row-in-Repeat.ensures.same c.in_ok-once-in-Repeat.ensures.node
-    c.count_of.ensures c.in_ok-all-in-Repeat.ensures.width c.requires.taken.ready.long
+    repeat_wide c.args.leaves.now c.row_node-in-Repeat.new.dag c.in-Repeat.count c.in-Repeat.items c.row-in-Repeat.result.now c.args.expr.now c.args.here.0 c.in_ok-times-in-Repeat.times c.in_ok-once-in-Repeat.once c.in_ok-all-in-Repeat.all c.in-Repeat.is c.row-in-Repeat.ensures.same c.in_ok-once-in-Repeat.ensures.node
+    c.in_ok-times-in-Repeat.ensures c.in_ok-all-in-Repeat.ensures.width c.requires.taken.ready.long
 
 pub node_at-alone-requires-in-Choice : goal.node_at-alone-requires-in-Choice
 node_at-alone-requires-in-Choice t c = choice_condition c.args.leaves.now c.args.expr.now c.args.here.0 c.args.here.1 c.requires.taken c.in-Choice.condition c.in-Choice.a c.in-Choice.b c.in-Choice.is
@@ -128,8 +128,8 @@ node_at-returns-in_ok-node-in-Select-clause-node t c =
 
 pub node_at-returns-then-is_fixed-clause-node : goal.node_at-returns-then-is_fixed-clause-node
 node_at-returns-then-is_fixed-clause-node t c =
-    fixed_has c.args.leaves.now c.args.dag.now c.fixed_bits.new.dag c.name_vector-vector-then-is_fixed.result c.in-Part.name c.in-Part.span c.in-Part.a c.in-Part.b c.args.expr.now c.args.here.0 c.args.here.1 c.shape-width.result.0 c.shape-width.result.1 _ c.in_ok-node-in-Part.node
-    c.requires.ready c.in_ok-node-in-Part.ensures.keeps c.requires.taken c.name_vector-vector-then-is_fixed.ensures c.in-Part.is c.if-is_fixed.ensures c.shape-width.ensures c.in_ok-node-in-Part.ensures.makes (omega (arith, ints, c.constant_integer-low.ensures.value))
+    fixed_has c.args.leaves.now c.args.dag.now c.fixed_bits.new.dag c.name_vector-vector-then-is_fixed.result c.in-Part.name c.in-Part.span c.in-Part.a c.in-Part.b c.args.expr.now c.args.here.0 c.args.here.1 c.in_ok-own-in-Part.own.0 c.in_ok-own-in-Part.own.1 _ c.in_ok-node-in-Part.node
+    c.requires.ready c.in_ok-node-in-Part.ensures.keeps c.requires.taken c.name_vector-vector-then-is_fixed.ensures c.in-Part.is c.if-is_fixed.ensures c.in_ok-own-in-Part.ensures c.in_ok-node-in-Part.ensures.makes (omega (arith, ints, c.in_ok-low-in-Part.ensures.value))
 
 pub node_at-returns-in_ok-node-in-Part-2-clause-node : goal.node_at-returns-in_ok-node-in-Part-2-clause-node
 node_at-returns-in_ok-node-in-Part-2-clause-node t c =
@@ -137,11 +137,11 @@ node_at-returns-in_ok-node-in-Part-2-clause-node t c =
     let m = c.own_node-in-Part.new.dag in
     let w = c.in_ok-base-in-Part.base.wire in
     let s = c.in_ok-base-in-Part.base.signed in
-    let n = c.shape-width.result.0 in
+    let n = c.in_ok-own-in-Part.own.0 in
     bits_has ls m c.based_bits-in-Part.new.dag (λ v. named v c.in-Part.name) c.name_vector-vector-in-Part.result c.args.expr.now c.args.here.0 c.args.here.1 c.in_ok-base-in-Part.ensures.ready c.in_ok-node-in-Part-2.ensures.keeps c.requires.taken c.name_vector-vector-in-Part.ensures
     (λ x. part_low c.in-Part.span (integer s w.width (number_at x m w.node)) (pos n)) n c.in_ok-node-in-Part-2.node
     (λ x.
-    based_bits_are ls m c.in-Part.span c.in-Part.a c.in-Part.b c.args.expr.now c.alone-in-Part.result.now c.args.here.0 c.args.here.1 s c.shape-width.result.1 n w c.if-is_fixed.ensures c.requires.taken.constant c.shape-width.ensures c.alone-in-Part.ensures.same c.alone-in-Part.ensures.alone.constant
+    based_bits_are ls m c.in-Part.span c.in-Part.a c.in-Part.b c.args.expr.now c.alone-in-Part.result.now c.args.here.0 c.args.here.1 s c.in_ok-own-in-Part.own.1 n w c.if-is_fixed.ensures c.requires.taken.constant c.in_ok-own-in-Part.ensures c.alone-in-Part.ensures.same c.alone-in-Part.ensures.alone.constant
     c.in_ok-base-in-Part.ensures.node x c.in-Part.name c.in-Part.is) c.in_ok-node-in-Part-2.ensures.makes
 
 pub node_at-returns-in_ok-node-in-ConstantSelect-clause-node : goal.node_at-returns-in_ok-node-in-ConstantSelect-clause-node
@@ -173,13 +173,13 @@ node_at-returns-in_ok-node-in-ConstantPart-2-clause-node t c =
     let w = c.in_ok-base-in-ConstantPart.base.wire in
     let s = c.in_ok-base-in-ConstantPart.base.signed in
     let y = c.alone-in-ConstantPart.result.now in
-    let n = c.shape-width-in-ConstantPart.result.0 in
+    let n = c.in_ok-own-in-ConstantPart.own.0 in
     let ready = c.in_ok-base-in-ConstantPart.ensures.ready in
     let keeps = c.in_ok-vector-in-ConstantPart.ensures.keeps in
     bits_has ls m c.based_bits-in-ConstantPart.new.dag (λ v. c.in-ConstantPart.number) c.in_ok-vector-in-ConstantPart.vector c.args.expr.now c.args.here.0 c.args.here.1 (ready_kept ls one m keeps ready) c.in_ok-node-in-ConstantPart-2.ensures.keeps c.requires.taken
     (c.in_ok-vector-in-ConstantPart.ensures.vector ls) (λ x. part_low c.in-ConstantPart.span (integer s w.width (number_at x m w.node)) (pos n)) n c.in_ok-node-in-ConstantPart-2.node
     (λ x.
-    constant_bits_are ls m c.in-ConstantPart.span c.in-ConstantPart.a c.in-ConstantPart.field-3 c.args.expr.now y c.args.here.0 c.args.here.1 s c.shape-width-in-ConstantPart.result.1 n w c.if-is_fixed-2.ensures c.requires.taken.constant c.shape-width-in-ConstantPart.ensures c.alone-in-ConstantPart.ensures.same
+    constant_bits_are ls m c.in-ConstantPart.span c.in-ConstantPart.a c.in-ConstantPart.field-3 c.args.expr.now y c.args.here.0 c.args.here.1 s c.in_ok-own-in-ConstantPart.own.1 n w c.if-is_fixed-2.ensures c.requires.taken.constant c.in_ok-own-in-ConstantPart.ensures c.alone-in-ConstantPart.ensures.same
     c.alone-in-ConstantPart.ensures.alone.constant (own_still ls one m y w s ready keeps c.in_ok-base-in-ConstantPart.ensures.node) x c.in-ConstantPart.number c.in-ConstantPart.is) c.in_ok-node-in-ConstantPart-2.ensures.makes
 
 pub node_at-returns-in_ok-node-in-Cast-clause-node : goal.node_at-returns-in_ok-node-in-Cast-clause-node
@@ -201,13 +201,13 @@ node_at-returns-in_ok-node-in-Repeat-clause-node t c =
     let m = c.row_node-in-Repeat.new.dag in
     let mid = c.copies.new.dag in
     let new = c.extended-in-Repeat.new.dag in
-    repeat_done c.args.leaves.now m mid new c.in-Repeat.count c.in-Repeat.items c.row-in-Repeat.result.now c.args.expr.now c.args.here.0 c.args.here.1 c.count_of.result c.in_ok-once-in-Repeat.once c.in_ok-all-in-Repeat.all c.in_ok-node-in-Repeat.node
-    c.in_ok-once-in-Repeat.ensures.ready (keeps_then m mid new c.in_ok-all-in-Repeat.ensures.keeps c.in_ok-node-in-Repeat.ensures.keeps) c.requires.taken c.in-Repeat.is c.row-in-Repeat.ensures.same c.in_ok-once-in-Repeat.ensures.node c.count_of.ensures c.in_ok-all-in-Repeat.ensures.makes c.in_ok-node-in-Repeat.ensures.makes
+    repeat_done c.args.leaves.now m mid new c.in-Repeat.count c.in-Repeat.items c.row-in-Repeat.result.now c.args.expr.now c.args.here.0 c.args.here.1 c.in_ok-times-in-Repeat.times c.in_ok-once-in-Repeat.once c.in_ok-all-in-Repeat.all c.in_ok-node-in-Repeat.node
+    c.in_ok-once-in-Repeat.ensures.ready (keeps_then m mid new c.in_ok-all-in-Repeat.ensures.keeps c.in_ok-node-in-Repeat.ensures.keeps) c.requires.taken c.in-Repeat.is c.row-in-Repeat.ensures.same c.in_ok-once-in-Repeat.ensures.node c.in_ok-times-in-Repeat.ensures c.in_ok-all-in-Repeat.ensures.makes c.in_ok-node-in-Repeat.ensures.makes
 
 pub node_at-returns-in_ok-node-in-Unary-clause-node : goal.node_at-returns-in_ok-node-in-Unary-clause-node
 node_at-returns-in_ok-node-in-Unary-clause-node t c =
-    unary_done c.args.leaves.now c.node_at-in-Unary.new.dag c.made.new.dag c.in-Unary.op c.in-Unary.inner c.args.expr.now c.operand-in-Unary.result.now c.args.here.0 c.args.here.1 c.unary_place-place.result.0 c.unary_place-place.result.1 c.in_ok-inner-in-Unary.inner c.in_ok-node-in-Unary.node
-    c.in_ok-inner-in-Unary.ensures.ready c.in_ok-node-in-Unary.ensures.keeps c.in-Unary.is c.operand-in-Unary.ensures.same c.operand-in-Unary.ensures.taken c.unary_place-place.ensures.place c.in_ok-inner-in-Unary.ensures.node c.in_ok-node-in-Unary.ensures.makes
+    unary_done c.args.leaves.now c.node_at-in-Unary.new.dag c.made.new.dag c.in-Unary.op c.in-Unary.inner c.args.expr.now c.operand-in-Unary.result.now c.args.here.0 c.args.here.1 c.in_ok-place-in-Unary.place.0 c.in_ok-place-in-Unary.place.1 c.in_ok-inner-in-Unary.inner c.in_ok-node-in-Unary.node
+    c.in_ok-inner-in-Unary.ensures.ready c.in_ok-node-in-Unary.ensures.keeps c.in-Unary.is c.operand-in-Unary.ensures.same c.operand-in-Unary.ensures.taken c.in_ok-place-in-Unary.ensures.place c.in_ok-inner-in-Unary.ensures.node c.in_ok-node-in-Unary.ensures.makes
 
 pub node_at-returns-then-is_division-clause-node : goal.node_at-returns-then-is_division-clause-node
 node_at-returns-then-is_division-clause-node t c =
@@ -216,10 +216,10 @@ node_at-returns-then-is_division-clause-node t c =
 
 pub node_at-returns-in_ok-node-in-Binary-2-clause-node : goal.node_at-returns-in_ok-node-in-Binary-2-clause-node
 node_at-returns-in_ok-node-in-Binary-2-clause-node t c =
-    let places = c.binary_places-places.result in
+    let places = c.in_ok-places-in-Binary.places in
     binary_done c.args.leaves.now c.node_at-in-Binary.new.dag c.node_at-in-Binary-2.new.dag c.joined.new.dag c.in-Binary.op c.in-Binary.a c.in-Binary.b c.args.expr.now c.operand-in-Binary.result.now c.operand-in-Binary-2.result.now c.args.here.0 c.args.here.1 places.left.0 places.left.1 places.right.0 places.right.1
     c.in_ok-a-in-Binary.a c.in_ok-b-in-Binary.b c.in_ok-node-in-Binary-2.node c.in_ok-a-in-Binary.ensures.ready c.in_ok-b-in-Binary.ensures.keeps c.in_ok-b-in-Binary.ensures.ready c.in_ok-node-in-Binary-2.ensures.keeps c.in-Binary.is c.operand-in-Binary.ensures.same c.operand-in-Binary-2.ensures.same
-    c.operand-in-Binary.ensures.taken c.operand-in-Binary-2.ensures.taken c.binary_places-places.ensures.places c.if-is_division.ensures c.in_ok-a-in-Binary.ensures.node c.in_ok-b-in-Binary.ensures.node c.in_ok-node-in-Binary-2.ensures.makes
+    c.operand-in-Binary.ensures.taken c.operand-in-Binary-2.ensures.taken c.in_ok-places-in-Binary.ensures.places c.if-is_division.ensures c.in_ok-a-in-Binary.ensures.node c.in_ok-b-in-Binary.ensures.node c.in_ok-node-in-Binary-2.ensures.makes
 
 pub node_at-returns-in_ok-node-in-Choice-clause-node : goal.node_at-returns-in_ok-node-in-Choice-clause-node
 node_at-returns-in_ok-node-in-Choice-clause-node t c =
@@ -411,7 +411,7 @@ node_at-returns-in_ok-node-in-Choice-clause-ready t c = ready_kept c.args.leaves
 
 pub own_node-returns-clause-node : goal.own_node-returns-clause-node
 own_node-returns-clause-node t c =
-    alone_node c.args.leaves.now c.node_at.new.dag c.node_at.new.dag c.args.expr.now c.own_place-here.result.0 c.own_place-here.result.1 c.in_ok-node.node (record { node = c.in_ok-node.node; width = c.own_place-here.result.0 }) c.requires.alone c.own_place-here.ensures.shape c.in_ok-node.ensures.node refl
+    alone_node c.args.leaves.now c.node_at.new.dag c.node_at.new.dag c.args.expr.now c.in_ok-here.here.0 c.in_ok-here.here.1 c.in_ok-node.node (record { node = c.in_ok-node.node; width = c.in_ok-here.here.0 }) c.requires.alone c.in_ok-here.ensures.shape c.in_ok-node.ensures.node refl
 
 -- ---- concatenations
 

@@ -11,4 +11,4 @@ shape-requires c = subst (λ (z : Expr). IsFormed (declared c.args.leaves.now) z
 
 pub returns-clause-taken : goal.returns-clause-taken
 returns-clause-taken c =
-    unary_inner c.args.leaves.now c.args.expr.now c.args.here.0 c.args.here.1 c.requires.taken c.args.op c.args.inner.now c.get.result.now c.shape.result.0 c.inner_place.result.0 c.shape.result.1 c.inner_place.result.1 c.requires.is c.get.ensures c.shape.ensures c.inner_place.ensures.width c.inner_place.ensures.sign
+    unary_inner c.args.leaves.now c.args.expr.now c.args.here.0 c.args.here.1 c.requires.taken c.args.op c.args.inner.now c.get.result.now c.in_ok-own.own.0 c.inner_place.result.0 c.in_ok-own.own.1 c.inner_place.result.1 c.requires.is c.get.ensures c.in_ok-own.ensures c.inner_place.ensures.width c.inner_place.ensures.sign

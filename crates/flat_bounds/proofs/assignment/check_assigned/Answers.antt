@@ -8,7 +8,7 @@ use Rattle.elab_drive.proofs.Growing.{ok_then}
 use Rattle.flat_bounds.specs.declared.side.Side.TheVariants as d
 use Rattle.flat_bounds.specs.Taken.{Fails}
 use Rattle.flat_bounds.specs.Stores.{IsSoundTo, BreaksTo, IsSoundStore, BreaksStore}
-use Rattle.flat_bounds.proofs.Takes.{if_err, fails}
+use Rattle.flat_bounds.proofs.Takes.{if_err, fails_map}
 use Rattle.flat_bounds.proofs.Stores.{store_sound, store_breaks}
 use Rattle.flat_bounds.proofs.assignment.check_assigned.Goals as goal
 
@@ -25,6 +25,7 @@ returns-clause-err c =
     let p = place_of (scope_meant c.args.scope.now) in
     let a = assigned_meant c.args.assigned.now in
     let qs = map part_meant c.deref.result.now in
-    if_err c.check_store.result (BreaksTo d.Continuous (is_known c.args.scope.now.params) c.args.rest.now qs a.right) (Fails (BreaksStore d.Continuous p a))
-    (λ w h. fails (BreaksStore d.Continuous p a) w
-    (store_breaks d.Continuous p a qs c.args.rest.now (ap (map part_meant) c.deref.ensures.value ∙ c.in_ok-parts.ensures) c.requires.rest c.requires.signals w h)) c.check_store.ensures.err
+    let breaks = BreaksTo d.Continuous (is_known c.args.scope.now.params) c.args.rest.now qs a.right in
+    if_err c.check_store.result (Fails breaks) (Fails (BreaksStore d.Continuous p a))
+    (fails_map breaks (BreaksStore d.Continuous p a)
+    (store_breaks d.Continuous p a qs c.args.rest.now (ap (map part_meant) c.deref.ensures.value ∙ c.in_ok-parts.ensures) c.requires.rest c.requires.signals)) c.check_store.ensures.err

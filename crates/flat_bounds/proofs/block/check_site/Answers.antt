@@ -4,7 +4,7 @@ use Rattle.std.specs.List.{flat_map}
 use Rattle.vlog_tree.specs.declared.item.Assign.{Assign}
 use Rattle.vlog_tree.specs.declared.valuation.Entry.{Entry}
 use Rattle.vlog_runs.specs.Scopes.{place_of}
-use Rattle.flat_faults.specs.Constants.{compared}
+use Rattle.flat_faults.specs.Constants.{alone, compared}
 use Rattle.flat_faults.specs.Texts.{Compared}
 use Rattle.flat_params.specs.Constants.{is_known}
 use Rattle.flat_instances.specs.Unfolding.{scope_meant}
@@ -12,13 +12,21 @@ use Rattle.elab_drive.specs.Parts.{part_meant}
 use Rattle.elab_drive.proofs.Growing.{ok_then}
 use Rattle.flat_bounds.specs.declared.side.Side.TheVariants as d
 use Rattle.flat_bounds.specs.declared.site.Site.{Site}
-use Rattle.flat_bounds.specs.Taken.{AllSound, SomeBreaks, Fails}
+use Rattle.flat_bounds.specs.Taken.{AllSound, Breaks, SomeBreaks, Fails}
 use Rattle.flat_bounds.specs.Stores.{IsSoundTo, BreaksTo, IsSoundStore, BreaksStore}
 use Rattle.flat_bounds.specs.Usages.{item_labels, UsesSignals, IsSoundUsage, BreaksUsage}
 use Rattle.flat_bounds.specs.Sites.{site_meant}
-use Rattle.flat_bounds.proofs.Takes.{if_err, fails}
+use Rattle.flat_bounds.proofs.Takes.{if_err, fails_map}
 use Rattle.flat_bounds.proofs.Stores.{store_sound, store_breaks}
 use Rattle.flat_bounds.proofs.block.check_site.Goals as goal
+
+pub returns-in-Test-clause-err : goal.returns-in-Test-clause-err
+returns-in-Test-clause-err c =
+    let p = place_of (scope_meant c.args.scope.now) in
+    let test = is_known c.args.scope.now.params in
+    let r = c.check_alone.result in
+    let a = c.in-Test.expr.now in
+    subst (λ (z : Site). IfErr r (Fails (BreaksUsage p (site_meant z)))) (sym c.in-Test.is) (subst (λ (v : List Entry). IfErr r (Fails (Breaks test v (alone v a)))) c.requires.rest c.check_alone.ensures.err)
 
 pub returns-in-Cases-clause-ok : goal.returns-in-Cases-clause-ok
 returns-in-Cases-clause-ok c =
@@ -56,6 +64,6 @@ returns-in_ok-parts-in-Store-clause-err c =
     let qs = map part_meant c.deref.result.now in
     let names = subst (λ (z : Site). UsesSignals p (site_meant z)) c.in-Store.is c.requires.signals in
     subst (λ (z : Site). IfErr r (Fails (BreaksUsage p (site_meant z)))) (sym c.in-Store.is)
-    (if_err r (BreaksTo d.Procedural test c.args.rest.now qs a.right) (Fails (BreaksStore d.Procedural p a))
-    (λ w h. fails (BreaksStore d.Procedural p a) w
-    (store_breaks d.Procedural p a qs c.args.rest.now (ap (map part_meant) c.deref.ensures.value ∙ c.in_ok-parts-in-Store.ensures) c.requires.rest names w h)) c.check_store.ensures.err)
+    (if_err r (Fails (BreaksTo d.Procedural test c.args.rest.now qs a.right)) (Fails (BreaksStore d.Procedural p a))
+    (fails_map (BreaksTo d.Procedural test c.args.rest.now qs a.right) (BreaksStore d.Procedural p a)
+    (store_breaks d.Procedural p a qs c.args.rest.now (ap (map part_meant) c.deref.ensures.value ∙ c.in_ok-parts-in-Store.ensures) c.requires.rest names)) c.check_store.ensures.err)

@@ -8,4 +8,4 @@ use Rattle.flat_bounds.proofs.cases.check_all_at.Given as goal
 
 abbrev pub invariant-loop-expr : goal.invariant-loop-expr
 invariant-loop-expr l =
-    (a : Expr) → Among (map expr_meant l.exprs) a → (IsSound (is_known l.params) l.rest (taken_at a l.length l.signed)) ⊎ Among (map expr_meant (drop l.expr-index l.exprs)) a
+    (a : Expr) → Among (map expr_meant l.exprs) a → (IsSound (is_known l.params) l.rest (taken_at a l.shape.0 l.shape.1)) ⊎ Among (map expr_meant (drop l.expr-index l.exprs)) a

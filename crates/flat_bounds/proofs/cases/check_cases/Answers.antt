@@ -11,7 +11,7 @@ use Rattle.flat_bounds.specs.Usages.{item_labels}
 use Rattle.flat_bounds.specs.Cases.{HasCommonShape, expr_meant}
 use Rattle.flat_bounds.specs.declared.violation.Violation.{Violation}
 use Rattle.flat_bounds.specs.Taken.{IsSound, AllSound, Breaks, SomeBreaks, Fails, taken_at}
-use Rattle.flat_bounds.proofs.Takes.{if_err, fails}
+use Rattle.flat_bounds.proofs.Takes.{if_err, fails_map}
 use Rattle.flat_bounds.proofs.Widest.{all_sound, some_breaks}
 use Rattle.flat_bounds.proofs.cases.check_cases.Goals as goal
 
@@ -22,9 +22,9 @@ returns-in-Ok-clause-ok c =
     let k : Compared = record { value = c.args.subject.now; labels = flat_map item_labels c.args.items.now } in
     let as' = map expr_meant c.deref-in-Ok.result.now in
     let is : as' ≡ k.value ∷ k.labels = ap (map expr_meant) c.deref-in-Ok.ensures.value ∙ c.in_ok-exprs.ensures in
-    let shape = subst (λ xs. HasCommonShape test v (map expr_meant xs) c.in-Ok.width c.in-Ok.signed) (c.deref.ensures.value ∙ sym c.deref-in-Ok.ensures.value) c.in-Ok.ensures.ok in
-    ok_then c.check_all_at.result ((a : Expr) → Among as' a → IsSound test v (taken_at a c.in-Ok.width c.in-Ok.signed)) (AllSound test v (compared v k)) c.check_all_at.ensures.ok
-    (all_sound test v k as' is c.in-Ok.width c.in-Ok.signed shape.width shape.sign)
+    let shape = subst (λ xs. HasCommonShape test v (map expr_meant xs) c.in-Ok.shape.0 c.in-Ok.shape.1) (c.deref.ensures.value ∙ sym c.deref-in-Ok.ensures.value) c.in-Ok.ensures.ok in
+    ok_then c.check_all_at.result ((a : Expr) → Among as' a → IsSound test v (taken_at a c.in-Ok.shape.0 c.in-Ok.shape.1)) (AllSound test v (compared v k)) c.check_all_at.ensures.ok
+    (all_sound test v k as' is c.in-Ok.shape.0 c.in-Ok.shape.1 shape.width shape.sign)
 
 pub returns-in-Ok-clause-err : goal.returns-in-Ok-clause-err
 returns-in-Ok-clause-err c =
@@ -33,9 +33,10 @@ returns-in-Ok-clause-err c =
     let k : Compared = record { value = c.args.subject.now; labels = flat_map item_labels c.args.items.now } in
     let as' = map expr_meant c.deref-in-Ok.result.now in
     let is : as' ≡ k.value ∷ k.labels = ap (map expr_meant) c.deref-in-Ok.ensures.value ∙ c.in_ok-exprs.ensures in
-    let shape = subst (λ xs. HasCommonShape test v (map expr_meant xs) c.in-Ok.width c.in-Ok.signed) (c.deref.ensures.value ∙ sym c.deref-in-Ok.ensures.value) c.in-Ok.ensures.ok in
-    if_err c.check_all_at.result (λ (w : Violation). (a : Expr) × Among as' a × Breaks test v (taken_at a c.in-Ok.width c.in-Ok.signed) w) (Fails (SomeBreaks test v (compared v k)))
-    (λ w h. fails (SomeBreaks test v (compared v k)) w (some_breaks test v k as' is c.in-Ok.width c.in-Ok.signed shape.width shape.sign w h)) c.check_all_at.ensures.err
+    let shape = subst (λ xs. HasCommonShape test v (map expr_meant xs) c.in-Ok.shape.0 c.in-Ok.shape.1) (c.deref.ensures.value ∙ sym c.deref-in-Ok.ensures.value) c.in-Ok.ensures.ok in
+    let each : Violation → Type 0 = λ w. (a : Expr) × Among as' a × Breaks test v (taken_at a c.in-Ok.shape.0 c.in-Ok.shape.1) w in
+    let some = SomeBreaks test v (compared v k) in
+    if_err c.check_all_at.result (Fails each) (Fails some) (fails_map each some (some_breaks test v k as' is c.in-Ok.shape.0 c.in-Ok.shape.1 shape.width shape.sign)) c.check_all_at.ensures.err
 
 pub returns-clause-err : goal.returns-clause-err
 returns-clause-err c =
@@ -44,5 +45,5 @@ returns-clause-err c =
     let k : Compared = record { value = c.args.subject.now; labels = flat_map item_labels c.args.items.now } in
     let as' = map expr_meant c.deref.result.now in
     let is : as' ≡ k.value ∷ k.labels = ap (map expr_meant) c.deref.ensures.value ∙ c.in_ok-exprs.ensures in
-    fails (SomeBreaks test v (compared v k)) c.in-Err.violation
-    (some_breaks test v k as' is (widest v as') (all_signed v as') refl refl c.in-Err.violation (c.in-Err.ensures.err (widest v as') (all_signed v as')))
+    let each : Violation → Type 0 = λ w. (a : Expr) × Among as' a × Breaks test v (taken_at a (widest v as') (all_signed v as')) w in
+    fails_map each (SomeBreaks test v (compared v k)) (some_breaks test v k as' is (widest v as') (all_signed v as') refl refl) c.in-Err.violation (c.in-Err.ensures.err (widest v as') (all_signed v as'))

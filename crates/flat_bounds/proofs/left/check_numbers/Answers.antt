@@ -1,11 +1,17 @@
-use Rattle.std.proofs.Common.{refl}
+use Rattle.std.proofs.Common.{refl, map}
+use Rattle.vlog_tree.specs.declared.stmt.Lval.{Lval}
+use Rattle.vlog_runs.specs.Places.{Among}
+use Rattle.flat_params.specs.Constants.{is_known}
 use Rattle.elab_drive.specs.Parts.{part_meant}
 use Rattle.elab_drive.proofs.Naming.{meant_at}
+use Rattle.flat_bounds.specs.declared.violation.Violation.{Violation}
+use Rattle.flat_bounds.specs.Lefts.{BreaksNumbers}
+use Rattle.flat_bounds.proofs.Takes.{fails_map}
 use Rattle.flat_bounds.proofs.left.check_numbers.Goals as goal
 
 pub returns-in-Err-clause-err : goal.returns-in-Err-clause-err
-returns-in-Err-clause-err c = (
-  part_meant c.part-item.result,
-  meant_at part_meant c.args.parts.now c.args.parts.now _ c.loop-part.part-index c.part-item.result c.loop-part-test.true c.part-item.is refl refl,
-  c.in-Err.ensures.err,
-)
+returns-in-Err-clause-err c =
+    let test = is_known c.args.params.now in
+    let q = part_meant c.part-item.result in
+    fails_map (BreaksNumbers c.args.side test c.args.rest.now q) (λ (w : Violation). (x : Lval) × Among (map part_meant c.args.parts.now) x × BreaksNumbers c.args.side test c.args.rest.now x w)
+    (λ w h. (q, meant_at part_meant c.args.parts.now c.args.parts.now _ c.loop-part.part-index c.part-item.result c.loop-part-test.true c.part-item.is refl refl, h)) c.in-Err.violation c.in-Err.ensures.err

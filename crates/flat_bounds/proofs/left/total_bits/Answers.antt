@@ -11,5 +11,5 @@ pub returns-in-None-clause-none : goal.returns-in-None-clause-none
 returns-in-None-clause-none c = inl (
   part_meant c.part-item.result,
   meant_at part_meant c.args.parts.now c.args.parts.now _ c.loop-part.part-index c.part-item.result c.loop-part-test.true c.part-item.is refl refl,
-  c.in-None.ensures.none,
+  rw c.in-None.is at c.in_ok-bits.ensures.none,
 )

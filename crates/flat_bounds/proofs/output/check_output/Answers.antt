@@ -7,8 +7,8 @@ use Rattle.flat_instances.specs.Unfolding.{scope_meant}
 use Rattle.elab_drive.specs.Parts.{part_meant}
 use Rattle.flat_bounds.specs.declared.side.Side.TheVariants as d
 use Rattle.flat_bounds.specs.Outputs.{AreOf}
-use Rattle.flat_bounds.specs.Stores.{BreaksLeft}
-use Rattle.flat_bounds.proofs.Takes.{fails}
+use Rattle.flat_bounds.specs.Stores.{SomeBreaksNumbers, BreaksLeft}
+use Rattle.flat_bounds.proofs.Takes.{fails_map}
 use Rattle.flat_bounds.proofs.Stores.{fine}
 use Rattle.flat_bounds.proofs.Ends.{output_numbers, output_breaks, unnamed, sized, missized, named_parts}
 use Rattle.flat_bounds.proofs.output.check_output.Goals as goal
@@ -17,8 +17,9 @@ pub returns-in-Err-clause-err : goal.returns-in-Err-clause-err
 returns-in-Err-clause-err c =
     let s = scope_meant c.args.scope.now in
     let a = c.args.value.now in
-    fails (BreaksLeft d.Continuous (place_of s) (left_of a)) c.in-Err.violation
-    (output_breaks s a c.args.rest.now c.requires.rest c.args.signals.now c.requires.signals (map part_meant c.deref.result.now) (ap (map part_meant) c.deref.ensures.value ∙ c.in_ok-parts.ensures) c.in-Err.violation c.in-Err.ensures.err)
+    let qs = map part_meant c.deref.result.now in
+    fails_map (SomeBreaksNumbers d.Continuous (is_known c.args.scope.now.params) c.args.rest.now qs) (BreaksLeft d.Continuous (place_of s) (left_of a))
+    (output_breaks s a c.args.rest.now c.requires.rest c.args.signals.now c.requires.signals qs (ap (map part_meant) c.deref.ensures.value ∙ c.in_ok-parts.ensures)) c.in-Err.violation c.in-Err.ensures.err
 
 pub returns-then-not-are_of-clause-ok : goal.returns-then-not-are_of-clause-ok
 returns-then-not-are_of-clause-ok c =
@@ -46,7 +47,7 @@ returns-in-Some-clause-ok c =
     let ns = c.args.signals.now in
     sized s a v c.requires.rest ns c.requires.signals (map part_meant c.deref-3.result.now) (ap (map part_meant) c.deref-3.ensures.value ∙ c.in_ok-parts.ensures)
     (output_numbers s a v c.requires.rest ns c.requires.signals (map part_meant c.deref.result.now) (ap (map part_meant) c.deref.ensures.value ∙ c.in_ok-parts.ensures) c.in-Ok.ensures.ok)
-    c.in-Some.field-0 c.in-Some.ensures.some
+    c.in-Some.field-0 (rw c.in-Some.is at c.in_ok-bits.ensures.some)
 
 pub returns-clause-err : goal.returns-clause-err
 returns-clause-err c =
@@ -58,4 +59,4 @@ returns-clause-err c =
     missized s a v c.requires.rest ns c.requires.signals (map part_meant c.deref-3.result.now) (ap (map part_meant) c.deref-3.ensures.value ∙ c.in_ok-parts.ensures)
     (named_parts s a v c.requires.rest ns c.requires.signals qs (ap (map part_meant) c.deref-2.ensures.value ∙ c.in_ok-parts.ensures) (decided_true (AreOf ns qs) c.are_of.result c.are_of.ensures c.if-not-are_of.false))
     (output_numbers s a v c.requires.rest ns c.requires.signals (map part_meant c.deref.result.now) (ap (map part_meant) c.deref.ensures.value ∙ c.in_ok-parts.ensures) c.in-Ok.ensures.ok)
-    c.in-None.ensures.none
+    (rw c.in-None.is at c.in_ok-bits.ensures.none)

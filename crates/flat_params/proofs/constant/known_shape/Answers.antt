@@ -9,7 +9,7 @@ returns-then-is_some-clause-err c = λ n. strange c.args.params.now c.args.expr.
 
 pub returns-in-Some-clause-ok : goal.returns-in-Some-clause-ok
 returns-in-Some-clause-ok c =
-    let shape = c.in-Some.ensures.some in
+    let shape = rw c.in-Some.is at c.in_ok-shape.ensures.some in
     record {
       names = familiar c.args.params.now c.args.expr.now c.stranger_in.result c.stranger_in.ensures (sym c.is_some.ensures ∙ c.if-is_some.false);
       formed = shape.formed;
@@ -18,15 +18,15 @@ returns-in-Some-clause-ok c =
       length = shape.length;
     }
 
-pub returns-then-bounds_defined-clause-err : goal.returns-then-bounds_defined-clause-err
-returns-then-bounds_defined-clause-err c = λ n. (
+pub returns-then-defined-clause-err : goal.returns-then-defined-clause-err
+returns-then-defined-clause-err c = λ n. (
   familiar c.args.params.now c.args.expr.now c.stranger_in.result c.stranger_in.ensures (sym c.is_some.ensures ∙ c.if-is_some.false),
-  decided_true (BoundsDefined c.args.params.now c.args.expr.now) c.bounds_defined.result c.bounds_defined.ensures c.if-bounds_defined.true,
-  c.in-None.ensures.none,
+  decided_true (BoundsDefined c.args.params.now c.args.expr.now) c.in_ok-defined-in-None.defined c.in_ok-defined-in-None.ensures c.if-defined.true,
+  rw c.in-None.is at c.in_ok-shape.ensures.none,
 )
 
-pub returns-else-bounds_defined-clause-err : goal.returns-else-bounds_defined-clause-err
-returns-else-bounds_defined-clause-err c = λ n. (
+pub returns-else-defined-clause-err : goal.returns-else-defined-clause-err
+returns-else-defined-clause-err c = λ n. (
   familiar c.args.params.now c.args.expr.now c.stranger_in.result c.stranger_in.ensures (sym c.is_some.ensures ∙ c.if-is_some.false),
-  λ h. decided_false (BoundsDefined c.args.params.now c.args.expr.now) c.bounds_defined.result c.bounds_defined.ensures c.if-bounds_defined.false h.0,
+  λ h. decided_false (BoundsDefined c.args.params.now c.args.expr.now) c.in_ok-defined-in-None.defined c.in_ok-defined-in-None.ensures c.if-defined.false h.0,
 )

@@ -18,7 +18,7 @@ returns-in-Err-clause-err c =
     let p = param_meant v in
     let given : option_copied c.override_of-expr.result ≡ override_of (is_open m p) (given_at ds p.name) = c.override_of-expr.ensures ∙ ap (override_of (is_open m p)) c.given_at.ensures in
     bad_here m views ds outer done (params_of m ds outer) c.loop-param.param-index v c.loop-param-test.true c.param-item.is (ap (map param_meant) c.deref-param-items.ensures.value ∙ c.in_ok-params.ensures)
-    c.loop-param.invariant.rest c.loop-param.at c.in-Err.cause c.loop-param.invariant.long c.loop-param.invariant.place (subst (λ o. IsBad p o outer done c.in-Err.cause) given c.in-Err.ensures.err)
+    c.loop-param.invariant.rest c.loop-param.at c.in-Err.cause c.loop-param.invariant.long c.loop-param.invariant.place (subst (λ o. IsBad p o outer done c.in-Err.cause) given (rw c.in-Err.is at c.in_ok-value.ensures.err))
 
 pub loop-param-preserved : goal.loop-param-preserved
 loop-param-preserved c =
@@ -39,8 +39,8 @@ loop-param-preserved c =
     let all = ap (map param_meant) c.deref-param-items.ensures.value ∙ c.in_ok-params.ensures in
     let rest = c.loop-param.invariant.rest in
     let given : option_copied c.override_of-expr.result ≡ override_of (is_open m p) (given_at ds p.name) = c.override_of-expr.ensures ∙ ap (override_of (is_open m p)) c.given_at.ensures in
-    let stands = subst (λ o. StandsFor (entry_with p o outer done) k) given c.in-Ok.ensures.ok in
-    let sound = subst (λ o. IsSound p o outer done) given c.in-Ok.ensures.sound in
+    let stands = subst (λ o. StandsFor (entry_with p o outer done) k) given (rw c.in-Ok.is at c.in_ok-value.ensures.ok) in
+    let sound = subst (λ o. IsSound p o outer done) given (rw c.in-Ok.is at c.in_ok-value.ensures.sound) in
     let is = added m views ds outer done whole i v lt at all rest e k new c.in_ok-entry_of.ensures stands c.in_ok-push.ensures.ok in
     record {
       rest = next_rest m views ds outer done whole i v lt at all rest new is;

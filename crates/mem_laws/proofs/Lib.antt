@@ -1,0 +1,15 @@
+pub mod Constants
+pub mod Reading
+pub mod Writing
+pub mod Sides
+pub mod Parts
+pub mod Statements
+pub mod Finding
+pub mod Names
+pub mod Lefts
+pub mod Driving
+pub mod Assigning
+pub mod Asking
+pub mod Module
+pub mod Keeps
+pub mod Forming

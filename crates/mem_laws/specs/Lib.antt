@@ -1,0 +1,4 @@
+pub mod Uses
+pub mod Spread
+pub mod Stands
+pub mod Laws

@@ -1,0 +1,263 @@
+// The script of runs over objects in memory.
+use crate::aides::aide_of;
+use crate::damage::{Change, changed, given, place_of, proof_at, put_all_first, put_at, wrong};
+use crate::each::{
+    Damage, each_byte, each_call, each_cut, each_line, each_port, each_put, each_served,
+};
+use crate::memory::{Given, Key, keeper, keys_of, run};
+use crate::obligations::put_obligations;
+use crate::shown::put_run;
+use outside::{Keeper, MemKeeper, Text};
+use proof_store::migrate;
+use std::alloc::Global;
+use std::thread::Threads;
+use std::{fs, io};
+
+/// What a script has made so far: the keeper, what the next run is given, and the lines of the last one.
+#[derive(Drop)]
+pub struct World {
+    pub keeper: MemKeeper,
+    pub given: Given,
+    pub keys: Vec<Key>,
+}
+
+/// What the first word of a line asks for.
+#[derive(Clone, Copy)]
+enum Verb {
+    New,
+    Keeper,
+    Shelf,
+    Put,
+    Port,
+    Helper,
+    Peer,
+    Run,
+    Turn,
+    First,
+    Move,
+    Missing,
+    Obligations,
+    Each(Each),
+}
+
+/// Runs that are repeated with one thing changed.
+#[derive(Clone, Copy)]
+enum Each {
+    Put,
+    Keeper,
+    Served,
+    Port,
+    Cut,
+    Byte,
+    Emptied,
+    Halved,
+    Neighbour,
+}
+
+const VERBS: &[(&str, Verb)] = &[
+    ("new", Verb::New),
+    ("keeper", Verb::Keeper),
+    ("shelf", Verb::Shelf),
+    ("put", Verb::Put),
+    ("port", Verb::Port),
+    ("helper", Verb::Helper),
+    ("peer", Verb::Peer),
+    (">", Verb::Run),
+    ("turn", Verb::Turn),
+    ("first", Verb::First),
+    ("move", Verb::Move),
+    ("missing", Verb::Missing),
+    ("obligations", Verb::Obligations),
+    ("each-put", Verb::Each(Each::Put)),
+    ("each-keeper", Verb::Each(Each::Keeper)),
+    ("each-served", Verb::Each(Each::Served)),
+    ("each-port", Verb::Each(Each::Port)),
+    ("each-cut", Verb::Each(Each::Cut)),
+    ("each-byte", Verb::Each(Each::Byte)),
+    ("each-emptied", Verb::Each(Each::Emptied)),
+    ("each-halved", Verb::Each(Each::Halved)),
+    ("each-neighbour", Verb::Each(Each::Neighbour)),
+];
+
+fn verb_of(word: &str) -> io::Result<Verb> {
+    match VERBS.iter().find(|pair| pair.0 == word) {
+        Some(pair) => Ok(pair.1),
+        None => Err(wrong()),
+    }
+}
+
+/// A number.
+pub fn number(text: &str) -> io::Result<usize> {
+    text.parse::<usize>().map_err(|_| wrong())
+}
+
+/// The numbers of a line.
+fn numbers(alloc: Global, line: &str) -> io::Result<Vec<u64>> {
+    let mut all = Vec::new(alloc);
+    for part in line.split_whitespace() {
+        all.push(number(part)? as u64)?;
+    }
+    Ok(all)
+}
+
+/// The bytes of a request: its first line up to the version, and the text of a file as its body, of which some last bytes may be kept back.
+pub fn request(rt: &HostRuntime, line: &str) -> io::Result<Text> {
+    let alloc = rt.alloc();
+    let (first, rest) = line.split_once(" | ").unwrap_or((line, ""));
+    let (file, back) = rest.split_once(" | ").unwrap_or((rest, "0"));
+    let back = number(back)?;
+    let body = if file.is_empty() {
+        String::new(alloc)
+    } else {
+        fs::read_to_string(rt, file)?
+    };
+    let length = body.len();
+    let head = format!(in alloc; "{first} HTTP/1.1\r\nContent-Length: {length}\r\n\r\n")?;
+    let mut bytes = head.as_bytes().to_vec(alloc)?;
+    let (sent, _) = body.as_bytes().split_at(length.saturating_sub(back));
+    bytes.extend_from_slice(sent)?;
+    Ok(Text::new(bytes))
+}
+
+/// Changes what the next run is given, or what the keeper has. False: the line asks for something else.
+fn set(rt: &HostRuntime, world: &mut World, verb: Verb, rest: &str) -> io::Result<bool> {
+    let alloc = rt.alloc();
+    match verb {
+        Verb::New => world.keeper = keeper(alloc, Vec::new(alloc)),
+        Verb::Keeper => world.keeper.set_fails(numbers(alloc, rest)?),
+        Verb::Shelf => world.given.shelf = numbers(alloc, rest)?,
+        Verb::Put => world.given.sink = numbers(alloc, rest)?,
+        Verb::Port => world.given.port = numbers(alloc, rest)?,
+        Verb::Helper => world.given.aides.push(aide_of(rest)?)?,
+        Verb::Peer => world.given.peers.push(request(rt, rest)?)?,
+        Verb::First => put_all_first(alloc, &mut world.keeper, &world.keys)?,
+        Verb::Turn => turn(alloc, world, rest)?,
+        _ => return Ok(false),
+    }
+    Ok(true)
+}
+
+/// Turns the lowest bit of the first byte that is kept for a line.
+fn turn(alloc: Global, world: &mut World, name: &str) -> io::Result<()> {
+    let at = place_of(&world.keys, name)?;
+    let bytes = proof_at(alloc, &mut world.keeper, &world.keys, at)?;
+    let bytes = changed(alloc, &bytes, Change::Turned(0))?;
+    put_at(alloc, &mut world.keeper, &world.keys, at, &bytes)
+}
+
+/// Takes what the next run is given, so that the one after it is given nothing.
+fn take_given(alloc: Global, world: &mut World) -> Given {
+    std::mem::replace(&mut world.given, Given::nothing(alloc))
+}
+
+/// Runs a command line, prints what it came to, and remembers its lines, where it has some.
+fn run_shown<R: Threads + Sync>(
+    threads: &R,
+    rt: &HostRuntime,
+    world: &mut World,
+    line: &str,
+) -> io::Result<()> {
+    let given = take_given(rt.alloc(), world);
+    let peers = given.peers.len();
+    let ran = run(threads, rt, line, &mut world.keeper, given)?;
+    put_run(rt, line, &ran, peers)?;
+    if !ran.book.lines.is_empty() {
+        world.keys = keys_of(rt.alloc(), &ran.book)?;
+    }
+    Ok(())
+}
+
+/// Prints the lines of a run over a new keeper that have no proof at the keeper.
+fn put_missing<R: Threads + Sync>(
+    threads: &R,
+    rt: &HostRuntime,
+    world: &mut World,
+    line: &str,
+) -> io::Result<()> {
+    let alloc = rt.alloc();
+    let mut other = keeper(alloc, Vec::new(alloc));
+    let ran = run(threads, rt, line, &mut other, Given::nothing(alloc))?;
+    for key in &keys_of(alloc, &ran.book)? {
+        if given(world.keeper.proof(alloc, &key.key))?.is_none() {
+            put_missing_line(rt, key)?;
+        }
+    }
+    Ok(())
+}
+
+fn put_missing_line(rt: &HostRuntime, key: &Key) -> io::Result<()> {
+    let name = str::from_utf8(key.name.bytes()).unwrap_or("");
+    println!(rt; "missing {name}")
+}
+
+/// Moves so many rows at most, and prints what it came to.
+fn put_moved(rt: &HostRuntime, world: &mut World, most: usize) -> io::Result<()> {
+    match migrate(rt.alloc(), &mut world.keeper, (most as u64).max(1)) {
+        Ok(now) => {
+            let (moved, left, more) = (now.moved, now.left, now.more);
+            println!(rt; "moved {moved}, left {left}, more {more}")
+        }
+        Err(_) => Err(wrong()),
+    }
+}
+
+/// Repeats runs with one thing changed.
+fn repeat<R: Threads + Sync>(
+    threads: &R,
+    rt: &HostRuntime,
+    world: &mut World,
+    each: Each,
+    rest: &str,
+) -> io::Result<()> {
+    match each {
+        Each::Put => each_put(threads, rt, rest),
+        Each::Keeper => each_call(threads, rt, rest),
+        Each::Served => each_served(threads, rt, &world.given.peers, rest),
+        Each::Port => each_port(threads, rt, &world.given.peers, rest),
+        Each::Cut => each_cut(threads, rt, rest),
+        Each::Byte => each_byte(threads, rt, world, rest),
+        Each::Emptied => each_line(threads, rt, world, Damage::Emptied, rest),
+        Each::Halved => each_line(threads, rt, world, Damage::Halved, rest),
+        Each::Neighbour => each_line(threads, rt, world, Damage::Neighbour, rest),
+    }
+}
+
+/// Does what a line asks for.
+fn step<R: Threads + Sync>(
+    threads: &R,
+    rt: &HostRuntime,
+    world: &mut World,
+    line: &str,
+) -> io::Result<()> {
+    let (word, rest) = line.split_once(' ').unwrap_or((line, ""));
+    let verb = verb_of(word)?;
+    if set(rt, world, verb, rest)? {
+        return Ok(());
+    }
+    match verb {
+        Verb::Missing => put_missing(threads, rt, world, rest),
+        Verb::Move => put_moved(rt, world, number(rest)?),
+        Verb::Obligations => put_obligations(rt, &world.keys, rest),
+        Verb::Each(each) => {
+            println!(rt; "{line}")?;
+            repeat(threads, rt, world, each, rest)
+        }
+        _ => run_shown(threads, rt, world, rest),
+    }
+}
+
+/// Does what each line of a script says. Those that begin with # say nothing.
+pub fn play<R: Threads + Sync>(threads: &R, rt: &HostRuntime, script: &str) -> io::Result<()> {
+    let alloc = rt.alloc();
+    let mut world = World {
+        keeper: keeper(alloc, Vec::new(alloc)),
+        given: Given::nothing(alloc),
+        keys: Vec::new(alloc),
+    };
+    for line in script.lines() {
+        if !line.is_empty() && !line.starts_with('#') {
+            step(threads, rt, &mut world, line)?;
+        }
+    }
+    Ok(())
+}

@@ -1,0 +1,42 @@
+// What is printed of runs over objects in memory.
+use crate::memory::Ran;
+use std::io;
+use std::io::Write;
+
+/// Prints bytes as they are.
+pub fn put(rt: &HostRuntime, bytes: &[u8]) -> io::Result<()> {
+    io::writer(rt).write_all(bytes)
+}
+
+/// The status and the body of a reply. None: it has no head.
+pub fn parts(reply: &[u8]) -> Option<(&str, &str)> {
+    let text = str::from_utf8(reply).ok()?;
+    let (head, body) = text.split_once("\r\n\r\n")?;
+    let (_, rest) = head.split_once(' ')?;
+    let (status, _) = rest.split_once(' ')?;
+    Some((status, body))
+}
+
+/// Prints a reply: its status and its body.
+fn put_reply(rt: &HostRuntime, reply: &[u8]) -> io::Result<()> {
+    match parts(reply) {
+        Some((status, body)) => println!(rt; "{status} {body}"),
+        None => {
+            let count = reply.len();
+            println!(rt; "no head, {count} bytes")
+        }
+    }
+}
+
+/// Prints what a run put, its replies, its status, and where its lines were decided.
+pub fn put_run(rt: &HostRuntime, line: &str, ran: &Ran, peers: usize) -> io::Result<()> {
+    println!(rt; "> {line}")?;
+    for at in 0..peers {
+        put_reply(rt, ran.port.reply(at))?;
+    }
+    put(rt, ran.out.bytes())?;
+    let status = ran.status;
+    let (kept, helped, solved) = (ran.book.kept, ran.book.helped, ran.book.solved);
+    let draws = ran.book.draws.len();
+    println!(rt; "status {status}, kept {kept}, helped {helped}, solved {solved}, draws {draws}")
+}
