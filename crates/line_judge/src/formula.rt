@@ -3,6 +3,7 @@
 ghost use Rattle.std.specs.Prelude.{◌≡◌, ◌++◌, ◌≤◌, drop, length, IfOk, OnOk};
 ghost use Rattle.std.specs.List.{All};
 ghost use Rattle.vlog_tree.specs.Valuation.{IsLength, EntryFits};
+ghost use Rattle.vlog_tree.specs.Value.{IsFormed, IsDefined, width_of, sign_of, own_value};
 ghost use Rattle.set_tree.specs.Formulas.{entry_of, row_entries, entries_from, meaning_of};
 ghost use Rattle.set_tree.specs.Meaning.{holds, all_hold};
 ghost use Rattle.set_tree.specs.Traces.{IsRow, IsTrace};
@@ -13,7 +14,7 @@ use set_sound::{Sound, largest};
 use set_tree::{Name, Rows};
 use std::alloc::{AllocError, Global};
 use vlog_tree::{Entry, Expr, Valuation};
-use vlog_value::own_value;
+use vlog_value::evaluated;
 
 // What a name stands for in a row.
 fn entry(alloc: Global, name: &Name, offset: u32, value: u64) -> Result<Entry, AllocError>
@@ -71,6 +72,18 @@ pub fn rows_from(rows: &[Rows<u64>], at: usize) -> &[Rows<u64>]
     &rows[at..]
 }
 
+// The value of an expression by itself, each count in it being taken once.
+fn own_number(alloc: Global, expr: &Expr, entries: &Valuation) -> Result<u64, AllocError>
+    requires formed { IsFormed entries.now expr.now }
+    requires defined { IsDefined entries.now expr.now (width_of entries.now expr.now) (sign_of entries.now expr.now) }
+    ensures { IfOk result (λ v. v ≡ own_value entries.now expr.now) }
+{
+    match evaluated(alloc, expr, entries)? {
+        Some((word, _)) => Ok(word.value()),
+        None => unreachable!(),
+    }
+}
+
 /// The value of a formula of a set in the first of some rows, the names being read in the rows of their offsets. Refused for want of
 /// memory alone.
 pub fn formula_value(
@@ -85,7 +98,8 @@ pub fn formula_value(
 {
     let last = largest(formula) as usize;
     let entries = entries_of(alloc, set.set().names.as_slice(), &rows[..last + 1])?;
-    Ok(own_value(formula, &entries).value())
+    let value = own_number(alloc, formula, &entries)?;
+    Ok(value)
 }
 
 /// Whether a formula of a set holds in the first of some rows, which reach its largest offset. Refused for want of memory alone.

@@ -29,26 +29,18 @@ use Rattle.segment_laws.proofs.Holding.{register_source}
 use Rattle.segment_laws.proofs.Running.{all_hold, levels_of, map_agree, rows_hold}
 use Rattle.unroll.proofs.Leaving.{among_at, source_wide}
 use Rattle.replay.specs.declared.shown.Shown.{Shown}
-use Rattle.replay.specs.Segments.{AreViolatingCycles, ShowsSegment, first_values, last_cycle, named_start, resets_of, started}
+use Rattle.replay.specs.Segments.{AreViolatingCycles, ShowsNamed, ShowsSegment, first_values, last_cycle, named_start, resets_of, started}
 use Rattle.replay.specs.Windows.{declared_names}
-
--- what is shown of the cycles that are named: so many reset cycles, and those from cycle 0 on up to this one
-pub record ShowsNamed (d : Parts) (set : Set) (e : Naming) (k end : ℕ) (shown : Shown) : Type 0 where
-  pub start : shown.start ≡ map (named_start e k) d.registers
-  pub before : shown.before ≡ k
-  pub names : shown.first.names ≡ declared_names set
-  pub rows : shown.first.rows ≡ rows_from d set k e 0 (k + end + 1)
-  pub second : shown.second ≡ None
 
 module _ (d : Parts) (h : IsDesign d) (set : Set) (fits : Fits d set) (e : Naming) where
   abbrev Segment : Type 0
   Segment = List (DesignCycle d)
 
-  starts_named : (k : ℕ) (cycles : Segment) → IsNamedBy d set k e cycles → 0 < length cycles → first_values d cycles ≡ map (named_start e k) d.registers
+  pub starts_named : (k : ℕ) (cycles : Segment) → IsNamedBy d set k e cycles → 0 < length cycles → first_values d cycles ≡ map (named_start e k) d.registers
   starts_named k [] named some = absurd (omega (arith, some))
   starts_named k (c ∷ cycles) named some = map_agree (λ (r : Register). started r.name (c.0 r.name)) (named_start e k) d.registers (λ r m. ap (started r.name) (named.registers r m))
 
-  rows_named : (k end : ℕ) (resets cycles : Segment) → IsNamedRun d set k e resets cycles → length cycles ≡ end + 1 → trace_of (word_design d set) (resets ++ cycles) ≡ rows_from d set k e 0 (k + end + 1)
+  pub rows_named : (k end : ℕ) (resets cycles : Segment) → IsNamedRun d set k e resets cycles → length cycles ≡ end + 1 → trace_of (word_design d set) (resets ++ cycles) ≡ rows_from d set k e 0 (k + end + 1)
   rows_named k end resets cycles run size =
       let count = run.count in
       let levels = levels_of d h set fits k e 0 resets cycles (omega (arith, count)) run.active run.inactive in
@@ -71,7 +63,7 @@ module _ (d : Parts) (h : IsDesign d) (set : Set) (fits : Fits d set) (e : Namin
           second = told.second;
         }
 
-    cycles_count : (end : ℕ) (cycles : Segment) → IsWindow m set end (trace_of (word_design d set) cycles) → length cycles ≡ end + 1
+    pub cycles_count : (end : ℕ) (cycles : Segment) → IsWindow m set end (trace_of (word_design d set) cycles) → length cycles ≡ end + 1
     cycles_count end cycles window = sym (length-map cycles (word_design d set).row) ∙ window.size
 
     after_reset : (line : Line) (end : ℕ) (resets cycles : Segment) → AreViolatingCycles (word_design d set) m set line resets cycles → IsNamedBy d set set.cycles e (resets ++ cycles) → IsResetSegment (word_design d set) m set end resets cycles → ShowsNamed d set e set.cycles end shown → ShowsSegment d m set line e shown

@@ -1,5 +1,5 @@
 -- The segment that is shown of a refuted line on a design.
-use Rattle.std.specs.Prelude.{◌≡◌, ℕ, zero, suc, ◌%◌, ◌^◌, ◌++◌, List, [], ◌∷◌, None, Some, length, map, slice_get}
+use Rattle.std.specs.Prelude.{◌≡◌, ℕ, zero, suc, ◌+◌, ◌%◌, ◌^◌, ◌++◌, List, [], ◌∷◌, None, Some, length, map, slice_get}
 use Rattle.set_tree.specs.declared.line.Line.{Line}
 use Rattle.set_tree.specs.declared.line.Line.TheVariants.{Base, Step, Reset, Operation, End, Split, SameEnd, Choose, Hand, Determine}
 use Rattle.set_tree.specs.declared.set.Rule.{Rule}
@@ -14,7 +14,7 @@ use Rattle.word_design.specs.declared.design.Register.{Register}
 use Rattle.word_design.specs.Designs.{Parts, naming_of}
 use Rattle.word_design.specs.Laws.{DesignCycle, word_design}
 use Rattle.segment_laws.specs.Segments.{IsNamedBy, cycle_number}
-use Rattle.segment_laws.specs.Tests.{held}
+use Rattle.segment_laws.specs.Tests.{held, rows_from}
 use Rattle.replay.specs.declared.shown.Shown.{Shown}
 use Rattle.replay.specs.declared.shown.Start.{Start}
 use Rattle.replay.specs.declared.values.Values.{Values}
@@ -92,6 +92,14 @@ register_next r = r.next
 -- the first value that is named of a register, where k cycles stand before cycle 0
 abbrev pub named_start : Naming → ℕ → Register → Start
 named_start e k r = started r.name (e r.name 0 (cycle_number k 0) % 2 ^ r.width)
+
+-- what is shown of the segment that values name: so many reset cycles, and those from cycle 0 on up to this one
+pub record ShowsNamed (d : Parts) (set : Set) (e : Naming) (k end : ℕ) (shown : Shown) : Type 0 where
+  pub start : shown.start ≡ map (named_start e k) d.registers
+  pub before : shown.before ≡ k
+  pub names : shown.first.names ≡ declared_names set
+  pub rows : shown.first.rows ≡ rows_from d set k e 0 (k + end + 1)
+  pub second : shown.second ≡ None
 
 -- the words of all nodes at a position of the segment that the values name
 pub record AreWordsAt (d : Parts) (set : Set) (k i : ℕ) (values : Values) (words : List Bits) : Type 0 where

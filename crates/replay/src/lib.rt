@@ -11,6 +11,6 @@ mod values;
 mod window;
 
 pub use printing::{print_trace, trace_text};
-pub use segment::replay;
+pub use segment::{Reach, replay, shown_segment};
 pub use shown::{Shown, Start, Trace};
 pub use twin::twin_trace;

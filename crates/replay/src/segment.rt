@@ -13,7 +13,7 @@ ghost use Rattle.segment_laws.specs.Lines.{IsOf};
 ghost use Rattle.segment_laws.specs.Tests.{rows_from};
 ghost use Rattle.twin_tests.specs.Framing.{SpeaksOf};
 ghost use Rattle.unroll.specs.Copies.{IsPlaceOf};
-ghost use Rattle.replay.specs.Segments.{ShowsSegment, last_cycle, named_start, register_name, resets_of};
+ghost use Rattle.replay.specs.Segments.{ShowsNamed, ShowsSegment, last_cycle, named_start, register_name, resets_of};
 ghost use Rattle.replay.specs.Values.{AreOf};
 
 use crate::cycle::{register_names, value_in, words_at};
@@ -146,6 +146,43 @@ fn starts_of(
     Ok(starts)
 }
 
+/// How far a segment reaches: its reset cycles, and the number of its last cycle, cycle 0 being the first without reset.
+#[derive(Clone, Copy)]
+pub struct Reach {
+    pub resets: u8,
+    pub last: u8,
+}
+
+/// The segment that values of an obligation's free nodes name, one each in number order, every word that the obligation doesn't have being 0. Its
+/// reset cycles stand first. It is refused for want of memory alone.
+pub fn shown_segment(
+    alloc: Global,
+    bound: &Bound,
+    reach: Reach,
+    ob: &Ob,
+    values: &[u64],
+) -> Result<Shown, AllocError>
+    requires resets { reach.resets ≤ 64 }
+    requires last { reach.last ≤ 64 }
+    ensures { IfOk result (ShowsNamed bound.now.design bound.now.set (naming_from ob.now.nodes values.now) reach.resets reach.last) }
+{
+    let design = bound.design();
+    // the nodes of a design fit
+    let _fit = design.dag();
+    let values = values_of(alloc, ob.nodes(), values)?;
+    let registers = register_names(alloc, design)?;
+    let set = bound.set();
+    let before = reach.resets;
+    let count = before + reach.last + 1;
+    let rows = segment_rows(alloc, bound, &values, &registers, before, count)?;
+    Ok(Shown {
+        start: starts_of(alloc, design.registers(), &values, before)?,
+        before: u32::from(before),
+        first: trace_of(alloc, set.set(), rows)?,
+        second: None,
+    })
+}
+
 /// What is shown of a line of a design that is refuted by values of its obligation's free nodes, one each in number order: the segment that they
 /// name, every word that the obligation doesn't have being 0. It violates the line. Its reset cycles, where the line has them, stand first. It is
 /// refused for want of memory alone.
@@ -165,16 +202,9 @@ pub fn replay(
     let design = bound.design();
     // the nodes of a design fit
     let _fit = design.dag();
-    let values = values_of(alloc, ob.nodes(), values)?;
-    let registers = register_names(alloc, design)?;
     let set = bound.set();
-    let before = resets_of(set, line);
-    let count = before + last_cycle(set, line) + 1;
-    let rows = segment_rows(alloc, bound, &values, &registers, before, count)?;
-    Ok(Shown {
-        start: starts_of(alloc, design.registers(), &values, before)?,
-        before: u32::from(before),
-        first: trace_of(alloc, set.set(), rows)?,
-        second: None,
-    })
+    let resets = resets_of(set, line);
+    let last = last_cycle(set, line);
+    let shown = shown_segment(alloc, bound, Reach { resets, last }, ob, values)?;
+    Ok(shown)
 }

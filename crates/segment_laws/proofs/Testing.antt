@@ -31,7 +31,7 @@ fails_in m (Some rule) rows h = (rule, refl, turned (holds m rule.formula rows) 
 fails_made : (m : Meaning) (o : Option Rule) (rows : List Row) (rule : Rule) → o ≡ Some rule → holds m rule.formula rows ≡ false → fails m o rows ≡ true
 fails_made m o rows rule is h = rw is (of_turned (holds m rule.formula rows) h)
 
-length-rows : (d : Parts) (set : Set) (k : ℕ) (e : Naming) (i n : ℕ) → length (rows_from d set k e i n) ≡ n
+pub length-rows : (d : Parts) (set : Set) (k : ℕ) (e : Naming) (i n : ℕ) → length (rows_from d set k e i n) ≡ n
 length-rows d set k e i zero = refl
 length-rows d set k e i (suc n) = ap suc (length-rows d set k e (suc i) n)
 
@@ -42,32 +42,32 @@ module _ (d : Parts) (m : Meaning) (set : Set) (h : IsDesign d) (fits : Fits d s
   abbrev trace : Segment → List Row
   trace cycles = trace_of (word_design d set) cycles
 
-  invariants_in : (rows : List Row) → meets_invariants m set rows ≡ true → MeetsInvariants m set rows
+  pub invariants_in : (rows : List Row) → meets_invariants m set rows ≡ true → MeetsInvariants m set rows
   invariants_in rows met rule member = all_in (λ (rule : Rule). holds m rule.formula rows) set.invariants rule met member
 
-  invariants_made : (rows : List Row) → MeetsInvariants m set rows → meets_invariants m set rows ≡ true
+  pub invariants_made : (rows : List Row) → MeetsInvariants m set rows → meets_invariants m set rows ≡ true
   invariants_made rows met = all_made (λ (rule : Rule). holds m rule.formula rows) set.invariants met
 
-  window_in : (k end : ℕ) → meets_constraints m set (segment_rows d set k e end) ≡ true → IsWindow m set end (segment_rows d set k e end)
+  pub window_in : (k end : ℕ) → meets_constraints m set (segment_rows d set k e end) ≡ true → IsWindow m set end (segment_rows d set k e end)
   window_in k end met = record {
     size = length-rows d set k e k (end + 1);
     constrained = record { trace = (rows_are_of_runs d set h fits).trace k e end; met = met_in m set (segment_rows d set k e end) met };
   }
 
   -- a run that the values name, with the rows of a window, is a segment
-  is_segment : (end : ℕ) (resets cycles : Segment) → IsNamedRun d set 0 e resets cycles → IsWindow m set end (trace cycles) → MeetsInvariants m set (trace cycles) → IsSegment (word_design d set) m set end cycles × IsNamedBy d set 0 e cycles
+  pub is_segment : (end : ℕ) (resets cycles : Segment) → IsNamedRun d set 0 e resets cycles → IsWindow m set end (trace cycles) → MeetsInvariants m set (trace cycles) → IsSegment (word_design d set) m set end cycles × IsNamedBy d set 0 e cycles
   is_segment end [] cycles run window invariants = (record { run = run.run; inactive = run.inactive; window = window; invariants = invariants }, run.named)
   is_segment end (c ∷ resets) cycles run window invariants = absurd (let count = run.count in omega (arith, count))
 
-  is_reset_segment : (end : ℕ) (resets cycles : Segment) → IsNamedRun d set set.cycles e resets cycles → IsWindow m set end (trace cycles) → IsResetSegment (word_design d set) m set end resets cycles
+  pub is_reset_segment : (end : ℕ) (resets cycles : Segment) → IsNamedRun d set set.cycles e resets cycles → IsWindow m set end (trace cycles) → IsResetSegment (word_design d set) m set end resets cycles
   is_reset_segment end resets cycles run window =
       record { from_reset = record { run = run.run; count = run.count; active = run.active; inactive = run.inactive }; window = window }
 
-  named_segment : (end : ℕ) (cycles : Segment) → IsNamedBy d set 0 e cycles → IsSegment (word_design d set) m set end cycles → trace cycles ≡ segment_rows d set 0 e end
+  pub named_segment : (end : ℕ) (cycles : Segment) → IsNamedBy d set 0 e cycles → IsSegment (word_design d set) m set end cycles → trace cycles ≡ segment_rows d set 0 e end
   named_segment end cycles named segment =
       (rows_are_of_runs d set h fits).only 0 e end [] cycles (record { run = segment.run; count = refl; active = λ i c lt. absurd (omega (arith, lt)); inactive = segment.inactive; named = named }) (sym (length-map cycles (word_design d set).row) ∙ segment.window.size)
 
-  named_reset_segment : (end : ℕ) (resets cycles : Segment) → IsNamedBy d set set.cycles e (resets ++ cycles) → IsResetSegment (word_design d set) m set end resets cycles → trace cycles ≡ segment_rows d set set.cycles e end
+  pub named_reset_segment : (end : ℕ) (resets cycles : Segment) → IsNamedBy d set set.cycles e (resets ++ cycles) → IsResetSegment (word_design d set) m set end resets cycles → trace cycles ≡ segment_rows d set set.cycles e end
   named_reset_segment end resets cycles named segment =
       let run = segment.from_reset in
       (rows_are_of_runs d set h fits).only set.cycles e end resets cycles (record { run = run.run; count = run.count; active = run.active; inactive = run.inactive; named = named }) (sym (length-map cycles (word_design d set).row) ∙ segment.window.size)

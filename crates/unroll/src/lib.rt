@@ -11,6 +11,8 @@ mod rows;
 mod segment;
 
 pub use leaves::{Moment, cycle_of, level};
+pub use line::begins_node;
 pub use lines::lines_of;
 pub use obs::design_obs;
+pub use rows::segment_nodes;
 pub use segment::places_of;

@@ -37,9 +37,14 @@ pub fn base_node(
     Ok(node)
 }
 
-// The constraints that fit hold, and the invariants in the first row.
+/// Whether the constraints that fit hold, and the invariants in the first row. It is refused for want of memory alone.
 #[tactic(auto, using(crate::proofs::Joining::joins))]
-fn begins_node(alloc: Global, dag: &mut Dag, set: &Set, rows: &[NodeRow]) -> Result<u64, AllocError>
+pub fn begins_node(
+    alloc: Global,
+    dag: &mut Dag,
+    set: &Set,
+    rows: &[NodeRow],
+) -> Result<u64, AllocError>
     requires structure { HasStructure set.now }
     requires some { 0 < length rows.now }
     requires leaves { AreLeaves set.now.names dag.old rows.now }

@@ -84,7 +84,8 @@ fn row_of(alloc: Global, copies: &[u64], places: &[u64]) -> Result<NodeRow, Allo
     Ok(NodeRow::new(nodes))
 }
 
-/// The rows of a segment, so many of them from cycle 0 on, behind so many reset cycles.
+/// The rows of a segment, so many of them from cycle 0 on, behind so many reset cycles. The places are those of the declared names' signals. It is
+/// refused for want of memory alone.
 pub fn segment_nodes(
     alloc: Global,
     dag: &mut Dag,
