@@ -5,7 +5,7 @@ use Rattle.std.proofs.lemmas.Bool.Decides.{nat_tests}
 use Rattle.std.proofs.lemmas.List.Elements.{All-append, All-push, filter-append}
 use Rattle.std.proofs.lemmas.List.Sums.{sum_by-append, sum_by_push}
 use Rattle.word_dag.specs.Nodes.{Parts}
-use Rattle.job_pool.specs.Evidence.{IsEvidence}
+use Rattle.job_pool.specs.Shown.{IsShown}
 use Rattle.job_pool.specs.Seats.{Counter, Place}
 use Rattle.job_pool.specs.declared.work.Done.{Done}
 use Rattle.job_pool.specs.Jobs.{number_of, AreDone, Adds, IsReady}
@@ -20,7 +20,7 @@ pub record IsWorking (budget : ℕ) (obs : List Parts) (before now : Place) (don
 
 module _ (budget : ℕ) (obs : List Parts) where
   abbrev Fits : Done → Type 0
-  Fits d = IfSome (slice_get obs d.number) (λ ob. IsEvidence budget ob d.end)
+  Fits d = IfSome (slice_get obs d.number) (λ ob. IsShown budget ob d.evidence)
 
   pub nothing_done : AreDone budget obs 0 [] []
   nothing_done = record { jobs = refl; past = refl; evidence = λ k d lt. absurd (omega arith) }
@@ -76,7 +76,7 @@ pub works_on : (budget : ℕ) (obs : List Parts) (before now after : Place) (don
     → n < length obs → Adds budget obs n done more → IsWorking budget obs before after more
 works_on budget obs before now after done more n w is le some_left lt adds =
     let P : Place → Type 0 = λ p. IsWorking budget obs before p more in
-    let fits : Fits budget obs adds.done = subst (λ (k : ℕ). IfSome (slice_get obs k) (λ ob. IsEvidence budget ob adds.done.end)) (sym adds.its) adds.evidence in
+    let fits : Fits budget obs adds.done = subst (λ (k : ℕ). IfSome (slice_get obs k) (λ ob. IsShown budget ob adds.done.evidence)) (sym adds.its) adds.evidence in
     let are : AreDone budget obs 0 (now.numbers ++ adds.done.number ∷ []) (done ++ adds.done ∷ []) = one_done budget obs 0 now.numbers done adds.done w.are (omega (arith, adds.its)) fits in
     subst P (sym is) (record {
       its = w.its;

@@ -1,4 +1,5 @@
 pub mod Evidence
+pub mod Shown
 pub mod Jobs
 pub mod Rule
 pub mod Seats

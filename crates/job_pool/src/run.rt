@@ -2,12 +2,12 @@
 ghost use Rattle.std.specs.Prelude.{◌≡◌, ℕ, ◌+◌, ◌^◌, ◌<◌, ◌≤◌, length, IfOk};
 ghost use Rattle.std.specs.List.{AllZip, range_with_len};
 ghost use Rattle.job_pool.specs.Ample.{DecidesIfAmple};
-ghost use Rattle.job_pool.specs.Evidence.{IsEvidence};
+ghost use Rattle.job_pool.specs.Shown.{IsShown};
 
+use crate::evidence::Evidence;
 use crate::order::{below, ordered};
 use crate::tickets::Tickets;
 use crate::work::work_all;
-use cdcl::End;
 use outside::Gate;
 use std::alloc::{AllocError, Global};
 use std::thread::Threads;
@@ -16,8 +16,8 @@ use word_dag::Ob;
 /// What a run of jobs gave.
 #[derive(Drop)]
 pub struct Ran {
-    /// How each job ended, in the order of the jobs.
-    pub ends: Vec<End>,
+    /// What shows how each job ended, in the order of the jobs.
+    pub ends: Vec<Evidence>,
     /// The numbers that the workers drew, in ascending order. Each worker draws one past the last job.
     pub draws: Vec<u64>,
 }
@@ -37,7 +37,7 @@ pub fn run_jobs<R: Threads + Sync, G: Gate + Sync>(
     requires budget { 0 < budget }
     requires workers { (0 < workers) × (workers ≤ 64) }
     requires jobs { (0 < length obs.now) × (length obs.now < 2 ^ 32) }
-    ensures ends { IfOk result (λ ran. AllZip (IsEvidence budget) obs.now ran.ends.items) }
+    ensures ends { IfOk result (λ ran. AllZip (IsShown budget) obs.now ran.ends.items) }
     ensures ample { IfOk result (λ ran. AllZip (DecidesIfAmple budget) obs.now ran.ends.items) }
     ensures draws { IfOk result (λ ran. ran.draws.items ≡ range_with_len 0 (length obs.now + workers)) }
 {

@@ -1,31 +1,20 @@
 // What one worker does, and workers in threads of their own.
 ghost use Rattle.std.specs.Prelude.{◌≡◌, ℕ, ◌+◌, ◌*◌, ◌^◌, ◌<◌, ◌≤◌, [], length, IfOk, IsOkAnd, OnOk, ◌++◌};
 ghost use Rattle.std.specs.Thread.{IsSync};
-ghost use Rattle.job_pool.specs.Evidence.{IsEvidence};
 ghost use Rattle.job_pool.specs.Jobs.{Adds, AreDone, IsReady};
 
+use crate::evidence::{Evidence, decide};
 use crate::tickets::{Seat, Tickets};
-use cdcl::{End, solve};
-use cnf_build::build;
 use outside::Gate;
 use std::alloc::{AllocError, Global};
 use std::thread::{Threads, join};
 use word_dag::Ob;
 
-/// The number of a job, and how it ended.
+/// The number of a job, and what shows how it ended.
 #[derive(Drop)]
 pub struct Done {
     pub number: u64,
-    pub end: End,
-}
-
-// Decides an obligation over its clauses.
-fn decide(alloc: Global, ob: &Ob, budget: u64) -> Result<End, AllocError>
-    requires { 0 < budget }
-    ensures { IfOk result (IsEvidence budget ob.now) }
-{
-    let built = build(alloc, ob)?;
-    solve(alloc, &built.cnf, budget)
+    pub evidence: Evidence,
 }
 
 // Does the job of this number.
@@ -42,8 +31,8 @@ fn add_job<G: Gate>(
     ensures { OnOk result (Adds budget obs.now number done.old.items done.new.items) }
 {
     gate.enter(number);
-    let end = decide(alloc, &obs[number as usize], budget)?;
-    done.push(Done { number, end })?;
+    let evidence = decide(alloc, &obs[number as usize], budget)?;
+    done.push(Done { number, evidence })?;
     Ok(())
 }
 

@@ -7,7 +7,6 @@ use Rattle.std.specs.FinMap.{get}
 use Rattle.std.proofs.lemmas.Option.{same_Some}
 use Rattle.outside.specs.Tables.{Tables}
 use Rattle.word_dag.specs.Nodes.{Parts}
-use Rattle.word_dag.specs.declared.ob.Named.{Named}
 use Rattle.clause_check.specs.declared.literal.Lit.{Lit}
 use Rattle.clause_check.specs.declared.formula.Cnf.{Cnf}
 use Rattle.clause_check.specs.declared.formula.Step.{Step}
@@ -18,15 +17,20 @@ use Rattle.helper_box.specs.Asked.{Passes}
 use Rattle.helper_box.specs.declared.claim.Claim.{Claim}
 use Rattle.helper_box.specs.declared.claim.Claim.TheVariants.{Nothing, Unsat, Values}
 use Rattle.step_records.specs.Records.{IsRecord, content, contents}
-use Rattle.verdicts.specs.declared.decide.Decided.{Decided}
-use Rattle.verdicts.specs.declared.decide.Evidence.{Evidence}
-use Rattle.verdicts.specs.declared.decide.Evidence.TheVariants as e
-use Rattle.verdicts.specs.Shown.{IsDecided, IsShown}
+use Rattle.job_pool.specs.declared.evidence.Evidence.{Evidence}
+use Rattle.job_pool.specs.declared.evidence.Evidence.TheVariants as e
+use Rattle.job_pool.specs.Shown.{IsShown}
+use Rattle.set_tree.specs.declared.line.Line.{Line}
+use Rattle.proof_store.specs.Goals.{IsDecided, from_keeper}
 use Rattle.proof_store.specs.Kept.{IsBuilt, IsKept, IsProof, key_of}
-use Rattle.proof_store.specs.Places.{IsPlaced, Shows, Tells, is_kept}
+use Rattle.proof_store.specs.Places.{Finds, IsPlaced, Tells}
 use Rattle.proof_store.specs.Rows.{FindsIn}
-use Rattle.proof_store.specs.declared.placing.Place.{Place}
-use Rattle.proof_store.specs.declared.placing.Place.TheVariants.{Kept}
+use Rattle.proof_store.specs.declared.goal.Decided.{Decided}
+use Rattle.proof_store.specs.declared.goal.Goal.{Goal}
+use Rattle.proof_store.specs.declared.goal.Source.{Source}
+use Rattle.proof_store.specs.declared.goal.Source.TheVariants.{Kept, Helped, Solved}
+use Rattle.proof_store.specs.declared.placing.Found.{Found}
+use Rattle.proof_store.specs.declared.placing.Place.TheVariants.{Done, Open}
 
 -- what refutes a formula refutes each one with the same variables and clauses
 same_refutes : (f g : Cnf) (steps : List Step) → f.vars ≡ g.vars → f.clauses.items ≡ g.clauses.items → IsRefutation f steps → IsRefutation g steps
@@ -145,47 +149,70 @@ derivation_shown budget ob cnf bits steps built refutes = record {
   decides = λ values one. let there = built.carries.from_values values one in refuted cnf steps.items refutes there.0 there.1.holds;
 }
 
-pub claim_shown : (budget : ℕ) (ob : Parts) (cnf : Cnf) (bits : List (List ℕ)) (claim : Claim) (found : Option Evidence) → IsBuilt ob cnf bits → Passes ob cnf claim → Tells claim found → IfSome found (IsShown budget ob)
+claim_shown : (budget : ℕ) (ob : Parts) (cnf : Cnf) (bits : List (List ℕ)) (claim : Claim) (found : Option Evidence) → IsBuilt ob cnf bits → Passes ob cnf claim → Tells claim found → IfSome found (IsShown budget ob)
 claim_shown budget ob cnf bits Nothing found built passes tells = subst (λ (f : Option Evidence). IfSome f (IsShown budget ob)) (sym tells) tt
 claim_shown budget ob cnf bits (Unsat steps) found built passes tells =
     subst (λ (f : Option Evidence). IfSome f (IsShown budget ob)) (sym tells) (derivation_shown budget ob cnf bits steps built passes)
 claim_shown budget ob cnf bits (Values values) found built passes tells =
     subst (λ (f : Option Evidence). IfSome f (IsShown budget ob)) (sym tells) (record { fit = passes.fit; root = passes.root })
 
--- an obligation under its name with evidence is decided
-pub with_shown : (budget : ℕ) (named : Named) (d : Decided) (evidence : Evidence) → IsShown budget named.ob evidence → d.name ≡ named.name → d.ob ≡ named.ob → d.evidence ≡ evidence → IsDecided budget named d
-with_shown budget named d evidence shown name ob is = record { name = name; ob = ob; shown = subst (IsShown budget named.ob) (sym is) shown }
+-- so whatever the budget
+pub claim_shown_ever : (ob : Parts) (cnf : Cnf) (bits : List (List ℕ)) (claim : Claim) (found : Option Evidence) → IsBuilt ob cnf bits → Passes ob cnf claim → Tells claim found → IfSome found (λ evidence. (budget : ℕ) → IsShown budget ob evidence)
+claim_shown_ever ob cnf bits claim None built passes tells = tt
+claim_shown_ever ob cnf bits claim (Some evidence) built passes tells = λ budget. claim_shown budget ob cnf bits claim (Some evidence) built passes tells
 
--- a derivation of a decided obligation is a proof of it
-pub decided_proof : (budget : ℕ) (named : Named) (d : Decided) → IsDecided budget named d → (steps : Vec Step Global) → d.evidence ≡ e.Derivation steps → IsProof d.ob steps.items
-decided_proof budget named d decided steps is =
-    let shown : IsShown budget named.ob (e.Derivation steps) = subst (IsShown budget named.ob) is decided.shown in
-    subst (λ (ob : Parts). IsProof ob steps.items) (sym decided.ob)
+-- a derivation of a decided goal is a proof of its obligation
+pub decided_proof : (budget : ℕ) (goal : Goal) (d : Decided) → IsDecided budget goal d → (steps : Vec Step Global) → d.evidence ≡ e.Derivation steps → IsProof d.goal.ob steps.items
+decided_proof budget goal d decided steps is =
+    let shown : IsShown budget goal.ob (e.Derivation steps) = subst (IsShown budget goal.ob) is decided.shown in
+    subst (λ (g : Goal). IsProof g.ob steps.items) (sym decided.goal_is)
     (record { formula = shown.formula; vars = shown.vars; clauses = shown.clauses; refutes = shown.shown })
 
--- the place of an obligation with a proof that is kept
-pub kept_placed : (tables : Option Tables) (named : Named) (cnf : Cnf) (bits : List (List ℕ)) (found : Option (Vec Step Global)) (steps : Vec Step Global) (d : Decided) → IsBuilt named.ob cnf bits → found ≡ Some steps
-    → IfSome tables (λ t. FindsIn t (key_of named.ob) cnf found) → IfSome found (λ s. IsRefutation cnf s.items) → d.name ≡ named.name → d.ob ≡ named.ob → d.evidence ≡ e.Derivation steps → IsPlaced tables named (Kept d)
-kept_placed tables named cnf bits found steps d built is finds refutes name ob evidence = record {
-  shows = λ budget. with_shown budget named d (e.Derivation steps)
-      (derivation_shown budget named.ob cnf bits steps built (subst (λ (f : Option (Vec Step Global)). IfSome f (λ s. IsRefutation cnf s.items)) is refutes)) name ob evidence;
-  kept = told_there tables named.ob cnf bits (key_of named.ob) steps built refl (subst (λ (f : Option (Vec Step Global)). IfSome tables (λ t. FindsIn t (key_of named.ob) cnf f)) is finds);
+-- no steps are read where none are
+pub nothing_read : (read : Option (Vec Step Global)) → ((steps : Vec Step Global) → read ≡ Some steps → ⊥) → read ≡ None
+nothing_read None no_steps = refl
+nothing_read (Some steps) no_steps = absurd (no_steps steps refl)
+
+-- a kept proof of an obligation is found
+pub kept_found : (tables : Option Tables) (ob : Parts) (cnf : Cnf) (bits : List (List ℕ)) (read : Option (Vec Step Global)) (steps : Vec Step Global) (found : Found) → IsBuilt ob cnf bits → read ≡ Some steps
+    → IfSome tables (λ t. FindsIn t (key_of ob) cnf read) → IfSome read (λ s. IsRefutation cnf s.items) → found.evidence ≡ e.Derivation steps → found.source ≡ Kept → Finds tables ob (Some found)
+kept_found tables ob cnf bits read steps found built is finds refutes evidence source = record {
+  shown = λ budget. subst (IsShown budget ob) (sym evidence) (derivation_shown budget ob cnf bits steps built (subst (λ (f : Option (Vec Step Global)). IfSome f (λ s. IsRefutation cnf s.items)) is refutes));
+  kept = subst (λ (s : Source). IfSome tables (λ t. IsTrue (from_keeper s) ↔ IsKept t ob)) (sym source)
+      (told_there tables ob cnf bits (key_of ob) steps built refl (subst (λ (f : Option (Vec Step Global)). IfSome tables (λ t. FindsIn t (key_of ob) cnf f)) is finds));
+  unsolved = λ same. let clash : Kept ≡ Solved = sym source ∙ same in absurd (cc);
 }
 
--- a claim that passes shows the obligation
-pub claim_shows : (named : Named) (cnf : Cnf) (bits : List (List ℕ)) (claim : Claim) (found : Option Evidence) (evidence : Evidence) (d : Decided) → IsBuilt named.ob cnf bits → Passes named.ob cnf claim → Tells claim found → found ≡ Some evidence
-    → d.name ≡ named.name → d.ob ≡ named.ob → d.evidence ≡ evidence → (budget : ℕ) → IsDecided budget named d
-claim_shows named cnf bits claim found evidence d built passes tells is name ob has =
-    λ budget. with_shown budget named d evidence (subst (λ (f : Option Evidence). IfSome f (IsShown budget named.ob)) is (claim_shown budget named.ob cnf bits claim found built passes tells)) name ob has
-
--- the place of one that isn't kept
-pub other_placed : (tables : Option Tables) (named : Named) (cnf : Cnf) (bits : List (List ℕ)) (found : Option (Vec Step Global)) (place : Place) → IsBuilt named.ob cnf bits → found ≡ None → IfSome tables (λ t. FindsIn t (key_of named.ob) cnf found)
-    → Shows named place → is_kept place ≡ false → IsPlaced tables named place
-other_placed tables named cnf bits found place built is finds shows refused = record {
-  shows = shows;
-  kept = subst (λ (b : Bool). IfSome tables (λ t. IsTrue b ↔ IsKept t named.ob)) (sym refused)
-      (told_not_there tables named.ob cnf bits (key_of named.ob) built refl (subst (λ (f : Option (Vec Step Global)). IfSome tables (λ t. FindsIn t (key_of named.ob) cnf f)) is finds));
+-- where none is kept, what helpers claim is found, or nothing
+pub helped_found : (tables : Option Tables) (ob : Parts) (cnf : Cnf) (bits : List (List ℕ)) (read : Option (Vec Step Global)) (found : Found) → IsBuilt ob cnf bits → read ≡ None
+    → IfSome tables (λ t. FindsIn t (key_of ob) cnf read) → ((budget : ℕ) → IsShown budget ob found.evidence) → found.source ≡ Helped → Finds tables ob (Some found)
+helped_found tables ob cnf bits read found built is finds shown source = record {
+  shown = shown;
+  kept = subst (λ (s : Source). IfSome tables (λ t. IsTrue (from_keeper s) ↔ IsKept t ob)) (sym source)
+      (told_not_there tables ob cnf bits (key_of ob) built refl (subst (λ (f : Option (Vec Step Global)). IfSome tables (λ t. FindsIn t (key_of ob) cnf f)) is finds));
+  unsolved = λ same. let clash : Helped ≡ Solved = sym source ∙ same in absurd (cc);
 }
+
+pub none_found : (tables : Option Tables) (ob : Parts) (cnf : Cnf) (bits : List (List ℕ)) (read : Option (Vec Step Global)) → IsBuilt ob cnf bits → read ≡ None
+    → IfSome tables (λ t. FindsIn t (key_of ob) cnf read) → Finds tables ob None
+none_found tables ob cnf bits read built is finds = record {
+  shown = tt;
+  kept = told_not_there tables ob cnf bits (key_of ob) built refl (subst (λ (f : Option (Vec Step Global)). IfSome tables (λ t. FindsIn t (key_of ob) cnf f)) is finds);
+  unsolved = tt;
+}
+
+-- the place of a goal of which something is found, and of one of which nothing is
+pub found_placed : (tables : Option Tables) (goal : Goal) (found : Option Found) (f : Found) (d : Decided) → Finds tables goal.ob found → found ≡ Some f → d ≡ record { goal = goal; evidence = f.evidence; source = f.source } → IsPlaced tables goal (Done d)
+found_placed tables goal found f d finds is same =
+    let here : Finds tables goal.ob (Some f) = subst (Finds tables goal.ob) is finds in
+    subst (λ (x : Decided). IsPlaced tables goal (Done x)) (sym same) (record {
+      shows = (λ budget. record { goal_is = refl; shown = here.shown budget }, here.unsolved);
+      kept = here.kept;
+    })
+
+pub none_placed : (tables : Option Tables) (goal : Goal) (found : Option Found) (line : Line) → Finds tables goal.ob found → found ≡ None → line ≡ goal.line → IsPlaced tables goal (Open line)
+none_placed tables goal found line finds is same =
+    let here : Finds tables goal.ob None = subst (Finds tables goal.ob) is finds in record { shows = same; kept = here.kept }
 
 -- where nothing is read, the bytes are a record of no steps
 pub none_read : (bytes : List ℕ) (read : Option (Vec Step Global)) → ((steps : List Step) → IsRecord bytes steps → option_map (λ s. contents s.items) read ≡ Some (contents steps)) → read ≡ None

@@ -1,8 +1,7 @@
 -- What a keeper holds while new proofs are put.
 use Rattle.std.proofs.Common.{◌≡◌, ℕ, zero, suc, ◌+◌, ◌<◌, ◌≤◌, ◌⊎◌, inl, inr, ⊎_elim, List, [], ◌∷◌, ◌++◌, Bool, true, false, cond, Option, Some, None, length, map, take, drop, get_or, refl, sym, ap, ap₂, ◌∙◌, subst, arith}
-use Rattle.std.proofs.lemmas.List.{take_more}
-use Rattle.std.specs.List.{AllZip}
-use Rattle.std.specs.Prelude.{Any, Contains, IfSome, IsTrue, ◌↔◌, Vec, option_map}
+use Rattle.std.proofs.lemmas.List.{get_or-map, length-map, take_more}
+use Rattle.std.specs.Prelude.{All, Any, Contains, IfSome, IsTrue, ◌↔◌, Vec, option_map}
 use Rattle.std.specs.declared.alloc.Global.{Global}
 use Rattle.std.specs.declared.cmp.Ordering.{Ordering}
 use Rattle.std.specs.declared.cmp.Ordering.TheVariants.{Less, Equal, Greater}
@@ -15,12 +14,13 @@ use Rattle.outside.specs.Tables.{ByBytes, Tables, with_proof}
 use Rattle.word_dag.specs.Nodes.{Parts}
 use Rattle.clause_check.specs.declared.formula.Step.{Step}
 use Rattle.step_records.specs.Records.{IsRecord, version_2}
-use Rattle.verdicts.specs.declared.decide.Decided.{Decided}
-use Rattle.verdicts.specs.declared.decide.Evidence.TheVariants.{Derivation}
+use Rattle.job_pool.specs.declared.evidence.Evidence.TheVariants.{Derivation}
+use Rattle.proof_store.specs.Goals.{Ended, ended, is_kept}
+use Rattle.proof_store.specs.declared.goal.Decided.{Decided}
 use Rattle.proof_store.specs.Kept.{IsKept, IsProof, key_of}
 use Rattle.proof_store.specs.Rows.{HasProofs, IsRowOf}
 use Rattle.proof_store.specs.declared.keeping.Row.{Row}
-use Rattle.proof_store.specs.Stored.{AddsProofs, IsNew, IsProved, MayBeKept, Puts, StoresNew, Told, decided_ob}
+use Rattle.proof_store.specs.Stored.{AddsProofs, IsNew, IsProved, MayBeKept, Puts, StoresNew, Told, ended_ob}
 
 -- ---- a row that is put
 equal_from_tie : (o : Ordering) → is_eq o ≡ true → o ≡ Equal
@@ -98,30 +98,30 @@ stores_none t = record {
 }
 
 -- one more, for which nothing is put
-stores_past : (done : List Decided) (d : Decided) (before now : Tables) → StoresNew done before now → ((key : List ℕ) → IsNew before key d → ⊥) → StoresNew (done ++ d ∷ []) before now
+stores_past : (done : List Ended) (d : Ended) (before now : Tables) → StoresNew done before now → ((key : List ℕ) → IsNew before key d → ⊥) → StoresNew (done ++ d ∷ []) before now
 stores_past done d before now s not_new = record {
-  adds = subst (λ (obs : List Parts). AddsProofs obs before now) (sym (map_append decided_ob done (d ∷ []))) (more_added (map decided_ob done) (d.ob ∷ []) before now s.adds);
-  new = λ key a. subst (λ (obs : List Parts). IsProved obs now key) (sym (map_append decided_ob done (d ∷ [])))
-      (more_proved (map decided_ob done) (d.ob ∷ []) now key
+  adds = subst (λ (obs : List Parts). AddsProofs obs before now) (sym (map_append ended_ob done (d ∷ []))) (more_added (map ended_ob done) (d.ob ∷ []) before now s.adds);
+  new = λ key a. subst (λ (obs : List Parts). IsProved obs now key) (sym (map_append ended_ob done (d ∷ [])))
+      (more_proved (map ended_ob done) (d.ob ∷ []) now key
       (⊎_elim (λ earlier. s.new key earlier) (λ it. absurd (not_new key it)) (any_cases (IsNew before key) done d a)));
   others = λ key nowhere. s.others key (λ a. nowhere (any_before (IsNew before key) done d a));
 }
 
 -- one more, whose proof is put
-module _ (done : List Decided) (d : Decided) (before now : Tables) (steps : Vec Step Global) (s : StoresNew done before now) (fresh : IsKept before d.ob → ⊥) (may : MayBeKept d steps) (reads : IsRecord (version_2 steps.items) steps.items) (proof : IsProof d.ob steps.items) where
+module _ (done : List Ended) (d : Ended) (before now : Tables) (steps : Vec Step Global) (s : StoresNew done before now) (fresh : IsKept before d.ob → ⊥) (may : MayBeKept d steps) (reads : IsRecord (version_2 steps.items) steps.items) (proof : IsProof d.ob steps.items) where
   abbrev after : Tables
   after = with_proof (key_of d.ob) (version_2 steps.items) now
 
   abbrev obs : List Parts
-  obs = map decided_ob (done ++ d ∷ [])
+  obs = map ended_ob (done ++ d ∷ [])
 
-  abbrev obs_are : obs ≡ map decided_ob done ++ d.ob ∷ []
-  obs_are = map_append decided_ob done (d ∷ [])
+  abbrev obs_are : obs ≡ map ended_ob done ++ d.ob ∷ []
+  obs_are = map_append ended_ob done (d ∷ [])
 
   its_proof : (key : List ℕ) → key ≡ key_of d.ob → IsProved obs after key
   its_proof key same = record {
     ob = d.ob;
-    among = subst (λ (os : List Parts). Contains os d.ob) (sym obs_are) (Contains-push (map decided_ob done) d.ob);
+    among = subst (λ (os : List Parts). Contains os d.ob) (sym obs_are) (Contains-push (map ended_ob done) d.ob);
     text = sym same;
     kept = record {
       bytes = version_2 steps.items;
@@ -132,10 +132,10 @@ module _ (done : List Decided) (d : Decided) (before now : Tables) (steps : Vec 
     };
   }
 
-  still_proof : (key : List ℕ) → (key ≡ key_of d.ob → ⊥) → IsProved (map decided_ob done) now key → IsProved obs after key
+  still_proof : (key : List ℕ) → (key ≡ key_of d.ob → ⊥) → IsProved (map ended_ob done) now key → IsProved obs after key
   still_proof key differ p =
       subst (λ (os : List Parts). IsProved os after key) (sym obs_are)
-      (more_proved (map decided_ob done) (d.ob ∷ []) after key (record {
+      (more_proved (map ended_ob done) (d.ob ∷ []) after key (record {
         ob = p.ob;
         among = p.among;
         text = p.text;
@@ -166,7 +166,7 @@ module _ (done : List Decided) (d : Decided) (before now : Tables) (steps : Vec 
         (key_cases key (key_of d.ob));
   }
 
-stores_one : (done : List Decided) (d : Decided) (before now after : Tables) → StoresNew done before now → (IsKept before d.ob → ⊥) → ((steps : Vec Step Global) → d.evidence ≡ Derivation steps → IsProof d.ob steps.items)
+stores_one : (done : List Ended) (d : Ended) (before now after : Tables) → StoresNew done before now → (IsKept before d.ob → ⊥) → ((steps : Vec Step Global) → d.evidence ≡ Derivation steps → IsProof d.ob steps.items)
     → Puts d now after → StoresNew (done ++ d ∷ []) before after
 stores_one done d before now after s fresh proof puts =
     ⊎_elim
@@ -179,7 +179,7 @@ pub told_none : (o : Option Tables) → Told (StoresNew []) o o
 told_none None = tt
 told_none (Some t) = stores_none t
 
-pub told_put : (done : List Decided) (d : Decided) (before now after : Option Tables) → Told (StoresNew done) before now → IfSome before (λ t. IsKept t d.ob → ⊥)
+pub told_put : (done : List Ended) (d : Ended) (before now after : Option Tables) → Told (StoresNew done) before now → IfSome before (λ t. IsKept t d.ob → ⊥)
     → ((steps : Vec Step Global) → d.evidence ≡ Derivation steps → IsProof d.ob steps.items) → Told (Puts d) now after → Told (StoresNew (done ++ d ∷ [])) before after
 told_put done d None None None s fresh proof puts = tt
 told_put done d None None (Some u) s fresh proof puts = absurd puts
@@ -188,17 +188,17 @@ told_put done d (Some b) None after s fresh proof puts = absurd s
 told_put done d (Some b) (Some t) None s fresh proof puts = absurd puts
 told_put done d (Some b) (Some t) (Some u) s fresh proof puts = stores_one done d b t u s fresh proof puts
 
-pub told_past : (done : List Decided) (d : Decided) (before now : Option Tables) → Told (StoresNew done) before now → IfSome before (λ t. IsKept t d.ob) → Told (StoresNew (done ++ d ∷ [])) before now
+pub told_past : (done : List Ended) (d : Ended) (before now : Option Tables) → Told (StoresNew done) before now → IfSome before (λ t. IsKept t d.ob) → Told (StoresNew (done ++ d ∷ [])) before now
 told_past done d None None s kept = tt
 told_past done d None (Some t) s kept = absurd s
 told_past done d (Some b) None s kept = absurd s
 told_past done d (Some b) (Some t) s kept = stores_past done d b t s (λ key it. it.fresh kept)
 
-pub told_left : (done rest : List Decided) (before now : Option Tables) → Told (StoresNew done) before now → Told (AddsProofs (map decided_ob (done ++ rest))) before now
+pub told_left : (done rest : List Ended) (before now : Option Tables) → Told (StoresNew done) before now → Told (AddsProofs (map ended_ob (done ++ rest))) before now
 told_left done rest None None s = tt
 told_left done rest None (Some t) s = absurd s
 told_left done rest (Some b) None s = absurd s
-told_left done rest (Some b) (Some t) s = subst (λ (obs : List Parts). AddsProofs obs b t) (sym (map_append decided_ob done rest)) (more_added (map decided_ob done) (map decided_ob rest) b t s.adds)
+told_left done rest (Some b) (Some t) s = subst (λ (obs : List Parts). AddsProofs obs b t) (sym (map_append ended_ob done rest)) (more_added (map ended_ob done) (map ended_ob rest) b t s.adds)
 
 pub nothing_added : (obs : List Parts) (o : Option Tables) → Told (AddsProofs obs) o o
 nothing_added obs None = tt
@@ -216,76 +216,55 @@ whole zero (x ∷ xs) long = absurd (omega arith)
 whole (suc i) [] long = refl
 whole (suc i) (x ∷ xs) long = ap (λ (ys : List _). x ∷ ys) (whole i xs (omega arith))
 
-pub left_of : (decided : List Decided) (i : ℕ) (before now after : Option Tables) → Told (StoresNew (take i decided)) before now → after ≡ now → Told (AddsProofs (map decided_ob decided)) before after
+-- the goals up to this place, as they ended
+abbrev pub first_ended : ℕ → List Decided → List Ended
+first_ended i decided = map ended (take i decided)
+
+more_ended : (decided : List Decided) (i : ℕ) (d : Decided) → i < length decided → d ≡ get_or decided i d → first_ended i decided ++ ended d ∷ [] ≡ first_ended (i + 1) decided
+more_ended decided i d there one =
+    sym (map_append ended (take i decided) (d ∷ [])) ∙ ap (map ended) (ap (λ (x : Decided). take i decided ++ x ∷ []) one ∙ sym (take_more decided i d there))
+
+pub left_of : (decided : List Decided) (i : ℕ) (before now after : Option Tables) → Told (StoresNew (first_ended i decided)) before now → after ≡ now → Told (AddsProofs (map ended_ob (map ended decided))) before after
 left_of decided i before now after s same =
-    subst (λ (ds : List Decided). Told (AddsProofs (map decided_ob ds)) before after) (front_and_rest i decided)
-    (subst (λ (o : Option Tables). Told (AddsProofs (map decided_ob (take i decided ++ drop i decided))) before o) (sym same) (told_left (take i decided) (drop i decided) before now s))
+    subst (λ (es : List Ended). Told (AddsProofs (map ended_ob es)) before after) (sym (map_append ended (take i decided) (drop i decided)) ∙ ap (map ended) (front_and_rest i decided))
+    (subst (λ (o : Option Tables). Told (AddsProofs (map ended_ob (first_ended i decided ++ map ended (drop i decided)))) before o) (sym same) (told_left (first_ended i decided) (map ended (drop i decided)) before now s))
 
-pub all_stored : (decided : List Decided) (i : ℕ) (before now : Option Tables) → length decided ≤ i → Told (StoresNew (take i decided)) before now → Told (StoresNew decided) before now
-all_stored decided i before now long s = subst (λ (ds : List Decided). Told (StoresNew ds) before now) (whole i decided long) s
+abbrev FlagsTell : List Decided → Tables → Type 0
+FlagsTell decided t = All (λ (d : Decided). IsTrue (is_kept d) ↔ IsKept t d.goal.ob) decided
 
-zip_at : {A B : Type 0} (R : A → B → Type 0) (xs : List A) (ys : List B) (i : ℕ) (x : A) (y e : B) → AllZip R xs ys → i < length xs → x ≡ get_or xs i x → y ≡ get_or ys i e → R x y
-zip_at R [] ys i x y e z lt at_x at_y = absurd (omega arith)
-zip_at R (w ∷ xs) [] i x y e z lt at_x at_y = absurd z
-zip_at R (w ∷ xs) (v ∷ ys) zero x y e z lt at_x at_y = subst (λ a. R a y) (sym at_x) (subst (λ b. R w b) (sym at_y) z.0)
-zip_at R (w ∷ xs) (v ∷ ys) (suc i) x y e z lt at_x at_y = zip_at R xs ys i x y e z.1 (omega arith) at_x at_y
+not_kept : (decided : List Decided) (i : ℕ) (d : Decided) (before : Option Tables) → i < length decided → d ≡ get_or decided i d → IfSome before (FlagsTell decided) → is_kept d ≡ false → IfSome before (λ t. IsKept t d.goal.ob → ⊥)
+not_kept decided i d None there one tell nowhere = tt
+not_kept decided i d (Some t) there one tell nowhere =
+    λ kept. let flag : IsTrue (is_kept d) ↔ IsKept t d.goal.ob = subst (λ (x : Decided). IsTrue (is_kept x) ↔ IsKept t x.goal.ob) (sym one) (tell i d there) in
+    let on : is_kept d ≡ true = flag.1 kept in absurd (cc)
 
-abbrev FlagsTell : List Decided → List Bool → Tables → Type 0
-FlagsTell decided flags t = AllZip (λ (d : Decided) flag. IsTrue flag ↔ IsKept t d.ob) decided flags
-
--- the one at this place, and its flag
-pub record Turn (decided : List Decided) (flags : List Bool) (i : ℕ) (d : Decided) (flag : Bool) : Type 0 where
-  pub there : i < length decided
-  pub one : d ≡ get_or decided i d
-  pub its : flag ≡ get_or flags i false
-
-not_kept : (decided : List Decided) (flags : List Bool) (i : ℕ) (d : Decided) (flag : Bool) (before : Option Tables) → Turn decided flags i d flag → IfSome before (FlagsTell decided flags) → flag ≡ false → IfSome before (λ t. IsKept t d.ob → ⊥)
-not_kept decided flags i d flag None turn tell nowhere = tt
-not_kept decided flags i d flag (Some t) turn tell nowhere =
-    λ kept. let on : flag ≡ true = (zip_at (λ (x : Decided) b. IsTrue b ↔ IsKept t x.ob) decided flags i d flag false tell turn.there turn.one turn.its).1 kept in absurd (cc)
-
-is_there : (decided : List Decided) (flags : List Bool) (i : ℕ) (d : Decided) (flag : Bool) (before : Option Tables) → Turn decided flags i d flag → IfSome before (FlagsTell decided flags) → flag ≡ true → IfSome before (λ t. IsKept t d.ob)
-is_there decided flags i d flag None turn tell on = tt
-is_there decided flags i d flag (Some t) turn tell on = (zip_at (λ (x : Decided) b. IsTrue b ↔ IsKept t x.ob) decided flags i d flag false tell turn.there turn.one turn.its).0 on
-
-one_longer : (decided : List Decided) (flags : List Bool) (i : ℕ) (d : Decided) (flag : Bool) → Turn decided flags i d flag → take i decided ++ d ∷ [] ≡ take (i + 1) decided
-one_longer decided flags i d flag turn = ap (λ (x : Decided). take i decided ++ x ∷ []) turn.one ∙ sym (take_more decided i d turn.there)
-
-pub put_step : (decided : List Decided) (flags : List Bool) (i : ℕ) (d : Decided) (flag : Bool) (before now after : Option Tables) → Turn decided flags i d flag → IfSome before (FlagsTell decided flags) → HasProofs decided → flag ≡ false
-    → Told (StoresNew (take i decided)) before now → Told (Puts d) now after → Told (StoresNew (take (i + 1) decided)) before after
-put_step decided flags i d flag before now after turn tell proofs nowhere s puts =
-    let proof : (steps : Vec Step Global) → d.evidence ≡ Derivation steps → IsProof d.ob steps.items = subst (λ (x : Decided). (steps : Vec Step Global) → x.evidence ≡ Derivation steps → IsProof x.ob steps.items) (sym turn.one) (proofs i d turn.there) in
-    subst (λ (ds : List Decided). Told (StoresNew ds) before after) (one_longer decided flags i d flag turn)
-    (told_put (take i decided) d before now after s (not_kept decided flags i d flag before turn tell nowhere) proof puts)
-
-pub past_step : (decided : List Decided) (flags : List Bool) (i : ℕ) (d : Decided) (flag : Bool) (before now : Option Tables) → Turn decided flags i d flag → IfSome before (FlagsTell decided flags) → flag ≡ true
-    → Told (StoresNew (take i decided)) before now → Told (StoresNew (take (i + 1) decided)) before now
-past_step decided flags i d flag before now turn tell on s =
-    subst (λ (ds : List Decided). Told (StoresNew ds) before now) (one_longer decided flags i d flag turn)
-    (told_past (take i decided) d before now s (is_there decided flags i d flag before turn tell on))
+is_there : (decided : List Decided) (i : ℕ) (d : Decided) (before : Option Tables) → i < length decided → d ≡ get_or decided i d → IfSome before (FlagsTell decided) → is_kept d ≡ true → IfSome before (λ t. IsKept t d.goal.ob)
+is_there decided i d None there one tell on = tt
+is_there decided i d (Some t) there one tell on =
+    (subst (λ (x : Decided). IsTrue (is_kept x) ↔ IsKept t x.goal.ob) (sym one) (tell i d there)).0 on
 
 -- the next one is put, and what the keeper holds then is `held`
-pub put_next : (decided : List Decided) (flags : List Bool) (i : ℕ) (d : Decided) (before now after held : Option Tables) → i < length decided → d ≡ get_or decided i d → IfSome before (FlagsTell decided flags) → HasProofs decided
-    → get_or flags i false ≡ false → Told (StoresNew (take i decided)) before now → Told (Puts d) now after → held ≡ after → Told (StoresNew (take (i + 1) decided)) before held
-put_next decided flags i d before now after held there one tell proofs nowhere s puts same =
-    subst (λ (o : Option Tables). Told (StoresNew (take (i + 1) decided)) before o) (sym same)
-    (put_step decided flags i d (get_or flags i false) before now after (record { there = there; one = one; its = refl }) tell proofs nowhere s puts)
-
-one_there : (decided : List Decided) (i : ℕ) → i < length decided → (d : Decided) × (d ≡ get_or decided i d)
-one_there [] i there = absurd (omega arith)
-one_there (d ∷ ds) zero there = (d, refl)
-one_there (d ∷ ds) (suc i) there = one_there ds i (omega arith)
+pub put_next : (decided : List Decided) (i : ℕ) (d : Decided) (before now after held : Option Tables) → i < length decided → d ≡ get_or decided i d → IfSome before (FlagsTell decided) → HasProofs (map ended decided)
+    → is_kept d ≡ false → Told (StoresNew (first_ended i decided)) before now → Told (Puts (ended d)) now after → held ≡ after → Told (StoresNew (first_ended (i + 1) decided)) before held
+put_next decided i d before now after held there one tell proofs nowhere s puts same =
+    let long : i < length (map ended decided) = let many = length-map decided ended in omega (arith, there, many) in
+    let at : get_or (map ended decided) i (ended d) ≡ ended d = get_or-map ended decided i d (ended d) there ∙ ap ended (sym one) in
+    let proof : (steps : Vec Step Global) → d.evidence ≡ Derivation steps → IsProof d.goal.ob steps.items =
+    subst (λ (x : Ended). (steps : Vec Step Global) → x.evidence ≡ Derivation steps → IsProof x.ob steps.items) at (proofs i (ended d) long) in
+    subst (λ (o : Option Tables). Told (StoresNew (first_ended (i + 1) decided)) before o) (sym same)
+    (subst (λ (es : List Ended). Told (StoresNew es) before after) (more_ended decided i d there one)
+    (told_put (first_ended i decided) (ended d) before now after s (not_kept decided i d before there one tell nowhere) proof puts))
 
 -- the next one is kept already
-pub past_next : (decided : List Decided) (flags : List Bool) (i : ℕ) (before now held : Option Tables) → i < length decided → IfSome before (FlagsTell decided flags) → get_or flags i false ≡ true
-    → Told (StoresNew (take i decided)) before now → held ≡ now → Told (StoresNew (take (i + 1) decided)) before held
-past_next decided flags i before now held there tell on s same =
-    let one = one_there decided i there in
-    subst (λ (o : Option Tables). Told (StoresNew (take (i + 1) decided)) before o) (sym same)
-    (past_step decided flags i one.0 (get_or flags i false) before now (record { there = there; one = one.1; its = refl }) tell on s)
+pub past_next : (decided : List Decided) (i : ℕ) (d : Decided) (before now held : Option Tables) → i < length decided → d ≡ get_or decided i d → IfSome before (FlagsTell decided) → is_kept d ≡ true
+    → Told (StoresNew (first_ended i decided)) before now → held ≡ now → Told (StoresNew (first_ended (i + 1) decided)) before held
+past_next decided i d before now held there one tell on s same =
+    subst (λ (o : Option Tables). Told (StoresNew (first_ended (i + 1) decided)) before o) (sym same)
+    (subst (λ (es : List Ended). Told (StoresNew es) before now) (more_ended decided i d there one)
+    (told_past (first_ended i decided) (ended d) before now s (is_there decided i d before there one tell on)))
 
 -- the row that was made is put
-pub puts_row : (d : Decided) (found : Option Row) (row : Row) (before after : Option Tables) (key bytes : List ℕ) → IsRowOf d found → found ≡ Some row → key ≡ row.key.items → bytes ≡ row.bytes.items
+pub puts_row : (d : Ended) (found : Option Row) (row : Row) (before after : Option Tables) (key bytes : List ℕ) → IsRowOf d found → found ≡ Some row → key ≡ row.key.items → bytes ≡ row.bytes.items
     → after ≡ option_map (with_proof key bytes) before → Told (Puts d) before after
 puts_row d found row None after key bytes made is key_is bytes_is put = subst (λ (o : Option Tables). Told (Puts d) None o) (sym put) tt
 puts_row d found row (Some t) after key bytes made is key_is bytes_is put =

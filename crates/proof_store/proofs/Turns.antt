@@ -1,47 +1,79 @@
--- Obligations placed one after another.
-use Rattle.std.proofs.Common.{◌≡◌, ℕ, ◌+◌, ◌<◌, List, [], ◌∷◌, ◌++◌, Option, Some, None, length, take, get_or, refl, sym, ap, ◌∙◌, subst}
-use Rattle.std.specs.Prelude.{Vec, sum_by}
+-- Goals placed one after another.
+use Rattle.std.proofs.Common.{◌≡◌, ℕ, ◌+◌, List, [], ◌∷◌, ◌++◌, Option, length, refl, sym, ap, ap₂, ◌∙◌, subst, arith, append_assoc, append-nil}
+use Rattle.std.specs.Prelude.{sum_by}
 use Rattle.std.specs.List.{AllZip}
-use Rattle.std.specs.declared.alloc.Global.{Global}
-use Rattle.std.proofs.lemmas.List.{take_more}
 use Rattle.std.proofs.lemmas.List.Sums.{sum_by_push}
 use Rattle.std.proofs.lemmas.Slice.Zip.{all_zipped_more}
 use Rattle.outside.specs.Tables.{Tables}
-use Rattle.word_dag.specs.declared.ob.Named.{Named}
-use Rattle.clause_check.specs.declared.formula.Step.{Step}
-use Rattle.proof_store.specs.Counts.{FirstRose, NoneFalls}
-use Rattle.proof_store.specs.Places.{IsPlaced, asked_for}
+use Rattle.word_dag.specs.Nodes.{Parts}
+use Rattle.proof_store.specs.Counts.{FirstRose}
+use Rattle.proof_store.specs.Places.{IsPlaced, asked_for, open_of, opened}
+use Rattle.proof_store.specs.Provers.{Counts, Proceeds, Rises}
+use Rattle.proof_store.specs.declared.goal.Goal.{Goal}
 use Rattle.proof_store.specs.declared.placing.Place.{Place}
-use Rattle.proof_store.proofs.Asking.{none_falls_on, rose_none, rose_on}
+use Rattle.proof_store.specs.declared.placing.Place.TheVariants.{Done, Open}
+use Rattle.proof_store.proofs.Asking.{none_falls_on, none_falls_same, rose_none, rose_on}
+use Rattle.proof_store.proofs.Faults.{rises_on}
+use Rattle.proof_store.proofs.Placed.{open_more, same_length}
 
--- no steps are found where none are
-pub none_found : (found : Option (Vec Step Global)) → ((steps : Vec Step Global) → found ≡ Some steps → ⊥) → found ≡ None
-none_found None no_steps = refl
-none_found (Some steps) no_steps = absurd (no_steps steps refl)
+-- the goals before are placed, and these are left
+pub record PlaceLoop (tables : Option Tables) (goals : List Goal) (places : List Place) (rest : List Parts) (left : List Goal) : Type 0 where
+  pub before : List Goal
+  pub split : goals ≡ before ++ left
+  pub placed : AllZip (IsPlaced tables) before places
+  pub rest_is : rest ≡ open_of before places
 
--- no obligation is placed yet
-pub placed_start : (tables : Option Tables) (places : List Place) → places ≡ [] → AllZip (IsPlaced tables) [] places
-placed_start tables places none = subst (λ (ps : List Place). AllZip (IsPlaced tables) [] ps) (sym none) tt
+pub place_start : (tables : Option Tables) (goals left : List Goal) (places : List Place) (rest : List Parts) → left ≡ goals → places ≡ [] → rest ≡ [] → PlaceLoop tables goals places rest left
+place_start tables goals left places rest same none nothing = record {
+  before = [];
+  split = sym same;
+  placed = subst (λ (ps : List Place). AllZip (IsPlaced tables) [] ps) (sym none) tt;
+  rest_is = nothing;
+}
 
--- one more obligation is placed, over the same tables
-pub placed_more : (tables now : Option Tables) (named : List Named) (i : ℕ) (one : Named) (so_far more : List Place) (place : Place) → i < length named → one ≡ get_or named i one
-    → AllZip (IsPlaced tables) (take i named) so_far → now ≡ tables → IsPlaced now one place → more ≡ so_far ++ place ∷ [] → AllZip (IsPlaced tables) (take (i + 1) named) more
-placed_more tables now named i one so_far more place lt is placed same here pushed =
-    let taken : take (i + 1) named ≡ take i named ++ one ∷ [] = take_more named i one lt ∙ ap (λ (x : Named). take i named ++ x ∷ []) (sym is) in
-    subst (λ (ns : List Named). AllZip (IsPlaced tables) ns more) (sym taken)
-    (subst (λ (ps : List Place). AllZip (IsPlaced tables) (take i named ++ one ∷ []) ps) (sym pushed)
-    (all_zipped_more (IsPlaced tables) (take i named) so_far one place placed (subst (λ (t : Option Tables). IsPlaced t one place) same here)))
+one_opened : (goal : Goal) (place : Place) (rest : List Parts) → opened place goal.ob rest ≡ rest ++ open_of (goal ∷ []) (place ∷ [])
+one_opened goal (Done d) rest = sym (append-nil rest)
+one_opened goal (Open line) rest = refl
+
+pub place_more : (tables now : Option Tables) (goals all left : List Goal) (places more : List Place) (rest rest_after : List Parts) (goal : Goal) (place : Place) → PlaceLoop tables goals places rest all → all ≡ goal ∷ left → now ≡ tables
+    → IsPlaced now goal place → rest_after ≡ opened place goal.ob rest → more ≡ places ++ place ∷ [] → PlaceLoop tables goals more rest_after left
+place_more tables now goals all left places more rest rest_after goal place loop is same here rest_is pushed = record {
+  before = loop.before ++ goal ∷ [];
+  split = loop.split ∙ (ap (λ (gs : List Goal). loop.before ++ gs) is ∙ sym (append_assoc loop.before (goal ∷ []) left));
+  placed = subst (λ (ps : List Place). AllZip (IsPlaced tables) (loop.before ++ goal ∷ []) ps) (sym pushed)
+      (all_zipped_more (IsPlaced tables) loop.before places goal place loop.placed (subst (λ (t : Option Tables). IsPlaced t goal place) same here));
+  rest_is = rest_is ∙ (one_opened goal place rest ∙ (ap (λ (os : List Parts). os ++ open_of (goal ∷ []) (place ∷ [])) loop.rest_is
+      ∙ (sym (open_more loop.before places goal place (same_length (IsPlaced tables) loop.before places loop.placed)) ∙ ap (open_of (loop.before ++ goal ∷ [])) (sym pushed))));
+}
+
+-- all are placed
+pub record ArePlaced (tables : Option Tables) (goals : List Goal) (places : List Place) (rest : List Parts) : Type 0 where
+  pub placed : AllZip (IsPlaced tables) goals places
+  pub rest_is : rest ≡ open_of goals places
+
+pub all_placed : (tables : Option Tables) (goals left : List Goal) (places : List Place) (rest : List Parts) → PlaceLoop tables goals places rest left → length left ≡ 0 → ArePlaced tables goals places rest
+all_placed tables goals [] places rest loop none =
+    let whole : loop.before ≡ goals = sym (append-nil loop.before) ∙ sym loop.split in
+    record { placed = subst (λ (gs : List Goal). AllZip (IsPlaced tables) gs places) whole loop.placed; rest_is = loop.rest_is ∙ ap (λ (gs : List Goal). open_of gs places) whole }
+all_placed tables goals (g ∷ gs) places rest loop none = absurd (omega arith)
 
 -- nobody is asked yet
 pub rose_start : (places : List Place) (xs : List ℕ) → places ≡ [] → FirstRose (sum_by asked_for places) xs xs
 rose_start places xs none = subst (λ (ps : List Place). FirstRose (sum_by asked_for ps) xs xs) (sym none) (rose_none xs)
 
--- the helpers are asked about one more obligation
+-- the helpers are asked about one more goal
 pub rose_more : (so_far more : List Place) (place : Place) (xs ys zs : List ℕ) → FirstRose (sum_by asked_for so_far) xs ys → FirstRose (asked_for place) ys zs → more ≡ so_far ++ place ∷ [] → FirstRose (sum_by asked_for more) xs zs
 rose_more so_far more place xs ys zs a b pushed =
     let asked : sum_by asked_for so_far + asked_for place ≡ sum_by asked_for more = sym (ap (sum_by asked_for) pushed ∙ sum_by_push asked_for so_far place) in
     subst (λ (k : ℕ). FirstRose k xs zs) asked (rose_on (sum_by asked_for so_far) (asked_for place) xs ys zs a b)
 
--- none was asked less often, up to a call that gave no place
-pub none_falls_after : (k : ℕ) (xs ys zs : List ℕ) → FirstRose k xs ys → NoneFalls ys zs → NoneFalls xs zs
-none_falls_after k xs ys zs rose more = none_falls_on xs ys zs rose.none_falls more
+-- nothing happened
+pub proceeds_same : (failed : Type 0) (c : Counts) → (failed → ⊥) → Proceeds failed c c
+proceeds_same failed c never = record { keeper = record { later = omega arith; rose = λ f. absurd (never f) }; helpers = none_falls_same c.asked }
+
+-- one after another
+pub proceeds_on : (before failed : Type 0) (a b c : Counts) → Proceeds before a b → Proceeds failed b c → Proceeds failed a c
+proceeds_on before failed a b c first then = record {
+  keeper = rises_on before failed a.faults b.faults c.faults first.keeper then.keeper;
+  helpers = none_falls_on a.asked b.asked c.asked first.helpers then.helpers;
+}

@@ -1,99 +1,79 @@
--- Obligations as a whole: those that are kept, helped and solved.
-use Rattle.std.proofs.Common.{◌≡◌, ℕ, ◌+◌, ◌^◌, ◌<◌, ◌≤◌, List, Bool, Option, length, map, sym, ap, ◌∙◌, subst, arith}
-use Rattle.std.specs.Prelude.{IfSome, IsTrue, ◌↔◌, count_by, filter, sum_by}
+-- Goals as a whole: those that are kept, helped and solved.
+use Rattle.std.proofs.Common.{◌≡◌, ℕ, ◌+◌, ◌^◌, ◌<◌, List, Option, length, map, refl, sym, ap, ◌∙◌, subst, arith}
+use Rattle.std.specs.Prelude.{All, IfSome, IsTrue, ◌↔◌, count_by, filter, sum_by}
 use Rattle.std.specs.List.{AllZip}
-use Rattle.std.proofs.lemmas.List.{length-map}
 use Rattle.outside.specs.Tables.{Tables}
-use Rattle.word_dag.specs.declared.ob.Named.{Named}
 use Rattle.word_dag.specs.Nodes.{Parts}
-use Rattle.verdicts.specs.declared.decide.Decided.{Decided}
-use Rattle.verdicts.specs.Shown.{IsDecided, ob_of}
-use Rattle.proof_store.specs.Counts.{FirstRose}
+use Rattle.job_pool.specs.Shown.{IsShown}
+use Rattle.job_pool.specs.declared.evidence.Evidence.{Evidence}
+use Rattle.proof_store.specs.Counts.{FirstRose, draws_of}
+use Rattle.proof_store.specs.Goals.{IsDecided, IsDecidedIfAmple, ended, is_helped, is_kept, is_solved, ob_of}
 use Rattle.proof_store.specs.Kept.{CountsKept, IsKept}
-use Rattle.proof_store.specs.Places.{IsPlaced, Shows, asked_for, filled, is_kept, is_open, open_of}
+use Rattle.proof_store.specs.Places.{IsPlaced, asked_for, filled, is_open, open_of}
 use Rattle.proof_store.specs.Rows.{HasProofs}
-use Rattle.proof_store.specs.Stored.{AddsProofs, Told, decided_ob}
+use Rattle.proof_store.specs.Stored.{AddsProofs, Told, ended_ob}
+use Rattle.proof_store.specs.declared.goal.Decided.{Decided}
+use Rattle.proof_store.specs.declared.goal.Goal.{Goal}
 use Rattle.proof_store.specs.declared.placing.Place.{Place}
-use Rattle.proof_store.proofs.Placed.{Tally, counts_kept, filled_decided, flags_told, has_proofs, open_length, open_within, same_length, same_obs, tally}
+use Rattle.proof_store.proofs.Placed.{all_ample, all_decided, counts_kept, filled_settled, flags_tell, has_proofs, open_length, open_within, parts, same_length, same_obs, tally}
 
--- ---- what is open is decided
-module _ (named : List Named) (places given : List Place) (shows : AllZip Shows named places) (same : given ≡ places) where
-  pub places_long : length given ≡ length named
-  places_long = ap length same ∙ same_length Shows named places shows
+-- ---- what is open
+module _ (tables : Option Tables) (goals : List Goal) (places : List Place) (rest slice : List Parts) (placed : AllZip (IsPlaced tables) goals places) (rest_is : rest ≡ open_of goals places) (slice_is : slice ≡ rest) where
+  pub rest_long : length rest ≡ length (filter is_open places)
+  rest_long = ap length rest_is ∙ open_length tables goals places placed
 
-  module _ (rest slice : List Named) (rest_is : rest ≡ open_of named given) (slice_is : slice ≡ rest) where
-    slice_open : slice ≡ open_of named places
-    slice_open = slice_is ∙ (rest_is ∙ ap (open_of named) same)
+  pub rest_few : length goals < 2 ^ 32 → length slice < 2 ^ 32
+  rest_few few = let long = ap length (slice_is ∙ rest_is) in let within = open_within goals places in omega (arith, few, long, within)
 
-    -- as many as places are open
-    pub rest_long : length rest ≡ length (filter is_open places)
-    rest_long = ap length (rest_is ∙ ap (open_of named) same) ∙ open_length named places shows
+  module _ (budget : ℕ) (ends : List Evidence) (shown : AllZip (IsShown budget) slice ends) where
+    pub ends_long : length ends ≡ length rest
+    ends_long = same_length (IsShown budget) slice ends shown ∙ ap length slice_is
 
-    pub rest_few : length named < 2 ^ 32 → length slice < 2 ^ 32
-    rest_few few = let long = ap length slice_open in let within = open_within named places in omega (arith, few, long, within)
+    -- ---- all are decided
+    pub record Facts (ds all : List Decided) : Type 0 where
+      pub decided : AllZip (IsDecided budget) goals ds
+      pub ample : AllZip (IsDecidedIfAmple budget) goals ds
+      pub flags : IfSome tables (λ t. All (λ d. IsTrue (is_kept d) ↔ IsKept t d.goal.ob) all)
+      pub proofs : HasProofs (map ended all)
+      pub obs : map ended_ob (map ended all) ≡ map ob_of goals
+      pub kept : IfSome tables (λ t. CountsKept t (map ob_of goals) (count_by is_kept all))
+      pub counts : count_by is_kept all + count_by is_helped all + count_by is_solved all ≡ length goals
+      pub asked : sum_by asked_for places ≡ count_by is_helped all + count_by is_solved all
+      pub worked : count_by is_solved all ≡ length slice
 
-    module _ (budget : ℕ) (ds : List Decided) (decided : AllZip (IsDecided budget) slice ds) where
-      pub enough : length (filter is_open places) ≤ length ds
-      enough =
-          let one_each = same_length (IsDecided budget) slice ds decided in
-          let long = ap length slice_open in
-          let open_ones = open_length named places shows in
-          omega (arith, one_each, long, open_ones)
+    pub facts : (ds all : List Decided) → ds ≡ filled places rest ends → all ≡ ds → Facts ds all
+    facts ds all filled_is all_is =
+        let os = open_of goals places in
+        let made = filled places os ends in
+        let open_shown : AllZip (IsShown budget) os ends = subst (λ (xs : List Parts). AllZip (IsShown budget) xs ends) (slice_is ∙ rest_is) shown in
+        let z = filled_settled tables budget goals places ends placed open_shown in
+        let t = tally tables goals places ends placed (same_length (IsShown budget) os ends open_shown) in
+        let is : made ≡ ds = ap (λ (xs : List Parts). filled places xs ends) (sym rest_is) ∙ sym filled_is in
+        let are : made ≡ all = is ∙ sym all_is in
+        let there : Facts made made = record {
+          decided = all_decided tables budget goals made z;
+          ample = all_ample tables budget goals made z;
+          flags = flags_tell tables budget goals made z;
+          proofs = has_proofs tables budget goals made z;
+          obs = same_obs budget goals made (all_decided tables budget goals made z);
+          kept = counts_kept tables budget goals made (count_by is_kept made) z refl;
+          counts = parts made ∙ same_length (IsDecided budget) goals made (all_decided tables budget goals made z);
+          asked = t.asked;
+          worked = t.worked ∙ ap length (sym (slice_is ∙ rest_is));
+        } in
+        subst (λ (xs : List Decided). Facts ds xs) are (subst (λ (xs : List Decided). Facts xs made) is there)
 
-      pub whole_decided : (all : List Decided) → all ≡ filled places ds → AllZip (IsDecided budget) named all
-      whole_decided all all_is =
-          subst (λ (es : List Decided). AllZip (IsDecided budget) named es) (sym all_is)
-          (filled_decided budget named places ds shows (subst (λ (ns : List Named). AllZip (IsDecided budget) ns ds) slice_open decided))
+-- what was put is a proof of one of these
+pub adds : (tables now after : Option Tables) (goals : List Goal) (all : List Decided) → map ended_ob (map ended all) ≡ map ob_of goals → now ≡ tables → Told (AddsProofs (map ended_ob (map ended all))) now after → Told (AddsProofs (map ob_of goals)) tables after
+adds tables now after goals all obs same added =
+    subst (λ (os : List Parts). Told (AddsProofs os) tables after) obs (subst (λ (o : Option Tables). Told (AddsProofs (map ended_ob (map ended all))) o after) same added)
 
--- ---- all are decided
-module _ (tables : Option Tables) (budget : ℕ) (named : List Named) (places : List Place) (placed : AllZip (IsPlaced tables) named places) where
-  module _ (ds slice : List Decided) (decided : AllZip (IsDecided budget) named ds) (slice_is : slice ≡ ds) where
-    pub proofs_known : HasProofs slice
-    proofs_known = subst HasProofs (sym slice_is) (has_proofs budget named ds decided)
+-- what the tables say doesn't change while goals are placed
+pub flags_now : (tables now : Option Tables) (all : List Decided) → now ≡ tables → IfSome tables (λ t. All (λ d. IsTrue (is_kept d) ↔ IsKept t d.goal.ob) all) → IfSome now (λ t. All (λ d. IsTrue (is_kept d) ↔ IsKept t d.goal.ob) all)
+flags_now tables now all same flags = subst (λ (o : Option Tables). IfSome o (λ t. All (λ d. IsTrue (is_kept d) ↔ IsKept t d.goal.ob) all)) (sym same) flags
 
-    pub obs_are : map decided_ob slice ≡ map ob_of named
-    obs_are = ap (map decided_ob) slice_is ∙ same_obs budget named ds decided
+pub asked_are : (asked helped worked h w : ℕ) → asked ≡ helped + worked → h ≡ helped → w ≡ worked → asked ≡ h + w
+asked_are asked helped worked h w are a b = omega (arith, are, a, b)
 
-    module _ (given : List Place) (flags flag_slice : List Bool) (given_is : given ≡ places) (flags_are : flags ≡ map is_kept given) (flag_slice_is : flag_slice ≡ flags) where
-      flags_known : flag_slice ≡ map is_kept places
-      flags_known = flag_slice_is ∙ (flags_are ∙ ap (map is_kept) given_is)
-
-      pub flags_tell : (now : Option Tables) → now ≡ tables → IfSome now (λ t. AllZip (λ (d : Decided) flag. IsTrue flag ↔ IsKept t d.ob) slice flag_slice)
-      flags_tell now same =
-          subst (λ (o : Option Tables). IfSome o (λ t. AllZip (λ (d : Decided) flag. IsTrue flag ↔ IsKept t d.ob) slice flag_slice)) (sym same)
-          (subst (λ (es : List Decided). IfSome tables (λ t. AllZip (λ (d : Decided) flag. IsTrue flag ↔ IsKept t d.ob) es flag_slice)) (sym slice_is)
-          (subst (λ (bs : List Bool). IfSome tables (λ t. AllZip (λ (d : Decided) flag. IsTrue flag ↔ IsKept t d.ob) ds bs)) (sym flags_known) (flags_told tables budget named places ds placed decided)))
-
-      pub flags_long : length flag_slice ≡ length slice
-      flags_long =
-          let one_each = same_length (IsDecided budget) named ds decided in
-          let places_each = same_length (IsPlaced tables) named places placed in
-          let flags_each = ap length flags_known in
-          let mapped = length-map places is_kept in
-          let slices = ap length slice_is in
-          omega (arith, one_each, places_each, flags_each, mapped, slices)
-
-    -- what was put is a proof of one of these
-    pub adds : (now after : Option Tables) → now ≡ tables → Told (AddsProofs (map decided_ob slice)) now after → Told (AddsProofs (map ob_of named)) tables after
-    adds now after same added =
-        subst (λ (obs : List Parts). Told (AddsProofs obs) tables after) obs_are (subst (λ (o : Option Tables). Told (AddsProofs (map decided_ob slice)) o after) same added)
-
-  -- how many are kept, and asked for
-  module _ (given : List Place) (flags flag_slice : List Bool) (kept solved : ℕ) (given_is : given ≡ places) (flags_are : flags ≡ map is_kept given) (flag_slice_is : flag_slice ≡ flags)
-      (counted : kept ≡ count_by (λ (flag : Bool). flag) flag_slice) (rest : solved ≡ length (filter is_open places)) where
-    kept_flags_are : flag_slice ≡ map is_kept places
-    kept_flags_are = flag_slice_is ∙ (flags_are ∙ ap (map is_kept) given_is)
-
-    pub in_all : Tally (length named) kept (sum_by asked_for places) solved
-    in_all = tally tables named places flag_slice kept solved placed kept_flags_are counted rest
-
-    pub kept_counted : IfSome tables (λ t. CountsKept t (map ob_of named) kept)
-    kept_counted = counts_kept tables named places kept placed (counted ∙ ap (count_by (λ (flag : Bool). flag)) kept_flags_are)
-
-    -- those that are helped and solved are those asked for
-    pub rose_all : (helped : ℕ) (before after : List ℕ) → kept + helped + solved ≡ length named → FirstRose (sum_by asked_for places) before after → FirstRose (helped + solved) before after
-    rose_all helped before after all rose =
-        let t = in_all in
-        let parts = t.all in
-        let same : sum_by asked_for places ≡ helped + solved = omega (arith, parts, all) in
-        subst (λ (k : ℕ). FirstRose k before after) same rose
+pub first_rose : (n m : ℕ) (xs ys : List ℕ) → n ≡ m → FirstRose n xs ys → FirstRose m xs ys
+first_rose n m xs ys same rose = subst (λ (k : ℕ). FirstRose k xs ys) same rose

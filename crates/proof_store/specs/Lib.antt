@@ -1,4 +1,6 @@
 pub mod Causes
+pub mod Goals
+pub mod Provers
 pub mod Counts
 pub mod Kept
 pub mod Moves

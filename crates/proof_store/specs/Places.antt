@@ -1,16 +1,22 @@
--- How obligations stand before any is solved.
-use Rattle.std.specs.Prelude.{◌≡◌, ℕ, List, [], ◌∷◌, Bool, true, false, Option, Some, None, IfSome, IsTrue, ◌↔◌}
+-- How goals stand before any is solved.
+use Rattle.std.specs.Prelude.{◌≡◌, ℕ, List, [], ◌∷◌, ◌++◌, Bool, true, false, Option, Some, None, IfSome, IsTrue, ◌↔◌}
 use Rattle.outside.specs.Tables.{Tables}
-use Rattle.word_dag.specs.declared.ob.Named.{Named}
+use Rattle.word_dag.specs.Nodes.{Parts}
+use Rattle.set_tree.specs.declared.line.Line.{Line}
 use Rattle.helper_box.specs.declared.claim.Claim.{Claim}
 use Rattle.helper_box.specs.declared.claim.Claim.TheVariants as claim
-use Rattle.verdicts.specs.declared.decide.Decided.{Decided}
-use Rattle.verdicts.specs.declared.decide.Evidence.{Evidence}
-use Rattle.verdicts.specs.declared.decide.Evidence.TheVariants.{Derivation, Values}
-use Rattle.verdicts.specs.Shown.{IsDecided}
+use Rattle.job_pool.specs.Shown.{IsShown}
+use Rattle.job_pool.specs.declared.evidence.Evidence.{Evidence}
+use Rattle.job_pool.specs.declared.evidence.Evidence.TheVariants.{Derivation, Values}
+use Rattle.proof_store.specs.Goals.{IsDecided, from_keeper, is_kept, is_solved}
 use Rattle.proof_store.specs.Kept.{IsKept}
+use Rattle.proof_store.specs.declared.goal.Decided.{Decided}
+use Rattle.proof_store.specs.declared.goal.Goal.{Goal}
+use Rattle.proof_store.specs.declared.goal.Source.{Source}
+use Rattle.proof_store.specs.declared.goal.Source.TheVariants.{Kept, Helped, Solved}
+use Rattle.proof_store.specs.declared.placing.Found.{Found}
 use Rattle.proof_store.specs.declared.placing.Place.{Place}
-use Rattle.proof_store.specs.declared.placing.Place.TheVariants.{Kept, Helped, Open}
+use Rattle.proof_store.specs.declared.placing.Place.TheVariants.{Done, Open}
 
 -- the evidence that a claim gives, and none where it claims nothing
 abbrev pub Tells : Claim → Option Evidence → Type 0
@@ -18,51 +24,79 @@ Tells claim.Nothing evidence = evidence ≡ None
 Tells (claim.Unsat steps) evidence = evidence ≡ Some (Derivation steps)
 Tells (claim.Values values) evidence = evidence ≡ Some (Values values)
 
-abbrev pub is_kept : Place → Bool
-is_kept (Kept d) = true
-is_kept (Helped d) = false
-is_kept Open = false
+-- these tables keep a proof exactly where the flag says so
+abbrev pub TellsKept : Option Tables → Parts → Bool → Type 0
+TellsKept tables ob flag = IfSome tables (λ t. IsTrue flag ↔ IsKept t ob)
 
-abbrev pub is_open : Place → Bool
-is_open (Kept d) = false
-is_open (Helped d) = false
-is_open Open = true
+-- whether what was found of an obligation comes from the keeper
+abbrev pub found_kept : Option Found → Bool
+found_kept None = false
+found_kept (Some found) = from_keeper found.source
 
--- a place that isn't open shows its obligation, whatever the budget
-abbrev pub Shows : Named → Place → Type 0
-Shows named (Kept d) = (budget : ℕ) → IsDecided budget named d
-Shows named (Helped d) = (budget : ℕ) → IsDecided budget named d
-Shows named Open = Unit {0}
+-- what is found of an obligation without solving: it shows how it ended, whatever the budget, and comes from the keeper or from a helper
+pub record Finds (tables : Option Tables) (ob : Parts) (found : Option Found) : Type 0 where
+  pub shown : IfSome found (λ f. (budget : ℕ) → IsShown budget ob f.evidence)
+  pub kept : TellsKept tables ob (found_kept found)
+  pub unsolved : IfSome found (λ f. f.source ≡ Solved → ⊥)
 
--- the obligation's place, which is `Kept` exactly where these tables keep a proof of it
-pub record IsPlaced (tables : Option Tables) (named : Named) (place : Place) : Type 0 where
-  pub shows : Shows named place
-  pub kept : IfSome tables (λ t. IsTrue (is_kept place) ↔ IsKept t named.ob)
+-- how often the first helper is asked: once about what isn't kept
+abbrev pub asked_of : Source → ℕ
+asked_of Kept = 0
+asked_of Helped = 1
+asked_of Solved = 1
 
--- once for a place that isn't kept
+abbrev pub asked_about : Option Found → ℕ
+asked_about None = 1
+asked_about (Some found) = asked_of found.source
+
 abbrev pub asked_for : Place → ℕ
-asked_for (Kept d) = 0
-asked_for (Helped d) = 1
-asked_for Open = 1
+asked_for (Done d) = asked_of d.source
+asked_for (Open line) = 1
 
--- the obligations whose places are open, in order
-abbrev pub open_of : List Named → List Place → List Named
+-- a goal that is done is shown, whatever the budget; of an open one the line is left
+abbrev pub Shows : Goal → Place → Type 0
+Shows goal (Done d) = ((budget : ℕ) → IsDecided budget goal d) × (d.source ≡ Solved → ⊥)
+Shows goal (Open line) = line ≡ goal.line
+
+abbrev pub place_kept : Place → Bool
+place_kept (Done d) = is_kept d
+place_kept (Open line) = false
+
+-- the goal's place, which is that of a kept proof exactly where these tables keep one
+pub record IsPlaced (tables : Option Tables) (goal : Goal) (place : Place) : Type 0 where
+  pub shows : Shows goal place
+  pub kept : TellsKept tables goal.ob (place_kept place)
+
+-- the obligation of an open goal goes to the end of those that are open
+abbrev pub opened : Place → Parts → List Parts → List Parts
+opened (Done d) ob obs = obs
+opened (Open line) ob obs = obs ++ ob ∷ []
+
+-- the obligations of the goals whose places are open, in order
+abbrev pub open_of : List Goal → List Place → List Parts
 open_of [] ps = []
-open_of (n ∷ ns) [] = []
-open_of (n ∷ ns) (Kept d ∷ ps) = open_of ns ps
-open_of (n ∷ ns) (Helped d ∷ ps) = open_of ns ps
-open_of (n ∷ ns) (Open ∷ ps) = n ∷ open_of ns ps
+open_of (g ∷ gs) [] = []
+open_of (g ∷ gs) (Done d ∷ ps) = open_of gs ps
+open_of (g ∷ gs) (Open line ∷ ps) = g.ob ∷ open_of gs ps
+
+-- a line with its obligation, which the workers decided
+abbrev pub solved : Line → Parts → Evidence → Decided
+solved line ob evidence = record { goal = record { line = line; ob = ob }; evidence = evidence; source = Solved }
 
 -- the open places filled in order
-abbrev pub filled : List Place → List Decided → List Decided
-filled [] ds = []
-filled (Kept d ∷ ps) ds = d ∷ filled ps ds
-filled (Helped d ∷ ps) ds = d ∷ filled ps ds
-filled (Open ∷ ps) [] = filled ps []
-filled (Open ∷ ps) (d ∷ ds) = d ∷ filled ps ds
+abbrev pub filled : List Place → List Parts → List Evidence → List Decided
+filled [] obs ends = []
+filled (Done d ∷ ps) obs ends = d ∷ filled ps obs ends
+filled (Open line ∷ ps) [] ends = []
+filled (Open line ∷ ps) (ob ∷ obs) [] = []
+filled (Open line ∷ ps) (ob ∷ obs) (e ∷ ends) = solved line ob e ∷ filled ps obs ends
 
 -- a place takes its own, or where it is open the first of these
-abbrev pub Takes : Place → Decided → List Decided → List Decided → Type 0
-Takes (Kept e) d before after = (d ≡ e) × (after ≡ before)
-Takes (Helped e) d before after = (d ≡ e) × (after ≡ before)
-Takes Open d before after = before ≡ d ∷ after
+abbrev pub Takes : Place → Decided → List Parts → List Evidence → List Parts → List Evidence → Type 0
+Takes (Done e) d obs ends obs_after ends_after = (d ≡ e) × (obs_after ≡ obs) × (ends_after ≡ ends)
+Takes (Open line) d obs ends obs_after ends_after =
+    (ob : Parts) × (e : Evidence) × (d ≡ solved line ob e) × (obs ≡ ob ∷ obs_after) × (ends ≡ e ∷ ends_after)
+
+abbrev pub is_open : Place → Bool
+is_open (Done d) = false
+is_open (Open line) = true

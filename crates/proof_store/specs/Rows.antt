@@ -7,8 +7,8 @@ use Rattle.clause_check.specs.declared.formula.Cnf.{Cnf}
 use Rattle.clause_check.specs.declared.formula.Step.{Step}
 use Rattle.clause_check.specs.Derivations.{IsRefutation}
 use Rattle.step_records.specs.Records.{IsRecord, version_2}
-use Rattle.verdicts.specs.declared.decide.Decided.{Decided}
-use Rattle.verdicts.specs.declared.decide.Evidence.TheVariants.{Derivation}
+use Rattle.job_pool.specs.declared.evidence.Evidence.TheVariants.{Derivation}
+use Rattle.proof_store.specs.Goals.{Ended}
 use Rattle.proof_store.specs.Kept.{IsProof, key_of}
 use Rattle.proof_store.specs.Stored.{MayBeKept}
 use Rattle.proof_store.specs.declared.keeping.Row.{Row}
@@ -24,10 +24,10 @@ FindsIn t key cnf (Some steps) = (bytes : List ℕ) × (get t.proofs key ≡ Som
 FindsIn t key cnf None = (bytes : List ℕ) → get t.proofs key ≡ Some bytes → IsAccepted cnf bytes None
 
 -- the row of a derivation that may be kept, and none for anything else
-abbrev pub IsRowOf : Decided → Option Row → Type 0
+abbrev pub IsRowOf : Ended → Option Row → Type 0
 IsRowOf d (Some row) = (steps : Vec Step Global) × MayBeKept d steps × (row.key.items ≡ key_of d.ob) × (row.bytes.items ≡ version_2 steps.items) × IsRecord row.bytes.items steps.items
 IsRowOf d None = (steps : Vec Step Global) → MayBeKept d steps → ⊥
 
 -- each derivation is a proof of its obligation
-abbrev pub HasProofs : List Decided → Type 0
-HasProofs decided = All (λ d. (steps : Vec Step Global) → d.evidence ≡ Derivation steps → IsProof d.ob steps.items) decided
+abbrev pub HasProofs : List Ended → Type 0
+HasProofs ends = All (λ d. (steps : Vec Step Global) → d.evidence ≡ Derivation steps → IsProof d.ob steps.items) ends

@@ -6,12 +6,12 @@ use Rattle.outside.specs.Tables.{Tables, with_proof}
 use Rattle.word_dag.specs.Nodes.{Parts}
 use Rattle.clause_check.specs.declared.formula.Step.{Step}
 use Rattle.step_records.specs.Records.{Fits, IsRecord, version_2}
-use Rattle.verdicts.specs.declared.decide.Decided.{Decided}
-use Rattle.verdicts.specs.declared.decide.Evidence.TheVariants.{Derivation}
+use Rattle.job_pool.specs.declared.evidence.Evidence.TheVariants.{Derivation}
+use Rattle.proof_store.specs.Goals.{Ended}
 use Rattle.proof_store.specs.Kept.{IsKept, key_of}
 
-abbrev pub decided_ob : Decided → Parts
-decided_ob d = d.ob
+abbrev pub ended_ob : Ended → Parts
+ended_ob d = d.ob
 
 -- the tables are told before and after, and stand so; or they are told neither before nor after
 abbrev pub Told : (Tables → Tables → Type 0) → Option Tables → Option Tables → Type 0
@@ -21,14 +21,14 @@ Told R None (Some after) = ⊥
 Told R None None = Unit {0}
 
 -- the obligation has this derivation, of which a record can be made; neither the record nor the text is longer than a row may be
-pub record MayBeKept (d : Decided) (steps : Vec Step Global) : Type 0 where
+pub record MayBeKept (d : Ended) (steps : Vec Step Global) : Type 0 where
   pub has : d.evidence ≡ Derivation steps
   pub fits : Fits steps.items
   pub short_key : length (key_of d.ob) ≤ 16777216
   pub short_record : length (version_2 steps.items) ≤ 16777216
 
 -- an obligation with this text that wasn't kept, and has a derivation that may be
-pub record IsNew (before : Tables) (key : List ℕ) (d : Decided) : Type 0 where
+pub record IsNew (before : Tables) (key : List ℕ) (d : Ended) : Type 0 where
   pub text : key_of d.ob ≡ key
   pub fresh : IsKept before d.ob → ⊥
   pub steps : Vec Step Global
@@ -48,13 +48,13 @@ pub record AddsProofs (obs : List Parts) (before after : Tables) : Type 0 where
   pub proofs : (key : List ℕ) → (get after.proofs key ≡ get before.proofs key) ⊎ IsProved obs after key
 
 -- the texts of the obligations that are new stand with proofs, and no other row is touched
-pub record StoresNew (decided : List Decided) (before after : Tables) : Type 0 where
-  pub adds : AddsProofs (map decided_ob decided) before after
-  pub new : (key : List ℕ) → Any (IsNew before key) decided → IsProved (map decided_ob decided) after key
-  pub others : (key : List ℕ) → (Any (IsNew before key) decided → ⊥) → get after.proofs key ≡ get before.proofs key
+pub record StoresNew (ends : List Ended) (before after : Tables) : Type 0 where
+  pub adds : AddsProofs (map ended_ob ends) before after
+  pub new : (key : List ℕ) → Any (IsNew before key) ends → IsProved (map ended_ob ends) after key
+  pub others : (key : List ℕ) → (Any (IsNew before key) ends → ⊥) → get after.proofs key ≡ get before.proofs key
 
 -- the derivation is put under the obligation's text where it may be kept
-abbrev pub Puts : Decided → Tables → Tables → Type 0
+abbrev pub Puts : Ended → Tables → Tables → Type 0
 Puts d before after =
     ((steps : Vec Step Global) × MayBeKept d steps × IsRecord (version_2 steps.items) steps.items × (after ≡ with_proof (key_of d.ob) (version_2 steps.items) before))
     ⊎ (((steps : Vec Step Global) → MayBeKept d steps → ⊥) × (after ≡ before))

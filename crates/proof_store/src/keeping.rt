@@ -1,18 +1,19 @@
 //! Proofs that a keeper holds under the texts of obligations.
-ghost use Rattle.std.specs.Prelude.{◌≡◌, ◌≤◌, ◌↔◌, ℕ, List, Ok, Err, IfOk, IfSome, IsTrue, OnErr, OnOk, All, Some, None, map, length};
-ghost use Rattle.std.specs.List.{AllZip};
-ghost use Rattle.outside.specs.Faults.{Rose};
+ghost use Rattle.std.specs.Prelude.{◌≡◌, ◌↔◌, Err, IfOk, IfSome, IsTrue, OnErr, OnOk, All, map};
 ghost use Rattle.clause_check.specs.Derivations.{IsRefutation};
 ghost use Rattle.proof_store.specs.Kept.{IsKept};
 ghost use Rattle.proof_store.specs.Rows.{FindsIn, HasProofs, IsAccepted, IsRowOf};
-ghost use Rattle.proof_store.specs.Stored.{AddsProofs, Puts, StoresNew, Told, decided_ob};
+ghost use Rattle.proof_store.specs.Goals.{ended, is_kept};
+ghost use Rattle.proof_store.specs.Provers.{Rises};
+ghost use Rattle.proof_store.specs.Stored.{AddsProofs, Puts, StoresNew, Told, ended_ob};
 
 use crate::fault::StoreFault;
+use crate::goal::{Decided, Source};
 use clause_check::{Cnf, Marks, Step, accept};
+use job_pool::Evidence;
 use outside::Keeper;
 use std::alloc::{AllocError, Global};
 use step_records::{read_steps, record_fits, write_steps};
-use verdicts::{Decided, Evidence};
 use word_dag::text;
 
 /// The most bytes that a key or the bytes of a kept proof may have.
@@ -43,8 +44,7 @@ pub(crate) fn kept_steps<K: Keeper>(
     ensures found { IfOk result (λ found. IfSome found (λ steps. IsRefutation cnf.now steps.items)) }
     ensures finds { IfOk result (λ found. IfSome (K.tables keeper.old) (λ t. FindsIn t key.now cnf.now found)) }
     ensures same { K.tables keeper.new ≡ K.tables keeper.old }
-    ensures later { K.faults keeper.old ≤ K.faults keeper.new }
-    ensures keeper { result ≡ Err StoreFault.Keeper → Rose (K.faults keeper.old) (K.faults keeper.new) }
+    ensures faults { Rises (result ≡ Err StoreFault.Keeper) (K.faults keeper.old) (K.faults keeper.new) }
 {
     let Some(bytes) = keeper.proof(alloc, key)? else {
         return Ok(None);
@@ -61,7 +61,7 @@ pub struct Row {
 
 // The row of a proof: its obligation's text and its record, where it may be kept.
 fn row_of(alloc: Global, one: &Decided) -> Result<Option<Row>, AllocError>
-    ensures { IfOk result (IsRowOf one.now) }
+    ensures { IfOk result (IsRowOf (ended one.now)) }
 {
     let Evidence::Derivation(steps) = &one.evidence else {
         return Ok(None);
@@ -69,7 +69,7 @@ fn row_of(alloc: Global, one: &Decided) -> Result<Option<Row>, AllocError>
     if !record_fits(steps.as_slice()) {
         return Ok(None);
     }
-    let key = text(alloc, &one.ob)?;
+    let key = text(alloc, &one.goal.ob)?;
     let bytes = write_steps(alloc, steps.as_slice())?;
     if key.len() > LONGEST || bytes.len() > LONGEST {
         return Ok(None);
@@ -79,10 +79,9 @@ fn row_of(alloc: Global, one: &Decided) -> Result<Option<Row>, AllocError>
 
 // Puts a proof under its obligation's text, where it may be kept.
 fn put_one<K: Keeper>(alloc: Global, keeper: &mut K, one: &Decided) -> Result<(), StoreFault>
-    ensures ok { OnOk result (Told (Puts one.now) (K.tables keeper.old) (K.tables keeper.new)) }
+    ensures ok { OnOk result (Told (Puts (ended one.now)) (K.tables keeper.old) (K.tables keeper.new)) }
     ensures err { OnErr result (K.tables keeper.new ≡ K.tables keeper.old) }
-    ensures later { K.faults keeper.old ≤ K.faults keeper.new }
-    ensures keeper { result ≡ Err StoreFault.Keeper → Rose (K.faults keeper.old) (K.faults keeper.new) }
+    ensures faults { Rises (result ≡ Err StoreFault.Keeper) (K.faults keeper.old) (K.faults keeper.new) }
 {
     if let Some(row) = row_of(alloc, one)? {
         keeper.put_proof(alloc, row.key.as_slice(), row.bytes.as_slice())?;
@@ -90,24 +89,27 @@ fn put_one<K: Keeper>(alloc: Global, keeper: &mut K, one: &Decided) -> Result<()
     Ok(())
 }
 
-/// Puts the proofs of the obligations that weren't kept; a flag for each says whether it was.
+fn is_kept(decided: &Decided) -> bool
+    ensures { result ≡ is_kept decided.now }
+{
+    matches!(decided.source, Source::Kept)
+}
+
+/// Puts the proofs of the goals that weren't kept.
 pub(crate) fn put_new<K: Keeper>(
     alloc: Global,
     keeper: &mut K,
-    kept: &[bool],
     decided: &[Decided],
 ) -> Result<(), StoreFault>
-    requires flags { IfSome (K.tables keeper.old) (λ t. AllZip (λ d flag. IsTrue flag ↔ IsKept t d.ob) decided.now kept.now) }
-    requires long { length kept.now ≡ length decided.now }
-    requires proofs { HasProofs decided.now }
-    ensures ok { OnOk result (Told (StoresNew decided.now) (K.tables keeper.old) (K.tables keeper.new)) }
-    ensures left { Told (AddsProofs (map decided_ob decided.now)) (K.tables keeper.old) (K.tables keeper.new) }
-    ensures later { K.faults keeper.old ≤ K.faults keeper.new }
-    ensures keeper { result ≡ Err StoreFault.Keeper → Rose (K.faults keeper.old) (K.faults keeper.new) }
+    requires kept { IfSome (K.tables keeper.old) (λ t. All (λ d. IsTrue (is_kept d) ↔ IsKept t d.goal.ob) decided.now) }
+    requires proofs { HasProofs (map ended decided.now) }
+    ensures ok { OnOk result (Told (StoresNew (map ended decided.now)) (K.tables keeper.old) (K.tables keeper.new)) }
+    ensures left { Told (AddsProofs (map ended_ob (map ended decided.now))) (K.tables keeper.old) (K.tables keeper.new) }
+    ensures faults { Rises (result ≡ Err StoreFault.Keeper) (K.faults keeper.old) (K.faults keeper.new) }
 {
-    for i in 0..decided.len() {
-        if !kept[i] {
-            put_one(alloc, keeper, &decided[i])?;
+    for one in decided {
+        if !is_kept(one) {
+            put_one(alloc, keeper, one)?;
         }
     }
     Ok(())

@@ -1,34 +1,51 @@
-//! How obligations stand before any is solved.
-ghost use Rattle.std.specs.Prelude.{false, ◌≡◌, ◌<◌, ◌≤◌, ℕ, Err, IfOk, IfSome, map, sum_by, length, filter};
+//! How goals stand before any is solved.
+ghost use Rattle.std.specs.Prelude.{◌≡◌, ◌<◌, ℕ, true, Err, IfOk, IfSome, map, sum_by, length, filter};
 ghost use Rattle.std.specs.List.{AllZip};
 ghost use Rattle.std.specs.Vec.Iter.{into_iter_items, into_iter_len};
-ghost use Rattle.outside.specs.Faults.{Rose};
 ghost use Rattle.clause_check.specs.Derivations.{IsRefutation};
-ghost use Rattle.proof_store.specs.Counts.{FirstRose, NoneFalls};
+ghost use Rattle.job_pool.specs.Shown.{IsShown};
+ghost use Rattle.proof_store.specs.Counts.{FirstRose};
 ghost use Rattle.proof_store.specs.Kept.{IsBuilt, key_of};
+ghost use Rattle.proof_store.specs.Places.{Finds, IsPlaced, Takes, Tells, asked_about, asked_for, filled, is_open, open_of, opened};
+ghost use Rattle.proof_store.specs.Provers.{IsSame, Proceeds, Rises, asked_by, counts, kept_by};
 ghost use Rattle.proof_store.specs.Rows.{FindsIn};
-ghost use Rattle.proof_store.specs.Places.{IsPlaced, Shows, Takes, Tells, asked_for, filled, is_kept, is_open, open_of};
 
 use crate::fault::StoreFault;
+use crate::goal::{Decided, Goal, Source};
 use crate::keeping::kept_steps;
+use crate::prover::Prover;
 use clause_check::{Cnf, Step};
 use cnf_build::{Built, build};
 use helper_box::{Claim, Helper, offer_all};
-use outside::{Keeper, Text};
+use job_pool::Evidence;
+use outside::{Gate, Keeper};
+use set_tree::Line;
 use std::alloc::{AllocError, Global};
+use std::thread::Threads;
 use std::vec::IntoIter;
-use verdicts::{Decided, Evidence};
-use word_dag::{Named, Ob, copy_ob, text};
+use word_dag::{Ob, text};
 
-/// How an obligation stands before any is solved.
+/// What is found of an obligation without solving.
+#[derive(Drop)]
+pub struct Found {
+    pub evidence: Evidence,
+    pub source: Source,
+}
+
+/// How a goal stands before any is solved.
 #[derive(Drop)]
 pub enum Place {
-    /// Shown by a proof that was kept.
-    Kept(Decided),
-    /// Shown by a helper's claim.
-    Helped(Decided),
-    /// Not shown yet.
-    Open,
+    /// Shown by a proof that was kept or by a helper's claim.
+    Done(Decided),
+    /// Not shown yet. Its line is left here, and its obligation stands among those that are open.
+    Open(Line),
+}
+
+/// The places of goals, and the obligations of the open ones, in order.
+#[derive(Drop)]
+pub struct Placed {
+    pub places: Vec<Place>,
+    pub rest: Vec<Ob>,
 }
 
 // What a claim shows.
@@ -42,25 +59,6 @@ fn evidence_of(claim: Claim) -> Option<Evidence>
     }
 }
 
-// An obligation with what shows how it ended.
-fn with_evidence(alloc: Global, named: &Named, evidence: Evidence) -> Result<Decided, AllocError>
-    ensures name { IfOk result (λ d. d.name ≡ named.now.name) }
-    ensures ob { IfOk result (λ d. d.ob ≡ named.now.ob) }
-    ensures evidence { IfOk result (λ d. d.evidence ≡ evidence) }
-{
-    let name = Text::copy(alloc, named.name.bytes())?;
-    let ob = copy_ob(alloc, &named.ob)?;
-    Ok(Decided { name, ob, evidence })
-}
-
-fn copy_named(alloc: Global, named: &Named) -> Result<Named, AllocError>
-    ensures { IfOk result (λ copy. copy ≡ named.now) }
-{
-    let name = Text::copy(alloc, named.name.bytes())?;
-    let ob = copy_ob(alloc, &named.ob)?;
-    Ok(Named { name, ob })
-}
-
 // The steps that are kept for an obligation, of which these are the clauses.
 fn kept_proof<K: Keeper>(
     alloc: Global,
@@ -71,8 +69,7 @@ fn kept_proof<K: Keeper>(
     ensures found { IfOk result (λ found. IfSome found (λ steps. IsRefutation cnf.now steps.items)) }
     ensures finds { IfOk result (λ found. IfSome (K.tables keeper.old) (λ t. FindsIn t (key_of ob.now) cnf.now found)) }
     ensures same { K.tables keeper.new ≡ K.tables keeper.old }
-    ensures later { K.faults keeper.old ≤ K.faults keeper.new }
-    ensures keeper { result ≡ Err StoreFault.Keeper → Rose (K.faults keeper.old) (K.faults keeper.new) }
+    ensures faults { Rises (result ≡ Err StoreFault.Keeper) (K.faults keeper.old) (K.faults keeper.new) }
 {
     let key = text(alloc, ob)?;
     kept_steps(alloc, keeper, key.as_slice(), cnf)
@@ -81,136 +78,131 @@ fn kept_proof<K: Keeper>(
 // Asks the helpers about an obligation, of which these are the clauses.
 fn offered<H: Helper>(
     alloc: Global,
-    named: &Named,
+    ob: &Ob,
     built: &Built,
     helpers: &mut Vec<H>,
-) -> Result<Place, AllocError>
-    requires { IsBuilt named.now.ob built.now.cnf built.now.bits.items }
-    ensures shows { IfOk result (Shows named.now) }
-    ensures not_kept { IfOk result (λ place. is_kept place ≡ false) }
-    ensures helpers { NoneFalls (map H.asked helpers.old.items) (map H.asked helpers.new.items) }
-    ensures first { FirstRose 1 (map H.asked helpers.old.items) (map H.asked helpers.new.items) }
+) -> Result<Option<Evidence>, AllocError>
+    requires { IsBuilt ob.now built.now.cnf built.now.bits.items }
+    ensures shown { IfOk result (λ found. IfSome found (λ evidence. (budget : ℕ) → IsShown budget ob.now evidence)) }
+    ensures asked { FirstRose 1 (map H.asked helpers.old.items) (map H.asked helpers.new.items) }
 {
-    let claim = offer_all(helpers, alloc, &named.ob, &built.cnf)?;
-    let Some(evidence) = evidence_of(claim) else {
-        return Ok(Place::Open);
-    };
-    let decided = with_evidence(alloc, named, evidence)?;
-    Ok(Place::Helped(decided))
+    let claim = offer_all(helpers, alloc, ob, &built.cnf)?;
+    Ok(evidence_of(claim))
 }
 
-// Asks the keeper for a proof of an obligation, and the helpers where there is none.
-#[tactic(auto, using(crate::proofs::Asking::none_falls_same))]
-fn place_one<K: Keeper, H: Helper>(
-    alloc: Global,
-    named: &Named,
-    keeper: &mut K,
-    helpers: &mut Vec<H>,
-) -> Result<Place, StoreFault>
-    ensures placed { IfOk result (IsPlaced (K.tables keeper.old) named.now) }
-    ensures same { K.tables keeper.new ≡ K.tables keeper.old }
-    ensures later { K.faults keeper.old ≤ K.faults keeper.new }
-    ensures keeper { result ≡ Err StoreFault.Keeper → Rose (K.faults keeper.old) (K.faults keeper.new) }
-    ensures helpers { NoneFalls (map H.asked helpers.old.items) (map H.asked helpers.new.items) }
-    ensures first { IfOk result (λ place. FirstRose (asked_for place) (map H.asked helpers.old.items) (map H.asked helpers.new.items)) }
-{
-    let built = build(alloc, &named.ob)?;
-    let found = kept_proof(alloc, &named.ob, keeper, &built.cnf)?;
-    let Some(steps) = found else {
-        let place = offered(alloc, named, &built, helpers)?;
-        return Ok(place);
-    };
-    let decided = with_evidence(alloc, named, Evidence::Derivation(steps))?;
-    Ok(Place::Kept(decided))
-}
-
-/// The place of each obligation, in order.
-pub(crate) fn place_all<K: Keeper, H: Helper>(
-    alloc: Global,
-    named: &[Named],
-    keeper: &mut K,
-    helpers: &mut Vec<H>,
-) -> Result<Vec<Place>, StoreFault>
-    ensures placed { IfOk result (λ places. AllZip (IsPlaced (K.tables keeper.old)) named.now places.items) }
-    ensures same { K.tables keeper.new ≡ K.tables keeper.old }
-    ensures later { K.faults keeper.old ≤ K.faults keeper.new }
-    ensures keeper { result ≡ Err StoreFault.Keeper → Rose (K.faults keeper.old) (K.faults keeper.new) }
-    ensures helpers { NoneFalls (map H.asked helpers.old.items) (map H.asked helpers.new.items) }
-    ensures first { IfOk result (λ places. FirstRose (sum_by asked_for places.items) (map H.asked helpers.old.items) (map H.asked helpers.new.items)) }
-{
-    let mut places = Vec::new(alloc);
-    for one in named {
-        let place = place_one(alloc, one, keeper, helpers)?;
-        places.push(place)?;
-    }
-    Ok(places)
-}
-
-fn is_kept(place: &Place) -> bool
-    ensures { result ≡ is_kept place.now }
-{
-    matches!(place, Place::Kept(_))
-}
-
-fn is_open(place: &Place) -> bool
-    ensures { result ≡ is_open place.now }
-{
-    matches!(place, Place::Open)
-}
-
-/// Which of the obligations are kept.
-pub(crate) fn kept_flags(alloc: Global, places: &[Place]) -> Result<Vec<bool>, AllocError>
-    ensures { IfOk result (λ flags. flags.items ≡ map is_kept places.now) }
-{
-    let mut flags = Vec::with_capacity(alloc, places.len())?;
-    for place in places {
-        flags.push(is_kept(place))?;
-    }
-    Ok(flags)
-}
-
-/// Copies of the obligations that are open, in order.
-pub(crate) fn open_of(
-    alloc: Global,
-    named: &[Named],
-    places: &[Place],
-) -> Result<Vec<Named>, AllocError>
-    requires { length places.now ≡ length named.now }
-    ensures { IfOk result (λ rest. rest.items ≡ open_of named.now places.now) }
-{
-    let mut rest = Vec::new(alloc);
-    for i in 0..named.len() {
-        if is_open(&places[i]) {
-            rest.push(copy_named(alloc, &named[i])?)?;
+impl<'a, 'k, 'h, R: Threads + Sync, K: Keeper, H: Helper, G: Gate + Sync> Prover<
+    'a,
+    'k,
+    'h,
+    R,
+    K,
+    H,
+    G,
+> {
+    // Asks the keeper for a proof of an obligation, and the helpers where there is none.
+    fn find(&mut self, ob: &Ob) -> Result<Option<Found>, StoreFault>
+        ensures finds { IfOk result (Finds (kept_by K.tables self.old) ob.now) }
+        ensures tables { kept_by K.tables self.new ≡ kept_by K.tables self.old }
+        ensures proceeds { Proceeds (result ≡ Err StoreFault.Keeper) (counts K.faults H.asked self.old) (counts K.faults H.asked self.new) }
+        ensures first { IfOk result (λ found. FirstRose (asked_about found) (asked_by H.asked self.old) (asked_by H.asked self.new)) }
+        ensures same { IsSame self.old self.new }
+    {
+        let built = build(self.alloc, ob)?;
+        if let Some(steps) = kept_proof(self.alloc, ob, self.keeper, &built.cnf)? {
+            let evidence = Evidence::Derivation(steps);
+            return Ok(Some(Found {
+                evidence,
+                source: Source::Kept,
+            }));
+        }
+        match offered(self.alloc, ob, &built, self.helpers)? {
+            Some(evidence) => Ok(Some(Found {
+                evidence,
+                source: Source::Helped,
+            })),
+            None => Ok(None),
         }
     }
-    Ok(rest)
+
+    // The place of a goal. The obligation of an open one goes to the end of those that are open.
+    fn place(&mut self, goal: Goal, rest: &mut Vec<Ob>) -> Result<Place, StoreFault>
+        ensures placed { IfOk result (IsPlaced (kept_by K.tables self.old) goal) }
+        ensures rest { IfOk result (λ place. rest.new.items ≡ opened place goal.ob rest.old.items) }
+        ensures tables { kept_by K.tables self.new ≡ kept_by K.tables self.old }
+        ensures proceeds { Proceeds (result ≡ Err StoreFault.Keeper) (counts K.faults H.asked self.old) (counts K.faults H.asked self.new) }
+        ensures first { IfOk result (λ place. FirstRose (asked_for place) (asked_by H.asked self.old) (asked_by H.asked self.new)) }
+        ensures same { IsSame self.old self.new }
+    {
+        match self.find(&goal.ob)? {
+            Some(Found { evidence, source }) => Ok(Place::Done(Decided {
+                goal,
+                evidence,
+                source,
+            })),
+            None => {
+                let Goal { line, ob } = goal;
+                rest.push(ob)?;
+                Ok(Place::Open(line))
+            }
+        }
+    }
+
+    /// The places of goals, in order.
+    pub(crate) fn place_all(&mut self, goals: Vec<Goal>) -> Result<Placed, StoreFault>
+        ensures placed { IfOk result (λ p. AllZip (IsPlaced (kept_by K.tables self.old)) goals.items p.places.items) }
+        ensures rest { IfOk result (λ p. p.rest.items ≡ open_of goals.items p.places.items) }
+        ensures tables { kept_by K.tables self.new ≡ kept_by K.tables self.old }
+        ensures proceeds { Proceeds (result ≡ Err StoreFault.Keeper) (counts K.faults H.asked self.old) (counts K.faults H.asked self.new) }
+        ensures first { IfOk result (λ p. FirstRose (sum_by asked_for p.places.items) (asked_by H.asked self.old) (asked_by H.asked self.new)) }
+        ensures same { IsSame self.old self.new }
+    {
+        let mut places = Vec::new(self.alloc);
+        let mut rest = Vec::new(self.alloc);
+        for goal in goals {
+            let place = self.place(goal, &mut rest)?;
+            places.push(place)?;
+        }
+        Ok(Placed { places, rest })
+    }
 }
 
 // What stands at a place, or where it is open the first of these.
-fn taken(place: Place, solved: &mut IntoIter<Decided>) -> Decided
-    requires { place ≡ Place.Open → 0 < into_iter_len solved.old }
-    ensures { Takes place result (into_iter_items solved.old) (into_iter_items solved.new) }
+fn taken(place: Place, obs: &mut IntoIter<Ob>, ends: &mut IntoIter<Evidence>) -> Decided
+    requires obs { is_open place ≡ true → 0 < into_iter_len obs.old }
+    requires ends { is_open place ≡ true → 0 < into_iter_len ends.old }
+    ensures { Takes place result (into_iter_items obs.old) (into_iter_items ends.old) (into_iter_items obs.new) (into_iter_items ends.new) }
 {
     match place {
-        Place::Kept(decided) | Place::Helped(decided) => decided,
-        Place::Open => solved.next().unwrap(),
+        Place::Done(decided) => decided,
+        Place::Open(line) => {
+            let ob = obs.next().unwrap();
+            let evidence = ends.next().unwrap();
+            Decided {
+                goal: Goal { line, ob },
+                evidence,
+                source: Source::Solved,
+            }
+        }
     }
 }
 
-/// The open places filled by these in order.
+/// The open places filled by obligations and what shows how they ended, in order.
 pub(crate) fn filled(
     alloc: Global,
-    places: Vec<Place>,
-    solved: Vec<Decided>,
+    placed: Placed,
+    ends: Vec<Evidence>,
 ) -> Result<Vec<Decided>, AllocError>
-    requires { length (filter is_open places.items) ≤ length solved.items }
-    ensures { IfOk result (λ all. all.items ≡ filled places.items solved.items) }
+    requires rest { length placed.rest.items ≡ length (filter is_open placed.places.items) }
+    requires ends { length ends.items ≡ length placed.rest.items }
+    ensures { IfOk result (λ all. all.items ≡ filled placed.places.items placed.rest.items ends.items) }
 {
+    let Placed { places, rest } = placed;
     let mut all = Vec::with_capacity(alloc, places.len())?;
-    let mut solved = solved.into_iter();
+    let mut obs = rest.into_iter();
+    let mut ends = ends.into_iter();
     for place in places {
-        all.push(taken(place, &mut solved))?;
+        let one = taken(place, &mut obs, &mut ends);
+        all.push(one)?;
     }
     Ok(all)
 }

@@ -1,26 +1,28 @@
-//! Obligations settled over a keeper.
-ghost use Rattle.std.specs.Prelude.{◌≡◌, ◌+◌, ◌^◌, ◌<◌, ◌≤◌, Err, IfOk, IfSome, filter, length, map, count_by};
+//! Goals settled by a prover.
+ghost use Rattle.std.specs.Prelude.{◌≡◌, ◌+◌, ◌^◌, ◌<◌, Err, IfOk, IfSome, count_by, length, map};
 ghost use Rattle.std.specs.List.{AllZip};
-ghost use Rattle.outside.specs.Faults.{Rose};
-ghost use Rattle.verdicts.specs.Ample.{DecidesIfAmple};
-ghost use Rattle.verdicts.specs.Shown.{IsDecided, ob_of};
-ghost use Rattle.proof_store.specs.Counts.{FirstRose, NoneFalls, draws_of};
+ghost use Rattle.job_pool.specs.Shown.{IsShown};
+ghost use Rattle.proof_store.specs.Counts.{FirstRose, draws_of};
+ghost use Rattle.proof_store.specs.Goals.{IsDecided, IsDecidedIfAmple, ended, from_helper, from_keeper, from_worker, is_helped, is_kept, is_solved, ob_of};
 ghost use Rattle.proof_store.specs.Kept.{CountsKept};
-ghost use Rattle.proof_store.specs.Places.{Shows, is_open};
+ghost use Rattle.proof_store.specs.Provers.{IsSame, Proceeds, asked_by, counts, kept_by};
 ghost use Rattle.proof_store.specs.Stored.{AddsProofs, StoresNew, Told};
+ghost use Rattle.proof_store.specs.declared.goal.Source.{Source as Sources};
 
 use crate::fault::StoreFault;
+use crate::goal::{Decided, Goal, Source};
 use crate::keeping::put_new;
-use crate::placing::{Place, filled, kept_flags, open_of, place_all};
+use crate::placing::filled;
+use crate::prover::Prover;
 use crate::settings::Settings;
 use helper_box::Helper;
+use job_pool::{Ran, run_jobs};
 use outside::{Gate, Keeper};
-use std::alloc::{AllocError, Global};
+use std::alloc::AllocError;
 use std::thread::Threads;
-use verdicts::{Decided, decide_all};
-use word_dag::Named;
+use word_dag::Ob;
 
-/// The obligations in their order, each with what shows how it ended, and where that comes from.
+/// The goals in their order, each with what shows how it ended, and where that comes from.
 #[derive(Drop)]
 pub struct Settled {
     pub decided: Vec<Decided>,
@@ -34,128 +36,105 @@ pub struct Settled {
     pub draws: Vec<u64>,
 }
 
-// The obligations that are open, decided by workers. Where there is none, no worker is started.
-fn decide_open<R: Threads + Sync, G: Gate + Sync>(
-    rt: &R,
-    alloc: Global,
-    rest: &[Named],
-    settings: &Settings,
-    gate: &G,
-) -> Result<verdicts::Settled, AllocError>
-    requires { length rest.now < 2 ^ 32 }
-    ensures decided { IfOk result (λ s. AllZip (IsDecided settings.now.budget) rest.now s.decided.items) }
-    ensures draws { IfOk result (λ s. s.draws.items ≡ draws_of (length rest.now) settings.now.workers) }
+fn count_kept(decided: &[Decided]) -> u64
+    ensures { result ≡ count_by is_kept decided.now }
 {
-    if rest.is_empty() {
-        return Ok(verdicts::Settled {
-            decided: Vec::new(alloc),
-            draws: Vec::new(alloc),
-        });
+    decided
+        .iter()
+        .filter(|one| one.source == Source::Kept)
+        .count() as u64
+}
+
+fn count_helped(decided: &[Decided]) -> u64
+    ensures { result ≡ count_by is_helped decided.now }
+{
+    decided
+        .iter()
+        .filter(|one| one.source == Source::Helped)
+        .count() as u64
+}
+
+fn count_solved(decided: &[Decided]) -> u64
+    ensures { result ≡ count_by is_solved decided.now }
+{
+    decided
+        .iter()
+        .filter(|one| one.source == Source::Solved)
+        .count() as u64
+}
+
+impl<'a, 'k, 'h, R: Threads + Sync, K: Keeper, H: Helper, G: Gate + Sync> Prover<
+    'a,
+    'k,
+    'h,
+    R,
+    K,
+    H,
+    G,
+> {
+    // The open obligations, decided by workers. Where there is none, no worker is started.
+    fn decide_open(&self, rest: &[Ob]) -> Result<Ran, AllocError>
+        requires { length rest.now < 2 ^ 32 }
+        ensures ends { IfOk result (λ ran. AllZip (IsShown self.now.settings.budget) rest.now ran.ends.items) }
+        ensures draws { IfOk result (λ ran. ran.draws.items ≡ draws_of (length rest.now) self.now.settings.workers) }
+    {
+        if rest.is_empty() {
+            return Ok(Ran {
+                ends: Vec::new(self.alloc),
+                draws: Vec::new(self.alloc),
+            });
+        }
+        let Settings {
+            budget,
+            workers,
+            ..
+        } = self.settings;
+        run_jobs(self.rt, self.alloc, rest, budget, workers, self.gate)
     }
-    decide_all(rt, alloc, rest, settings.budget, settings.workers, gate)
-}
 
-// All obligations decided.
-#[derive(Drop)]
-struct Whole {
-    decided: Vec<Decided>,
-    solved: u64,
-    draws: Vec<u64>,
-}
+    /// Settles goals: each with what shows how it ended, in their order.
+    ///
+    /// The keeper is asked for the row under each obligation's text. It counts as kept where it is a record of a derivation of the empty clause
+    /// from the obligation's clauses; a row that isn't one is no fault. What isn't kept is offered to the helpers, and of their claims only those
+    /// that pass count. The rest is decided by workers, each obligation within the budget of steps; where nothing is left, none is started. A budget
+    /// of `3 ^ v` steps, v being the number of variables of an obligation's clauses, decides it. Then the new proofs are put under the obligations'
+    /// texts, where a record can be made of them and neither it nor the text has more than 16,777,216 bytes.
+    ///
+    /// It is refused with `Keeper` only where the keeper's count of faults rose in this call, or stands at its last value, and with `Memory` for want
+    /// of memory alone. Then each row of the proofs that differs from before is a proof of one of these obligations under its text.
+    pub fn settle(&mut self, goals: Vec<Goal>) -> Result<Settled, StoreFault>
+        requires jobs { length goals.items < 2 ^ 32 }
+        ensures decided { IfOk result (λ s. AllZip (IsDecided self.old.settings.budget) goals.items s.decided.items) }
+        ensures ample { IfOk result (λ s. AllZip (IsDecidedIfAmple self.old.settings.budget) goals.items s.decided.items) }
 
-// The obligations with the open places filled by what the workers found.
-fn decide_rest<R: Threads + Sync, G: Gate + Sync>(
-    rt: &R,
-    alloc: Global,
-    named: &[Named],
-    places: Vec<Place>,
-    settings: &Settings,
-    gate: &G,
-) -> Result<Whole, AllocError>
-    requires shown { AllZip Shows named.now places.items }
-    requires jobs { length named.now < 2 ^ 32 }
-    ensures decided { IfOk result (λ w. AllZip (IsDecided settings.now.budget) named.now w.decided.items) }
-    ensures solved { IfOk result (λ w. w.solved ≡ length (filter is_open places.items)) }
-    ensures draws { IfOk result (λ w. w.draws.items ≡ draws_of w.solved settings.now.workers) }
-{
-    let rest = open_of(alloc, named, places.as_slice())?;
-    let verdicts::Settled { decided, draws } = decide_open(
-        rt,
-        alloc,
-        rest.as_slice(),
-        settings,
-        gate,
-    )?;
-    let decided = filled(alloc, places, decided)?;
-    Ok(Whole {
-        decided,
-        solved: rest.len() as u64,
-        draws,
-    })
-}
+        // Where the evidence comes from.
+        ensures counts { IfOk result (λ s. s.kept + s.helped + s.solved ≡ length goals.items) }
+        ensures kept { IfOk result (λ s. IfSome (kept_by K.tables self.old) (λ t. CountsKept t (map ob_of goals.items) s.kept)) }
+        ensures draws { IfOk result (λ s. s.draws.items ≡ draws_of s.solved self.old.settings.workers) }
 
-fn count_true(flags: &[bool]) -> u64
-    ensures { result ≡ count_by (λ flag. flag) flags.now }
-{
-    flags.iter().filter(|flag| **flag).count() as u64
-}
+        // What the keeper holds afterwards.
+        ensures stored { IfOk result (λ s. Told (StoresNew (map ended s.decided.items)) (kept_by K.tables self.old) (kept_by K.tables self.new)) }
+        ensures left { Told (AddsProofs (map ob_of goals.items)) (kept_by K.tables self.old) (kept_by K.tables self.new) }
 
-/// Settles obligations over a keeper, place by place: its name, the obligation, and what shows how it ended.
-///
-/// The keeper is asked for the row under each obligation's text. It counts as kept where it is a record of a derivation of the empty clause
-/// from the obligation's clauses; a row that isn't one is no fault. What isn't kept is offered to the helpers, and of their claims only those
-/// that pass count. The rest is decided by workers, each obligation within the budget of steps; where nothing is left, none is started. A budget of
-/// `3 ^ v` steps, v being the number of variables of an obligation's clauses, decides it. Then the new proofs are put under the obligations' texts,
-/// where a record can be made of them and neither it nor the text has more than 16,777,216 bytes.
-///
-/// It is refused with `Keeper` only where the keeper's count of faults rose in this call, or stands at its last value, and with `Memory` for want
-/// of memory alone. Then each row of the proofs that differs from before is a proof of one of these obligations under its text.
-pub fn settle<R: Threads + Sync, K: Keeper, H: Helper, G: Gate + Sync>(
-    rt: &R,
-    alloc: Global,
-    named: &[Named],
-    keeper: &mut K,
-    helpers: &mut Vec<H>,
-    settings: &Settings,
-    gate: &G,
-) -> Result<Settled, StoreFault>
-    requires jobs { length named.now < 2 ^ 32 }
-    ensures decided { IfOk result (λ s. AllZip (IsDecided settings.now.budget) named.now s.decided.items) }
-    ensures ample { IfOk result (λ s. AllZip (DecidesIfAmple settings.now.budget) named.now s.decided.items) }
-
-    // Where the evidence comes from.
-    ensures counts { IfOk result (λ s. s.kept + s.helped + s.solved ≡ length named.now) }
-    ensures kept { IfOk result (λ s. IfSome (K.tables keeper.old) (λ t. CountsKept t (map ob_of named.now) s.kept)) }
-    ensures draws { IfOk result (λ s. s.draws.items ≡ draws_of s.solved settings.now.workers) }
-
-    // What the keeper holds afterwards.
-    ensures stored { IfOk result (λ s. Told (StoresNew s.decided.items) (K.tables keeper.old) (K.tables keeper.new)) }
-    ensures left { Told (AddsProofs (map ob_of named.now)) (K.tables keeper.old) (K.tables keeper.new) }
-
-    // Its count of faults.
-    ensures later { K.faults keeper.old ≤ K.faults keeper.new }
-    ensures keeper { result ≡ Err StoreFault.Keeper → Rose (K.faults keeper.old) (K.faults keeper.new) }
-
-    // How often helpers are asked: the first one once for each obligation that isn't kept.
-    ensures helpers { NoneFalls (map H.asked helpers.old.items) (map H.asked helpers.new.items) }
-    ensures first { IfOk result (λ s. FirstRose (s.helped + s.solved) (map H.asked helpers.old.items) (map H.asked helpers.new.items)) }
-{
-    let places = place_all(alloc, named, keeper, helpers)?;
-    let flags = kept_flags(alloc, places.as_slice())?;
-    let whole = decide_rest(rt, alloc, named, places, settings, gate)?;
-    put_new(alloc, keeper, flags.as_slice(), whole.decided.as_slice())?;
-    let Whole {
-        decided,
-        solved,
-        draws,
-    } = whole;
-    let kept = count_true(flags.as_slice());
-    let helped = named.len() as u64 - kept - solved;
-    Ok(Settled {
-        decided,
-        kept,
-        helped,
-        solved,
-        draws,
-    })
+        // Counts of faults, and how often helpers are asked: the first one once for each obligation that isn't kept.
+        ensures proceeds { Proceeds (result ≡ Err StoreFault.Keeper) (counts K.faults H.asked self.old) (counts K.faults H.asked self.new) }
+        ensures first { IfOk result (λ s. FirstRose (s.helped + s.solved) (asked_by H.asked self.old) (asked_by H.asked self.new)) }
+        ensures same { IsSame self.old self.new }
+    {
+        let placed = self.place_all(goals)?;
+        let Ran { ends, draws } = self.decide_open(placed.rest.as_slice())?;
+        let decided = filled(self.alloc, placed, ends)?;
+        let all = decided.as_slice();
+        put_new(self.alloc, self.keeper, all)?;
+        let kept = count_kept(all);
+        let helped = count_helped(all);
+        let solved = count_solved(all);
+        Ok(Settled {
+            decided,
+            kept,
+            helped,
+            solved,
+            draws,
+        })
+    }
 }

@@ -1,17 +1,12 @@
 -- What shows how an obligation ended.
-use Rattle.std.specs.Prelude.{◌≡◌, ℕ, List}
-use Rattle.word_dag.specs.declared.ob.Named.{Named}
+use Rattle.std.specs.Prelude.{ℕ, List}
 use Rattle.word_dag.specs.Given.{AllFit}
 use Rattle.word_dag.specs.Nodes.{Parts}
 use Rattle.cdcl.specs.declared.solver.End.TheVariants as end
 use Rattle.cnf_build.specs.Meaning.{RootIs1}
 use Rattle.job_pool.specs.Evidence.{IsEvidence}
-use Rattle.verdicts.specs.declared.decide.Decided.{Decided}
-use Rattle.verdicts.specs.declared.decide.Evidence.{Evidence}
-use Rattle.verdicts.specs.declared.decide.Evidence.TheVariants as e
-
-abbrev pub ob_of : Named → Parts
-ob_of named = named.ob
+use Rattle.job_pool.specs.declared.evidence.Evidence.{Evidence}
+use Rattle.job_pool.specs.declared.evidence.Evidence.TheVariants as e
 
 -- values of the free nodes, each within its width, at which the root is 1
 pub record AreWitness (ob : Parts) (us : List ℕ) : Type 0 where
@@ -23,9 +18,3 @@ abbrev pub IsShown : ℕ → Parts → Evidence → Type 0
 IsShown budget ob (e.Derivation steps) = IsEvidence budget ob (end.Unsat steps)
 IsShown budget ob (e.Values us) = AreWitness ob us.items
 IsShown budget ob (e.Chain steps) = IsEvidence budget ob (end.Spent steps)
-
--- an obligation under its name, and how it ended
-pub record IsDecided (budget : ℕ) (named : Named) (d : Decided) : Type 0 where
-  pub name : d.name ≡ named.name
-  pub ob : d.ob ≡ named.ob
-  pub shown : IsShown budget named.ob d.evidence

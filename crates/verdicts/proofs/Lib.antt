@@ -1,3 +1,0 @@
-mod Deciding
-mod Looping
-pub mod Sparing
