@@ -20,8 +20,8 @@ use Rattle.binding.specs.Binding.{Pair}
 use Rattle.line_designs.proofs.Carried.{map_append, reset_segment, segment, size, steps_to_modules, to_modules, trace}
 use Rattle.replay.specs.declared.shown.Shown.{Shown}
 use Rattle.replay.specs.Segments.{AreViolatingCycles, ShowsSegment, first_values}
-use Rattle.verdicts.specs.declared.decide.Evidence.{Evidence}
-use Rattle.verdicts.specs.declared.decide.Evidence.TheVariants as e
+use Rattle.job_pool.specs.declared.evidence.Evidence.{Evidence}
+use Rattle.job_pool.specs.declared.evidence.Evidence.TheVariants as e
 use Rattle.asked_lines.specs.Traces.{IsTraceOf, ShowsLine, ShowsModules, is_on_design}
 
 module _ {A B : Type 0} (d : Design A) (e : Design B) (to : A → B) (follows : (a b : A) → d.follows a b → e.follows (to a) (to b))

@@ -1,6 +1,7 @@
 -- What decided obligations say of lines.
-use Rattle.std.proofs.Common.{◌≡◌, ℕ, List, [], ◌∷◌, Option, sym, ap, ◌∙◌, subst}
-use Rattle.std.specs.List.{AllZip}
+use Rattle.std.proofs.Common.{◌≡◌, ℕ, List, [], ◌∷◌, map, sym, ap, ap₂, ◌∙◌, subst}
+use Rattle.std.specs.List.{All, AllZip}
+use Rattle.std.proofs.lemmas.List.Elements.{All-cons, All-head, All-nil, All-tail}
 use Rattle.std.specs.Prelude.{◌≢◌}
 use Rattle.set_tree.specs.declared.line.Line.{Line}
 use Rattle.word_core.specs.Words.{Bits}
@@ -11,24 +12,22 @@ use Rattle.word_dag.proofs.Namings.{root_at_naming}
 use Rattle.word_names.specs.Names.{naming_from}
 use Rattle.word_names.proofs.Namings.{values_have_namings}
 use Rattle.binding.specs.Binding.{Pair}
-use Rattle.verdicts.specs.declared.decide.Decided.{Decided}
-use Rattle.verdicts.specs.declared.decide.Evidence.{Evidence}
-use Rattle.verdicts.specs.declared.decide.Evidence.TheVariants as e
-use Rattle.verdicts.specs.Ample.{IsVerdict}
-use Rattle.verdicts.specs.Shown.{IsDecided, IsShown}
-use Rattle.verdicts.proofs.Sparing.{is_verdict}
+use Rattle.job_pool.specs.Ample.{IsVerdict}
+use Rattle.job_pool.specs.Shown.{IsShown}
+use Rattle.job_pool.specs.declared.evidence.Evidence.{Evidence}
+use Rattle.job_pool.specs.declared.evidence.Evidence.TheVariants as e
+use Rattle.job_pool.proofs.Sparing.{decides}
+use Rattle.proof_store.specs.Goals.{IsDecided}
+use Rattle.proof_store.specs.declared.goal.Decided.{Decided}
+use Rattle.proof_store.specs.declared.goal.Goal.{Goal}
 use Rattle.reports.specs.declared.book.Verdict.{Verdict}
 use Rattle.reports.specs.declared.book.Verdict.TheVariants as v
 use Rattle.reports.specs.Lines.{verdict_of}
 use Rattle.line_obs.specs.Obligations.{IsBroken, IsObOf}
-use Rattle.replay.specs.declared.shown.Shown.{Shown}
-use Rattle.asked_lines.specs.Asked.{IsObDecided}
-use Rattle.asked_lines.specs.Decided.{IsDecidedOn, Says}
+use Rattle.reports.specs.declared.book.Line.{Line as Told}
+use Rattle.asked_lines.specs.Asked.{IsGoalDecided, IsGoalOf, line_of, named_of}
+use Rattle.asked_lines.specs.Decided.{IsDecidedOn, Says, Tells}
 use Rattle.asked_lines.specs.Traces.{IsTraceOf}
-
--- what shows how an obligation ended
-pub shown_decided : (budget : ℕ) (b : Pair) (line : Line) (d : Decided) → IsObDecided budget b line d → IsShown budget d.ob d.evidence
-shown_decided budget b line d h = subst (λ (z : Parts). IsShown budget z d.evidence) (sym h.decided.ob) h.decided.shown
 
 -- evidence of an obligation of a line says whether the line can be violated
 says : (budget : ℕ) (b : Pair) (line : Line) (named : Named) → IsObOf b line named → (evidence : Evidence) → IsShown budget named.ob evidence → Says (IsBroken b line) (verdict_of evidence)
@@ -50,25 +49,41 @@ not_spent (e.Values us) h = λ same. let no : v.Refuted ≡ v.Spent = same in cc
 not_spent (e.Chain steps) h = absurd h
 
 -- a line of the book as it was decided
-pub told_line : (budget : ℕ) (b : Pair) (line : Line) (d : Decided) (u : Verdict) (o : Option Shown) → u ≡ verdict_of d.evidence → IsTraceOf b line d.ob d.evidence o → IsObDecided budget b line d
-    → IsDecidedOn budget b line (record { name = d.name; verdict = u; ob = d.ob; evidence = d.evidence; trace = o })
-told_line budget b line d u o verdict traced h = record {
-  name = h.decided.name ∙ h.of_line.name;
-  named = h.named;
-  of_line = h.of_line;
-  ob = h.decided.ob;
-  shown = shown_decided budget b line d h;
-  ample = λ ample same. not_spent d.evidence (is_verdict budget d.ob d.evidence (shown_decided budget b line d h) ample) (sym verdict ∙ same);
-  verdict = verdict;
-  traced = traced;
-  says = subst (λ (z : Verdict). Says (IsBroken b line) z) (sym verdict) (says budget b line h.named h.of_line d.evidence h.decided.shown);
-}
+told_line : (budget : ℕ) (b : Pair) (d : Decided) (told : Told) → IsGoalDecided budget b d → Tells b d told → IsDecidedOn budget b d.goal.line told
+told_line budget b d told h tells =
+    let shown : IsShown budget told.ob told.evidence = subst (λ (z : Parts × Evidence). IsShown budget z.0 z.1) (ap₂ (λ (o : Parts) (e : Evidence). (o, e)) (sym tells.ob) (sym tells.evidence)) h.shown in
+    let verdict : told.verdict ≡ verdict_of told.evidence = tells.verdict ∙ ap verdict_of (sym tells.evidence) in record {
+      name = tells.name;
+      named = named_of b.set d.goal;
+      of_line = h.of_line;
+      ob = tells.ob;
+      shown = shown;
+      ample = λ ample same. not_spent told.evidence (decides budget told.ob told.evidence shown ample) (sym verdict ∙ same);
+      verdict = verdict;
+      traced = subst (λ (z : Parts × Evidence). IsTraceOf b d.goal.line z.0 z.1 told.trace) (ap₂ (λ (o : Parts) (e : Evidence). (o, e)) (sym tells.ob) (sym tells.evidence)) tells.traced;
+      says = subst (λ (z : Verdict). Says (IsBroken b d.goal.line) z) (sym tells.verdict) (says budget b d.goal.line (named_of b.set d.goal) h.of_line d.evidence h.shown);
+    }
 
--- obligations of lines that were decided
-pub obs_decided : (budget : ℕ) (b : Pair) (lines : List Line) (obs : List Named) (ds : List Decided) → AllZip (IsObOf b) lines obs → AllZip (IsDecided budget) obs ds → AllZip (IsObDecided budget b) lines ds
-obs_decided budget b [] [] [] h k = tt
-obs_decided budget b [] [] (d ∷ ds) h k = absurd k
-obs_decided budget b [] (n ∷ ns) ds h k = absurd h
-obs_decided budget b (x ∷ xs) [] ds h k = absurd h
-obs_decided budget b (x ∷ xs) (n ∷ ns) [] h k = absurd k
-obs_decided budget b (x ∷ xs) (n ∷ ns) (d ∷ ds) h k = (record { named = n; of_line = h.0; decided = k.0 }, obs_decided budget b xs ns ds h.1 k.1)
+-- goals that were decided
+pub goals_decided : (budget : ℕ) (b : Pair) (goals : List Goal) (ds : List Decided) → All (IsGoalOf b) goals → AllZip (IsDecided budget) goals ds → All (IsGoalDecided budget b) ds
+goals_decided budget b [] [] each z = All-nil (IsGoalDecided budget b)
+goals_decided budget b [] (d ∷ ds) each z = absurd z
+goals_decided budget b (g ∷ gs) [] each z = absurd z
+goals_decided budget b (g ∷ gs) (d ∷ ds) each z =
+    All-cons (IsGoalDecided budget b) d ds
+    (record { of_line = subst (IsGoalOf b) (sym z.0.goal_is) (All-head (IsGoalOf b) g gs each); shown = subst (λ (x : Goal). IsShown budget x.ob d.evidence) (sym z.0.goal_is) z.0.shown })
+    (goals_decided budget b gs ds (All-tail (IsGoalOf b) g gs each) z.1)
+
+-- the lines of the book, as they were decided
+pub lines_decided : (budget : ℕ) (b : Pair) (goals : List Goal) (ds : List Decided) (ts : List Told) → All (IsGoalOf b) goals → AllZip (IsDecided budget) goals ds → AllZip (Tells b) ds ts → AllZip (IsDecidedOn budget b) (map line_of goals) ts
+lines_decided budget b [] [] [] each z tell = tt
+lines_decided budget b [] [] (t ∷ ts) each z tell = tell
+lines_decided budget b [] (d ∷ ds) ts each z tell = absurd z
+lines_decided budget b (g ∷ gs) [] ts each z tell = absurd z
+lines_decided budget b (g ∷ gs) (d ∷ ds) [] each z tell = tell
+lines_decided budget b (g ∷ gs) (d ∷ ds) (t ∷ ts) each z tell =
+    let here : IsGoalDecided budget b d =
+    record { of_line = subst (IsGoalOf b) (sym z.0.goal_is) (All-head (IsGoalOf b) g gs each); shown = subst (λ (x : Goal). IsShown budget x.ob d.evidence) (sym z.0.goal_is) z.0.shown } in (
+      subst (λ (x : Goal). IsDecidedOn budget b x.line t) z.0.goal_is (told_line budget b d t here tell.0),
+      lines_decided budget b gs ds ts (All-tail (IsGoalOf b) g gs each) z.1 tell.1,
+    )

@@ -1,12 +1,15 @@
--- The lines that are asked for, with their obligations.
-use Rattle.std.specs.Prelude.{◌≡◌, ◌≢◌, ℕ, List, Option, Some, None, slice_get}
-use Rattle.std.specs.List.{All, AllZip}
+-- The goals that are asked for.
+use Rattle.std.specs.Prelude.{◌≡◌, ℕ, Bool, List, map}
+use Rattle.std.specs.List.{All}
+use Rattle.std.specs.Str.{bytes_eq}
 use Rattle.set_tree.specs.declared.line.Line.{Line}
 use Rattle.set_tree.specs.declared.set.Set.{Set}
 use Rattle.word_dag.specs.declared.ob.Named.{Named}
+use Rattle.line_laws.specs.Names.{line_name}
 use Rattle.binding.specs.Binding.{Pair}
-use Rattle.verdicts.specs.declared.decide.Decided.{Decided}
-use Rattle.verdicts.specs.Shown.{IsDecided}
+use Rattle.job_pool.specs.Shown.{IsShown}
+use Rattle.proof_store.specs.declared.goal.Decided.{Decided}
+use Rattle.proof_store.specs.declared.goal.Goal.{Goal}
 use Rattle.reports.specs.declared.which.Which.{Which}
 use Rattle.reports.specs.declared.which.Which.TheVariants as w
 use Rattle.line_obs.specs.Obligations.{IsObOf}
@@ -14,15 +17,29 @@ use Rattle.asked_lines.specs.declared.fault.LineFault.{LineFault}
 use Rattle.asked_lines.specs.declared.fault.LineFault.TheVariants as f
 use Rattle.asked_lines.specs.Decided.{AreAsked, IsLineNamed}
 
--- the place of an obligation of this name, or there is none
-abbrev pub IsPlace : List Named → List ℕ → Option ℕ → Type 0
-IsPlace obs name None = All (λ n. n.name ≢ name) obs
-IsPlace obs name (Some i) = (n : Named) × (slice_get obs i ≡ Some n) × (n.name ≡ name)
+abbrev pub line_of : Goal → Line
+line_of goal = goal.line
 
--- the lines that are asked for, with an obligation of each
-pub record Asks (b : Pair) (which : Which) (lines : List Line) (obs : List Named) : Type 0 where
-  pub asked : AreAsked which b.set lines
-  pub each : AllZip (IsObOf b) lines obs
+-- the obligation under the name of the goal's line
+abbrev pub named_of : Set → Goal → Named
+named_of set goal = record { name = line_name set goal.line; ob = goal.ob }
+
+-- the goal's obligation is one of its line
+abbrev pub IsGoalOf : Pair → Goal → Type 0
+IsGoalOf b goal = IsObOf b goal.line (named_of b.set goal)
+
+-- a goal for each of these lines, in order
+pub record AreGoalsOf (b : Pair) (lines : List Line) (goals : List Goal) : Type 0 where
+  pub lines_are : map line_of goals ≡ lines
+  pub each : All (IsGoalOf b) goals
+
+-- goals of the lines that are asked for
+pub record Asks (b : Pair) (which : Which) (goals : List Goal) : Type 0 where
+  pub asked : AreAsked which b.set (map line_of goals)
+  pub each : All (IsGoalOf b) goals
+
+abbrev pub has_name : Set → List ℕ → Line → Bool
+has_name set name line = bytes_eq (line_name set line) name
 
 -- no line has the name that is asked for
 abbrev pub LacksLine : Set → Which → LineFault → Type 0
@@ -36,8 +53,7 @@ RefusesLines set which f.NoLine = LacksLine set which f.NoLine
 RefusesLines set which f.Keeper = (lines : List Line) × AreAsked which set lines
 RefusesLines set which f.Memory = Unit {0}
 
--- an obligation of the line, decided
-pub record IsObDecided (budget : ℕ) (b : Pair) (line : Line) (d : Decided) : Type 0 where
-  pub named : Named
-  pub of_line : IsObOf b line named
-  pub decided : IsDecided budget named d
+-- a goal of a line, decided
+pub record IsGoalDecided (budget : ℕ) (b : Pair) (d : Decided) : Type 0 where
+  pub of_line : IsGoalOf b d.goal
+  pub shown : IsShown budget d.goal.ob d.evidence

@@ -10,7 +10,8 @@ use Rattle.line_designs.specs.Promises.{IsRefutable}
 use Rattle.job_pool.specs.Ample.{IsAmple}
 use Rattle.line_laws.specs.Names.{line_name}
 use Rattle.binding.specs.Binding.{Pair}
-use Rattle.verdicts.specs.Shown.{IsShown}
+use Rattle.job_pool.specs.Shown.{IsShown}
+use Rattle.proof_store.specs.declared.goal.Decided.{Decided}
 use Rattle.reports.specs.declared.book.Line.{Line as Told}
 use Rattle.reports.specs.declared.book.Verdict.{Verdict}
 use Rattle.reports.specs.declared.book.Verdict.TheVariants as v
@@ -49,6 +50,14 @@ pub record IsDecidedBy (Violated : Line → Type 0) (budget : ℕ) (b : Pair) (l
   pub verdict : d.verdict ≡ verdict_of d.evidence
   pub traced : IsTraceOf b line d.ob d.evidence d.trace
   pub says : Says (Violated line) d.verdict
+
+-- the line of the book tells how a goal was decided
+pub record Tells (b : Pair) (d : Decided) (told : Told) : Type 0 where
+  pub name : told.name ≡ line_name b.set d.goal.line
+  pub ob : told.ob ≡ d.goal.ob
+  pub evidence : told.evidence ≡ d.evidence
+  pub verdict : told.verdict ≡ verdict_of d.evidence
+  pub traced : IsTraceOf b d.goal.line d.goal.ob d.evidence told.trace
 
 -- right of the design
 abbrev pub IsDecidedOn : ℕ → Pair → Line → Told → Type 0

@@ -1,14 +1,12 @@
 -- Where the evidence of decided lines comes from, and what a keeper holds afterwards.
 use Rattle.std.specs.Prelude.{◌≡◌, ℕ, ◌+◌, ◌⊎◌, List, [], length, map, Option, IfSome}
 use Rattle.outside.specs.Tables.{Tables}
-use Rattle.set_tree.specs.declared.line.Line.{Line}
-use Rattle.word_dag.specs.declared.ob.Named.{Named}
 use Rattle.word_dag.specs.Nodes.{Parts}
 use Rattle.binding.specs.Binding.{Pair}
-use Rattle.verdicts.specs.declared.decide.Decided.{Decided}
-use Rattle.verdicts.specs.Shown.{ob_of}
 use Rattle.proof_store.specs.Counts.{FirstRose, draws_of}
+use Rattle.proof_store.specs.Goals.{Ended, ob_of}
 use Rattle.proof_store.specs.Kept.{CountsKept}
+use Rattle.proof_store.specs.declared.goal.Goal.{Goal}
 use Rattle.proof_store.specs.Stored.{AddsProofs, StoresNew, Told}
 use Rattle.reports.specs.declared.book.Book.{Book}
 use Rattle.reports.specs.declared.book.Line.{Line as Entered}
@@ -26,8 +24,8 @@ line_fault_of s.Memory = f.Memory
 abbrev pub line_ob : Entered → Parts
 line_ob l = l.ob
 
-abbrev pub decided_of : Entered → Decided
-decided_of l = record { name = l.name; ob = l.ob; evidence = l.evidence }
+abbrev pub ended_of : Entered → Ended
+ended_of l = record { ob = l.ob; evidence = l.evidence }
 
 -- The lines of a book were settled over a keeper: so many had a proof that was kept, so many were shown by helpers, the first of which was asked about
 -- each line that had none, and so many were left to these workers. The keeper holds the new proofs, and all else as before
@@ -35,15 +33,14 @@ pub record AreSettled (workers : ℕ) (book : Book) (before after : Option Table
   pub counts : book.kept + book.helped + book.solved ≡ length book.lines.items
   pub kept : IfSome before (λ t. CountsKept t (map line_ob book.lines.items) book.kept)
   pub draws : book.draws.items ≡ draws_of book.solved workers
-  pub stored : Told (StoresNew (map decided_of book.lines.items)) before after
+  pub stored : Told (StoresNew (map ended_of book.lines.items)) before after
   pub first : FirstRose (book.helped + book.solved) asked asked_after
 
 -- obligations of the lines that are asked for
 pub record AreObsOf (b : Pair) (which : Which) (obs : List Parts) : Type 0 where
-  pub lines : List Line
-  pub named : List Named
-  pub asked : Asks b which lines named
-  pub are : obs ≡ map ob_of named
+  pub goals : List Goal
+  pub asked : Asks b which goals
+  pub are : obs ≡ map ob_of goals
 
 -- each proof that differs is one of an obligation of the call, and all else is as before
 abbrev pub AddsProofsOf : (List Parts → Type 0) → Option Tables → Option Tables → Type 0

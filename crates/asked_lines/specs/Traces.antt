@@ -12,8 +12,8 @@ use Rattle.binding.specs.Binding.{Pair}
 use Rattle.replay.specs.declared.shown.Shown.{Shown}
 use Rattle.replay.specs.Segments.{AreViolatingCycles, ShowsSegment, first_values}
 use Rattle.replay.specs.Windows.{ShowsNamedWindows, ShowsWindows, declared_names}
-use Rattle.verdicts.specs.declared.decide.Evidence.{Evidence}
-use Rattle.verdicts.specs.declared.decide.Evidence.TheVariants as e
+use Rattle.job_pool.specs.declared.evidence.Evidence.{Evidence}
+use Rattle.job_pool.specs.declared.evidence.Evidence.TheVariants as e
 
 abbrev pub is_on_design : Line → Bool
 is_on_design (Base i) = true

@@ -1,9 +1,9 @@
 //! The lines that are asked for of a set that is bound to a design, decided; and what they say of modules whose runs the design has.
 #![tactic(auto)]
 
-mod asked;
 mod decide;
 mod fault;
+mod goals;
 mod law;
 mod trace;
 

@@ -2,15 +2,15 @@
 ghost use Rattle.std.specs.Prelude.{◌≡◌, ℕ, IfOk};
 ghost use Rattle.word_dag.specs.declared.ob.Named.{Named};
 ghost use Rattle.word_names.specs.Names.{naming_from};
-ghost use Rattle.verdicts.specs.Shown.{AreWitness, IsShown};
+ghost use Rattle.job_pool.specs.Shown.{AreWitness, IsShown};
 ghost use Rattle.line_obs.specs.Obligations.{IsObOf};
 ghost use Rattle.asked_lines.specs.Traces.{IsTraceOf, ShowsLine, is_on_design};
 
 use binding::Bound;
+use job_pool::Evidence;
 use replay::{Shown, replay, twin_trace};
 use set_tree::Line;
 use std::alloc::{AllocError, Global};
-use verdicts::Evidence;
 use word_dag::Ob;
 
 // Whether a line speaks of the design.

@@ -1,10 +1,10 @@
-mod Asking
-mod Faults
+pub mod Asking
+pub mod Faults
 mod Ordered
-mod Placed
+pub mod Placed
 mod Proving
 mod Seconds
 mod Storing
-mod Turns
+pub mod Turns
 mod Walking
 mod Wholes

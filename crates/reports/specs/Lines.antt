@@ -1,8 +1,8 @@
 -- How lines were decided.
 use Rattle.std.specs.Prelude.{Bool, true, false, List}
 use Rattle.std.specs.List.{list_all}
-use Rattle.verdicts.specs.declared.decide.Evidence.{Evidence}
-use Rattle.verdicts.specs.declared.decide.Evidence.TheVariants as e
+use Rattle.job_pool.specs.declared.evidence.Evidence.{Evidence}
+use Rattle.job_pool.specs.declared.evidence.Evidence.TheVariants as e
 use Rattle.reports.specs.declared.book.Line.{Line}
 use Rattle.reports.specs.declared.book.Verdict.{Verdict}
 use Rattle.reports.specs.declared.book.Verdict.TheVariants as v

@@ -5,7 +5,7 @@ ghost use Rattle.reports.specs.Lines.{verdict_of};
 use outside::Text;
 use replay::Shown;
 use std::alloc::Global;
-use verdicts::Evidence;
+use job_pool::Evidence;
 use word_dag::Ob;
 
 /// How a line was decided.

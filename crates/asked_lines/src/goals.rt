@@ -1,0 +1,115 @@
+// The goals that are asked for.
+ghost use Rattle.std.specs.Prelude.{◌≡◌, ◌∷◌, [], IfErr, IfOk};
+ghost use Rattle.std.specs.List.{AllZip};
+ghost use Rattle.set_tree.specs.Report.{design_lines};
+ghost use Rattle.line_obs.specs.Obligations.{IsObOf, all_lines};
+ghost use Rattle.reports.specs.declared.which.Which.TheVariants.{One};
+ghost use Rattle.asked_lines.specs.Asked.{AreGoalsOf, Asks, LacksLine, has_name};
+
+use crate::fault::LineFault;
+use binding::Bound;
+use line_laws::line_name;
+use line_obs::{obs_of_all, obs_of_design};
+use outside::Text;
+use proof_store::Goal;
+use reports::Which;
+use set_tree::{Line, Set};
+use std::alloc::{AllocError, Global};
+use twin_tests::lines_of as set_lines;
+use unroll::lines_of as design_lines;
+use word_dag::Named;
+
+// All lines, in the order of a report.
+fn all_lines(alloc: Global, bound: &Bound) -> Result<Vec<Line>, AllocError>
+    ensures { IfOk result (λ lines. lines.items ≡ all_lines bound.now.set) }
+{
+    let set = bound.set().set();
+    let mut lines = design_lines(alloc, set)?;
+    let mut more = set_lines(alloc, set)?;
+    lines.append(&mut more)?;
+    Ok(lines)
+}
+
+// Lines with their obligations, which come in the same order.
+fn joined(
+    alloc: Global,
+    bound: &Bound,
+    lines: &[Line],
+    obs: Vec<Named>,
+) -> Result<Vec<Goal>, AllocError>
+    requires { AllZip (IsObOf bound.now) lines.now obs.items }
+    ensures { IfOk result (λ goals. AreGoalsOf bound.now lines.now goals.items) }
+{
+    let mut goals = Vec::with_capacity(alloc, obs.len())?;
+    for named in obs {
+        let Named { ob, .. } = named;
+        let line = lines[goals.len()];
+        goals.push(Goal { line, ob })?;
+    }
+    Ok(goals)
+}
+
+// A goal for each line on the design.
+fn design_goals(alloc: Global, bound: &Bound) -> Result<Vec<Goal>, AllocError>
+    ensures { IfOk result (λ goals. AreGoalsOf bound.now (design_lines bound.now.set) goals.items) }
+{
+    let lines = design_lines(alloc, bound.set().set())?;
+    let obs = obs_of_design(alloc, bound)?;
+    joined(alloc, bound, lines.as_slice(), obs)
+}
+
+// A goal for each line.
+fn all_goals(alloc: Global, bound: &Bound) -> Result<Vec<Goal>, AllocError>
+    ensures { IfOk result (λ goals. AreGoalsOf bound.now (all_lines bound.now.set) goals.items) }
+{
+    let lines = all_lines(alloc, bound)?;
+    let obs = obs_of_all(alloc, bound)?;
+    joined(alloc, bound, lines.as_slice(), obs)
+}
+
+// Whether a line has this name.
+fn has_name(alloc: Global, set: &Set, line: Line, name: &[u8]) -> Result<bool, AllocError>
+    ensures { IfOk result (λ b. b ≡ has_name set.now name.now line) }
+{
+    let own = line_name(alloc, set, line)?;
+    Ok(own.bytes() == name)
+}
+
+fn only(alloc: Global, goal: Goal) -> Result<Vec<Goal>, AllocError>
+    ensures { IfOk result (λ goals. goals.items ≡ goal ∷ []) }
+{
+    let mut goals = Vec::new(alloc);
+    goals.push(goal)?;
+    Ok(goals)
+}
+
+// The goal of the line of this name.
+fn one_goal(alloc: Global, bound: &Bound, name: &Text) -> Result<Vec<Goal>, LineFault>
+    ensures ok { IfOk result (λ goals. Asks bound.now (One name.now) goals.items) }
+    ensures err { IfErr result (LacksLine bound.now.set (One name.now)) }
+{
+    let set = bound.set().set();
+    let all = all_goals(alloc, bound)?;
+    for goal in all {
+        if has_name(alloc, set, goal.line, name.bytes())? {
+            return Ok(only(alloc, goal)?);
+        }
+    }
+    Err(LineFault::NoLine)
+}
+
+/// The goals that are asked for, in the order of a report.
+pub(crate) fn asked_goals(
+    alloc: Global,
+    bound: &Bound,
+    which: &Which,
+) -> Result<Vec<Goal>, LineFault>
+    ensures ok { IfOk result (λ goals. Asks bound.now which.now goals.items) }
+    ensures err { IfErr result (LacksLine bound.now.set which.now) }
+{
+    match which {
+        Which::Ops => Ok(design_goals(alloc, bound)?),
+        Which::All => Ok(all_goals(alloc, bound)?),
+        Which::One(name) => one_goal(alloc, bound, name),
+    }
+}
