@@ -14,6 +14,7 @@ use Rattle.reports.specs.declared.book.Line.{Line as Told}
 use Rattle.reports.specs.declared.report.Report.{Report}
 use Rattle.reports.specs.declared.which.Which.{Which}
 use Rattle.reports.specs.Reports.{is_complete, report_text}
+use Rattle.asked_lines.specs.declared.fault.LineFault.{LineFault}
 use Rattle.asked_lines.specs.declared.fault.LineFault.TheVariants as l
 use Rattle.asked_lines.specs.Asked.{RefusesLines}
 use Rattle.asked_lines.specs.Settled.{AreObsOf}
@@ -34,6 +35,12 @@ pub record IsReport (module_text set_text : List ℕ) (which : Which) (budget : 
   pub runs : HasRunsFromReset from.modules bound.set.block bound.design bound.set
   pub satisfied : ProvesDesignLines bound.set lines decided → HoldsInRuns from.modules bound.set.block bound.set
   pub signed_off : r.complete ≡ true → SignsOff from.modules bound.set.block bound.set
+
+-- why no lines were decided, as the fault of a check
+abbrev pub check_fault_of : LineFault → CheckFault
+check_fault_of l.NoLine = f.NoLine
+check_fault_of l.Keeper = f.Keeper
+check_fault_of l.Memory = f.Memory
 
 -- no line has the name that was asked for; or the keeper of the proofs of those that were failed, or memory ran out
 abbrev pub RefusesAsked : Set → Which → CheckFault → Type 0

@@ -6,3 +6,4 @@ pub mod Quiet
 pub mod Signed
 pub mod Agreed
 pub mod Again
+pub mod Checkers

@@ -1,6 +1,6 @@
 // Blocks: their texts, and what was reported of them.
-ghost use Rattle.std.specs.Prelude.{◌≡◌, ◌≢◌, ◌≤◌, Err, IfOk, IfSome, OnErr, OnOk, None, Some, option_map};
-ghost use Rattle.outside.specs.Faults.{Rose};
+ghost use Rattle.std.specs.Prelude.{◌≡◌, ◌≢◌, Err, IfOk, IfSome, OnErr, OnOk, None, Some, option_map};
+ghost use Rattle.proof_store.specs.Provers.{Rises};
 ghost use Rattle.desk_core.specs.Blocks.{block_at, is_text, trace_at, unreported, with_module, with_set};
 ghost use Rattle.desk_core.specs.Quiet.{IsRefusal, IsTraced, Reads, StepsQuietly};
 ghost use Rattle.desk_core.specs.Steps.{GetsReport, GetsTrace, PutsModule, PutsSet};
@@ -57,8 +57,7 @@ fn unreported(alloc: Global, module: Option<Text>, set: Option<Text>) -> Block
 fn block_at<K: Keeper>(alloc: Global, keeper: &mut K, name: &[u8]) -> Result<Block, StoreFault>
     ensures block { IfOk result (λ block. IfSome (K.tables keeper.old) (λ t. block ≡ block_at name.now t)) }
     ensures same { K.tables keeper.new ≡ K.tables keeper.old }
-    ensures later { K.faults keeper.old ≤ K.faults keeper.new }
-    ensures keeper { result ≡ Err StoreFault.Keeper → Rose (K.faults keeper.old) (K.faults keeper.new) }
+    ensures faults { Rises (result ≡ Err StoreFault.Keeper) (K.faults keeper.old) (K.faults keeper.new) }
 {
     match keeper.block(alloc, name)? {
         Some(block) => Ok(block),
@@ -84,8 +83,7 @@ fn store_module<K: Keeper>(
 ) -> Result<(), StoreFault>
     ensures ok { OnOk result (K.tables keeper.new ≡ option_map (with_module name.now text.now) (K.tables keeper.old)) }
     ensures err { OnErr result (K.tables keeper.new ≡ K.tables keeper.old) }
-    ensures later { K.faults keeper.old ≤ K.faults keeper.new }
-    ensures keeper { result ≡ Err StoreFault.Keeper → Rose (K.faults keeper.old) (K.faults keeper.new) }
+    ensures faults { Rises (result ≡ Err StoreFault.Keeper) (K.faults keeper.old) (K.faults keeper.new) }
 {
     let held = block_at(alloc, keeper, name)?;
     if is_text(text, &held.module) {
@@ -106,8 +104,7 @@ fn store_set<K: Keeper>(
 ) -> Result<(), StoreFault>
     ensures ok { OnOk result (K.tables keeper.new ≡ option_map (with_set name.now text.now) (K.tables keeper.old)) }
     ensures err { OnErr result (K.tables keeper.new ≡ K.tables keeper.old) }
-    ensures later { K.faults keeper.old ≤ K.faults keeper.new }
-    ensures keeper { result ≡ Err StoreFault.Keeper → Rose (K.faults keeper.old) (K.faults keeper.new) }
+    ensures faults { Rises (result ≡ Err StoreFault.Keeper) (K.faults keeper.old) (K.faults keeper.new) }
 {
     let held = block_at(alloc, keeper, name)?;
     if is_text(text, &held.set) {
@@ -128,8 +125,7 @@ pub fn put_module<K: Keeper>(
 ) -> Result<Answer, StoreFault>
     ensures step { StepsQuietly (PutsModule name.now text.now) result (K.tables keeper.old) (K.tables keeper.new) }
     ensures err { OnErr result (K.tables keeper.new ≡ K.tables keeper.old) }
-    ensures later { K.faults keeper.old ≤ K.faults keeper.new }
-    ensures keeper { result ≡ Err StoreFault.Keeper → Rose (K.faults keeper.old) (K.faults keeper.new) }
+    ensures faults { Rises (result ≡ Err StoreFault.Keeper) (K.faults keeper.old) (K.faults keeper.new) }
 {
     match try_modules(alloc, text) {
         Ok(()) => {
@@ -149,8 +145,7 @@ pub fn put_set<K: Keeper>(
 ) -> Result<Answer, StoreFault>
     ensures step { StepsQuietly (PutsSet name.now text.now) result (K.tables keeper.old) (K.tables keeper.new) }
     ensures err { OnErr result (K.tables keeper.new ≡ K.tables keeper.old) }
-    ensures later { K.faults keeper.old ≤ K.faults keeper.new }
-    ensures keeper { result ≡ Err StoreFault.Keeper → Rose (K.faults keeper.old) (K.faults keeper.new) }
+    ensures faults { Rises (result ≡ Err StoreFault.Keeper) (K.faults keeper.old) (K.faults keeper.new) }
 {
     match try_set(alloc, text) {
         Ok(()) => {
@@ -169,8 +164,7 @@ pub fn report_of_block<K: Keeper>(
 ) -> Result<Answer, StoreFault>
     ensures step { StepsQuietly (Reads (GetsReport name.now)) result (K.tables keeper.old) (K.tables keeper.new) }
     ensures same { K.tables keeper.new ≡ K.tables keeper.old }
-    ensures later { K.faults keeper.old ≤ K.faults keeper.new }
-    ensures keeper { result ≡ Err StoreFault.Keeper → Rose (K.faults keeper.old) (K.faults keeper.new) }
+    ensures faults { Rises (result ≡ Err StoreFault.Keeper) (K.faults keeper.old) (K.faults keeper.new) }
 {
     match keeper.block(alloc, name)? {
         None => Ok(Answer::NoBlock),
@@ -213,8 +207,7 @@ pub fn trace_of_block<K: Keeper>(
 ) -> Result<Answer, StoreFault>
     ensures step { StepsQuietly (Reads (GetsTrace name.now line)) result (K.tables keeper.old) (K.tables keeper.new) }
     ensures same { K.tables keeper.new ≡ K.tables keeper.old }
-    ensures later { K.faults keeper.old ≤ K.faults keeper.new }
-    ensures keeper { result ≡ Err StoreFault.Keeper → Rose (K.faults keeper.old) (K.faults keeper.new) }
+    ensures faults { Rises (result ≡ Err StoreFault.Keeper) (K.faults keeper.old) (K.faults keeper.new) }
 {
     match keeper.block(alloc, name)? {
         None => Ok(Answer::NoBlock),

@@ -4,14 +4,14 @@
 
 mod acting;
 mod blocks;
+mod checker;
 mod checking;
 mod keeping;
 mod law;
 mod listing;
 mod signing;
 
-pub use acting::act;
-pub use checking::check;
+pub use checker::Checker;
 pub use law::{commands_repeat, empty_tables_are_a_desk, reports_agree, sign_offs_mean};
-pub use proof_store::Settings;
+pub use proof_store::{Prover, Settings};
 pub use reports::{Book, Line, Report, Verdict, Which};

@@ -1,6 +1,6 @@
 // Lists of blocks and sign-offs.
-ghost use Rattle.std.specs.Prelude.{◌≡◌, ◌≤◌, Err, OnErr};
-ghost use Rattle.outside.specs.Faults.{Rose};
+ghost use Rattle.std.specs.Prelude.{◌≡◌, Err, OnErr};
+ghost use Rattle.proof_store.specs.Provers.{Rises};
 ghost use Rattle.desk_core.specs.Quiet.{Reads, StepsQuietly};
 ghost use Rattle.desk_core.specs.Steps.{Lists, ListsSigns};
 
@@ -13,8 +13,7 @@ use std::alloc::Global;
 pub fn list_blocks<K: Keeper>(alloc: Global, keeper: &mut K) -> Result<Answer, StoreFault>
     ensures step { StepsQuietly (Reads Lists) result (K.tables keeper.old) (K.tables keeper.new) }
     ensures same { K.tables keeper.new ≡ K.tables keeper.old }
-    ensures later { K.faults keeper.old ≤ K.faults keeper.new }
-    ensures keeper { result ≡ Err StoreFault.Keeper → Rose (K.faults keeper.old) (K.faults keeper.new) }
+    ensures faults { Rises (result ≡ Err StoreFault.Keeper) (K.faults keeper.old) (K.faults keeper.new) }
 {
     let names = keeper.names(alloc)?;
     Ok(Answer::Names(Names::new(names)))
@@ -24,8 +23,7 @@ pub fn list_blocks<K: Keeper>(alloc: Global, keeper: &mut K) -> Result<Answer, S
 pub fn list_signs<K: Keeper>(alloc: Global, keeper: &mut K) -> Result<Answer, StoreFault>
     ensures step { StepsQuietly (Reads ListsSigns) result (K.tables keeper.old) (K.tables keeper.new) }
     ensures same { K.tables keeper.new ≡ K.tables keeper.old }
-    ensures later { K.faults keeper.old ≤ K.faults keeper.new }
-    ensures keeper { result ≡ Err StoreFault.Keeper → Rose (K.faults keeper.old) (K.faults keeper.new) }
+    ensures faults { Rises (result ≡ Err StoreFault.Keeper) (K.faults keeper.old) (K.faults keeper.new) }
 {
     let signs = keeper.signs(alloc)?;
     Ok(Answer::Signs(Signs::new(signs)))

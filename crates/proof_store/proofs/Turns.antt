@@ -77,3 +77,7 @@ proceeds_on before failed a b c first then = record {
   keeper = rises_on before failed a.faults b.faults c.faults first.keeper then.keeper;
   helpers = none_falls_on a.asked b.asked c.asked first.helpers then.helpers;
 }
+
+-- what came to no refusal of the keeper
+pub proceeds_well : (before failed : Type 0) (a b : Counts) → (failed → ⊥) → Proceeds before a b → Proceeds failed a b
+proceeds_well before failed a b never h = record { keeper = record { later = h.keeper.later; rose = λ f. absurd (never f) }; helpers = h.helpers }
