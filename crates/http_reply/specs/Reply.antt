@@ -5,8 +5,11 @@ use Rattle.std.specs.List.{flat_map}
 use Rattle.outside.specs.declared.rows.Sign.{Sign}
 use Rattle.desk_commands.specs.declared.command.Answer.{Answer}
 use Rattle.desk_commands.specs.declared.command.Answer.TheVariants.{Stored, Refused, NoBlock, NoText, NoReport, NoTrace, NotSigned, Reported, Traced, Signed, Names, Signs}
+use Rattle.http_request.specs.declared.wanted.PageFile.{PageFile}
+use Rattle.http_request.specs.declared.wanted.PageFile.TheVariants.{Html, Style, Script}
 use Rattle.http_request.specs.declared.refusal.Refusal.{Refusal}
 use Rattle.http_request.specs.declared.refusal.Refusal.TheVariants.{Head, LargeHead, Coding, Length, NoLength, Long, NoRoute, Method, Name}
+use Rattle.http_reply.specs.declared.page_files.TheConstants.{PAGE_CSS, PAGE_HTML, PAGE_JS}
 use Rattle.http_reply.specs.declared.replies.Reply.{Reply}
 
 -- the phrase of a status (RFC 9110, section 15)
@@ -91,6 +94,12 @@ reply_of (Traced text) = reply_with 200 text_plain text
 reply_of (Signed n) = reply_with 200 json (codes "{\"number\":" ++ decimal n ++ codes "}")
 reply_of (Names names) = reply_with 200 json (comma_list (map name_item names))
 reply_of (Signs signs) = reply_with 200 json (comma_list (map sign_item signs))
+
+-- the reply to a request for a file of the page: the file's bytes, with its kind (RFC 2046, 2318 and 9239)
+abbrev pub file_reply : PageFile → Reply
+file_reply Html = reply_with 200 (codes "text/html; charset=utf-8") PAGE_HTML.now
+file_reply Style = reply_with 200 (codes "text/css") PAGE_CSS.now
+file_reply Script = reply_with 200 (codes "text/javascript") PAGE_JS.now
 
 -- the reply to a request that is refused
 abbrev pub refusal_reply : Refusal → Reply

@@ -1,10 +1,11 @@
 // Replies.
 ghost use Rattle.std.specs.Prelude.{◌≡◌, ◌++◌, IfOk, OnOk, codes, decimal, map, length, string_bytes};
-ghost use Rattle.http_reply.specs.Reply.{error_with, head_bytes, header_line, status_line as status_line_of, phrase as phrase_of, keeper_reply as reply_at_fault, refusal_reply as reply_of_refusal, reply_of as reply_of_answer, reply_with};
+ghost use Rattle.http_reply.specs.Reply.{error_with, file_reply as reply_of_file, head_bytes, header_line, status_line as status_line_of, phrase as phrase_of, keeper_reply as reply_at_fault, refusal_reply as reply_of_refusal, reply_of as reply_of_answer, reply_with};
 
 use crate::body::{add_decimal, error_body, names_body, number_body, signs_body};
+use crate::page_files::{PAGE_CSS, PAGE_HTML, PAGE_JS};
 use desk_commands::Answer;
-use http_request::Refusal;
+use http_request::{PageFile, Refusal};
 use outside::Text;
 use std::alloc::{AllocError, Global};
 
@@ -24,6 +25,12 @@ pub const STARVED: &[u8] =
 const TEXT: &str = "text/plain";
 
 const JSON: &str = "application/json";
+
+const HTML: &str = "text/html; charset=utf-8";
+
+const CSS: &str = "text/css";
+
+const JAVASCRIPT: &str = "text/javascript";
 
 /// The reply to an answer of the desk. Refused only for want of memory.
 pub fn reply_of(alloc: Global, answer: &Answer) -> Result<Reply, AllocError>
@@ -59,6 +66,17 @@ pub fn refusal_reply(alloc: Global, refusal: Refusal) -> Result<Reply, AllocErro
         Refusal::NoRoute => error(alloc, 404, b"no route"),
         Refusal::Method => error(alloc, 405, b"method"),
         Refusal::Name => error(alloc, 400, b"name"),
+    }
+}
+
+/// The reply to a request for a file of the page. Refused only for want of memory.
+pub fn file_reply(alloc: Global, file: PageFile) -> Result<Reply, AllocError>
+    ensures { IfOk result (λ reply. reply ≡ reply_of_file file) }
+{
+    match file {
+        PageFile::Html => reply_with_body(alloc, 200, HTML, PAGE_HTML),
+        PageFile::Style => reply_with_body(alloc, 200, CSS, PAGE_CSS),
+        PageFile::Script => reply_with_body(alloc, 200, JAVASCRIPT, PAGE_JS),
     }
 }
 
