@@ -95,11 +95,20 @@ reply_of (Signed n) = reply_with 200 json (codes "{\"number\":" ++ decimal n ++ 
 reply_of (Names names) = reply_with 200 json (comma_list (map name_item names))
 reply_of (Signs signs) = reply_with 200 json (comma_list (map sign_item signs))
 
--- the reply to a request for a file of the page: the file's bytes, with its kind (RFC 2046, 2318 and 9239)
+-- what kind of text a file of the page is (RFC 2046, 2318 and 9239)
+abbrev pub kind_of : PageFile → List ℕ
+kind_of Html = codes "text/html; charset=utf-8"
+kind_of Style = codes "text/css"
+kind_of Script = codes "text/javascript"
+
+abbrev pub bytes_of : PageFile → List ℕ
+bytes_of Html = PAGE_HTML.now
+bytes_of Style = PAGE_CSS.now
+bytes_of Script = PAGE_JS.now
+
+-- the reply to a request for a file of the page
 abbrev pub file_reply : PageFile → Reply
-file_reply Html = reply_with 200 (codes "text/html; charset=utf-8") PAGE_HTML.now
-file_reply Style = reply_with 200 (codes "text/css") PAGE_CSS.now
-file_reply Script = reply_with 200 (codes "text/javascript") PAGE_JS.now
+file_reply file = reply_with 200 (kind_of file) (bytes_of file)
 
 -- the reply to a request that is refused
 abbrev pub refusal_reply : Refusal → Reply

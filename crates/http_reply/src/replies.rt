@@ -1,6 +1,6 @@
 // Replies.
 ghost use Rattle.std.specs.Prelude.{◌≡◌, ◌++◌, IfOk, OnOk, codes, decimal, map, length, string_bytes};
-ghost use Rattle.http_reply.specs.Reply.{error_with, file_reply as reply_of_file, head_bytes, header_line, status_line as status_line_of, phrase as phrase_of, keeper_reply as reply_at_fault, refusal_reply as reply_of_refusal, reply_of as reply_of_answer, reply_with};
+ghost use Rattle.http_reply.specs.Reply.{bytes_of as bytes_of_file, error_with, file_reply as reply_of_file, head_bytes, header_line, kind_of as kind_of_file, status_line as status_line_of, phrase as phrase_of, keeper_reply as reply_at_fault, refusal_reply as reply_of_refusal, reply_of as reply_of_answer, reply_with};
 
 use crate::body::{add_decimal, error_body, names_body, number_body, signs_body};
 use crate::page_files::{PAGE_CSS, PAGE_HTML, PAGE_JS};
@@ -25,12 +25,6 @@ pub const STARVED: &[u8] =
 const TEXT: &str = "text/plain";
 
 const JSON: &str = "application/json";
-
-const HTML: &str = "text/html; charset=utf-8";
-
-const CSS: &str = "text/css";
-
-const JAVASCRIPT: &str = "text/javascript";
 
 /// The reply to an answer of the desk. Refused only for want of memory.
 pub fn reply_of(alloc: Global, answer: &Answer) -> Result<Reply, AllocError>
@@ -73,10 +67,27 @@ pub fn refusal_reply(alloc: Global, refusal: Refusal) -> Result<Reply, AllocErro
 pub fn file_reply(alloc: Global, file: PageFile) -> Result<Reply, AllocError>
     ensures { IfOk result (λ reply. reply ≡ reply_of_file file) }
 {
+    reply_with_body(alloc, 200, kind_of(file), bytes_of(file))
+}
+
+/// What kind of text the file is (RFC 2046, 2318 and 9239).
+fn kind_of(file: PageFile) -> &'static str
+    ensures { result.now ≡ kind_of_file file }
+{
     match file {
-        PageFile::Html => reply_with_body(alloc, 200, HTML, PAGE_HTML),
-        PageFile::Style => reply_with_body(alloc, 200, CSS, PAGE_CSS),
-        PageFile::Script => reply_with_body(alloc, 200, JAVASCRIPT, PAGE_JS),
+        PageFile::Html => "text/html; charset=utf-8",
+        PageFile::Style => "text/css",
+        PageFile::Script => "text/javascript",
+    }
+}
+
+fn bytes_of(file: PageFile) -> &'static [u8]
+    ensures { result.now ≡ bytes_of_file file }
+{
+    match file {
+        PageFile::Html => PAGE_HTML,
+        PageFile::Style => PAGE_CSS,
+        PageFile::Script => PAGE_JS,
     }
 }
 
