@@ -22,7 +22,7 @@ import time
 TOP = os.path.dirname(os.path.dirname(os.path.abspath(__file__)))
 CRATE = f"{TOP}/crates/http_reply"
 FILES = {"PAGE_HTML": "page.html", "PAGE_CSS": "page.css", "PAGE_JS": "page.js"}
-PATIENCE = 60
+PATIENCE = 120
 
 
 class Wrong(Exception):
@@ -155,7 +155,7 @@ def free_port():
 def served_desk(program, folder):
     """A new desk and its port."""
     port = free_port()
-    words = [program, "serve", str(port), "1000", f"{folder}/desk.db", "--timeout", "2"]
+    words = [program, "serve", str(port), "1000", f"{folder}/desk.db", "--timeout", "2", "--replied"]
     desk = subprocess.Popen(words, stdin=subprocess.DEVNULL, stdout=subprocess.DEVNULL)
     until = time.monotonic() + PATIENCE
     while True:

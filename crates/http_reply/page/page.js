@@ -134,18 +134,19 @@ function mark(line) {
 /** A table with a row for each name; a cell has the marks of the lines that `cell` finds. */
 function table([title, note], rows, columns, cell) {
   const head = columns.map(it => el("th", { scope: "col" }, it));
-  const body = rows.map(row => el("tr", {}, el("th", { scope: "row" }, row), ...columns.map(column => el("td", {}, ...cell(row, column).map(mark)))));
+  const body = rows.map(row => el("tr", {}, el("th", { scope: "row" }, row),
+    ...columns.map(column => el("td", {}, ...cell(row, column).map(mark)))));
   return el("div", { class: "group" }, el("h4", {}, title), el("p", { class: "quiet" }, note),
-    el("div", { class: "wide" }, el("table", { "aria-label": title }, el("thead", {}, el("tr", {}, el("td"), ...head)), el("tbody", {}, ...body))));
+    el("div", { class: "wide" }, el("table", { "aria-label": title },
+      el("thead", {}, el("tr", {}, el("td"), ...head)), el("tbody", {}, ...body))));
 }
 
 function open_lines(lines) {
   const open = lines.filter(line => line.verdict !== "proved");
   return el("ul", { class: "open", "aria-label": "Lines that aren't proved" }, ...open.map(line => el("li", {},
-    line.verdict === "spent" ? el("span", { class: "spent", title: "The solver's steps ran out" }, `spent ${line.name}`) : el("button", {
-      type: "button", class: "refuted", "data-line": line.number, "aria-pressed": "false",
-      title: "Show the waveform", onclick: () => show_trace(line),
-    }, line.name))));
+    line.verdict === "spent" ? el("span", { class: "spent", title: "The solver's steps ran out" }, `spent ${line.name}`)
+      : el("button", { type: "button", class: "refuted", "data-line": line.number, "aria-pressed": "false",
+        title: "Show the waveform", onclick: () => show_trace(line) }, line.name))));
 }
 
 function report_tables(lines) {
@@ -157,7 +158,8 @@ function report_tables(lines) {
     tables.push(table(["Invariants", "after reset; from cycle to cycle"], invariants, ["base", "step"],
       (row, column) => [named.get(`${column} ${row}`)]));
   }
-  tables.push(table(["Operations", "the block; then what the set says"], properties, ["block", "end", "split", "same-end", "determine"].filter(it => it === "block" || after(it).length),
+  const kinds = ["end", "split", "same-end", "determine"].filter(it => after(it).length);
+  tables.push(table(["Operations", "the block; then what the set says"], properties, ["block", ...kinds],
     (row, column) => [named.get(column !== "block" ? `${column} ${row}` : row === "reset" ? row : `op ${row}`)]));
   if (after("choose").length + after("hand").length) {
     tables.push(table(["Edges", "choose, hand: from row to column"], properties, operations,
@@ -230,20 +232,25 @@ function wave(values, differs, is_bit, y, cell, told) {
       const rise = from && values[from - 1] !== values[from] ? `M${left} ${low + high - at}V${at}` : `M${left} ${at}`;
       parts.push(draw("path", { class: `wave${kind}`, d: `${rise}H${right}` }));
     } else {
-      parts.push(draw("path", { class: `bus${kind}`, d: `M${left} ${mid}L${left + 4} ${high}H${right - 4}L${right} ${mid}L${right - 4} ${low}H${left + 4}Z` }),
+      const box = `M${left} ${mid}L${left + 4} ${high}H${right - 4}L${right} ${mid}L${right - 4} ${low}H${left + 4}Z`;
+      parts.push(draw("path", { class: `bus${kind}`, d: box }),
         draw("text", { x: (left + right) / 2, y: mid + 4, "text-anchor": "middle" }, told(values[from])));
     }
   }
   return parts;
 }
 
-/** A window as a picture; `differs` says of each signal and cycle whether the other window has another value, `told` how to write one. */
+/**
+ * A window as a picture: `differs` says of each signal and cycle whether the other window has another value,
+ * `told` how to write one.
+ */
 function window_picture(window, differs, widths, told, cell) {
   const height = TOP + window.names.length * ROW, width = window.cycles.length * cell;
   const side = Math.max(6, ...window.names.map(name => name.length)) * 7.3 + 14;
   const names = draw("svg", { width: side, height, "aria-hidden": "true" }, draw("text", { class: "dim", x: 0, y: 15 }, "cycle"));
+  const which = window.title && ` of the ${window.title} window`;
   const waves = draw("svg", { width: width + 1, height, role: "img",
-    "aria-label": `Waveform${window.title && ` of the ${window.title} window`}: ${counted(window.cycles.length, "cycle")} of ${window.names.join(", ")}` });
+    "aria-label": `Waveform${which}: ${counted(window.cycles.length, "cycle")} of ${window.names.join(", ")}` });
   window.cycles.forEach((cycle, at) => {
     if (cycle < 0) waves.append(draw("rect", { class: "reset", x: at * cell, y: 0, width: cell, height }));
     waves.append(draw("path", { class: "grid", d: `M${at * cell + .5} ${TOP - 4}V${height}` }),
@@ -259,7 +266,8 @@ function window_picture(window, differs, widths, told, cell) {
     waves.append(...wave(values, differs[at], is_bit, y, cell, told));
   });
   return el("div", { class: "window" }, window.title ? el("h4", {}, `${window.title} window`) : "",
-    el("div", { class: "waves" }, names, el("div", { class: "scroll", tabindex: "0", role: "region", "aria-label": "Waveform, scrolls sideways" }, waves)));
+    el("div", { class: "waves" }, names,
+      el("div", { class: "scroll", tabindex: "0", role: "region", "aria-label": "Waveform, scrolls sideways" }, waves)));
 }
 
 /** Where the two windows of a trace differ, by signal and cycle. */
@@ -268,18 +276,27 @@ function differences(windows) {
   return one.names.map((_, at) => one.rows.map((row, cycle) => Boolean(two) && row[at] !== two.rows[cycle]?.[at]));
 }
 
+/** In which signals and cycles two windows differ, in words. */
+function told_differences(windows, differs) {
+  if (windows.length < 2) return "";
+  const apart = windows[0].names.map((name, at) => [name, windows[0].cycles.filter((_, cycle) => differs[at][cycle])]);
+  const told = apart.filter(([, cycles]) => cycles.length).map(([name, cycles]) => `${name} (cycle ${cycles.join(", ")})`);
+  return told.length ? `The windows differ in ${told.join("; ")}.` : "The windows don't differ in a declared name.";
+}
+
 function draw_trace() {
   const { starts, windows } = trace_of(trace.text);
   const differs = differences(windows), hex = $("base").value === "16";
   const told = value => hex ? `0x${BigInt(value).toString(16)}` : value;
-  const apart = windows[0].names.map((name, at) => [name, windows[0].cycles.filter((_, cycle) => differs[at][cycle])]).filter(([, cycles]) => cycles.length);
   const widest = Math.max(...windows.flatMap(it => it.rows.flat()).map(it => told(it).length));
   const cell = Math.max(46, widest * 7.4 + 16);
-  $("trace-note").textContent = windows.length < 2 ? ""
-    : apart.length ? `The windows differ in ${apart.map(([name, cycles]) => `${name} (cycle ${cycles.join(", ")})`).join("; ")}.` : "The windows don't differ in a declared name.";
-  const registers = starts.length ? [el("h4", {}, "Registers in the first cycle"),
-    el("dl", { class: "starts" }, ...starts.map(([name, value]) => el("div", {}, el("dt", {}, name), el("dd", {}, told(value)))))] : [];
-  $("trace-body").replaceChildren(...windows.map(it => window_picture(it, differs, widths_of(texts_of(shown).set), told, cell)), ...registers);
+  const widths = widths_of(texts_of(shown).set);
+  const registers = starts.map(([name, value]) => el("div", {}, el("dt", {}, name), el("dd", {}, told(value))));
+  $("trace-note").textContent = told_differences(windows, differs);
+  $("trace-body").replaceChildren(...windows.map(it => window_picture(it, differs, widths, told, cell)));
+  if (registers.length) {
+    $("trace-body").append(el("h4", {}, "Registers in the first cycle"), el("dl", { class: "starts" }, ...registers));
+  }
   $("trace-text").textContent = trace.text;
 }
 
@@ -351,7 +368,8 @@ function rim(node, from) {
 function arrow(path, tip, from, attributes) {
   const turn = Math.atan2(tip.y - from.y, tip.x - from.x);
   const corner = side => `${tip.x - 9 * Math.cos(turn + side)},${tip.y - 9 * Math.sin(turn + side)}`;
-  return draw("g", attributes, draw("path", { d: path }), draw("polygon", { points: `${tip.x},${tip.y} ${corner(.4)} ${corner(-.4)}` }));
+  const head = `${tip.x},${tip.y} ${corner(.4)} ${corner(-.4)}`;
+  return draw("g", attributes, draw("path", { d: path }), draw("polygon", { points: head }));
 }
 
 function edge(one, two, attributes) {
@@ -386,11 +404,12 @@ function show_graph(set, report) {
     nodes.push(draw("g", { class: `node ${verdict}`, tabindex: "0", role: "img",
       "aria-label": `${name}${verdict && `, ${verdict}`}; next: ${next.join(", ")}`,
       onfocus: () => look(name), onblur: () => look(null), onpointerenter: () => look(name), onpointerleave: () => look(null) },
-      draw("rect", { x: place.x - place.half, y: place.y - NODE / 2, width: place.half * 2, height: NODE, rx: name === "reset" ? 4 : NODE / 2 }),
+      draw("rect", { x: place.x - place.half, y: place.y - NODE / 2, width: place.half * 2, height: NODE,
+        rx: name === "reset" ? 4 : NODE / 2 }),
       draw("text", { x: place.x, y: place.y + 4, "text-anchor": "middle" }, name)));
   }
-  const all = [...places.values()];
-  const left = Math.min(...all.map(it => it.x - Math.max(it.half, 34))) - 8, right = Math.max(...all.map(it => it.x + Math.max(it.half, 34))) + 8;
+  const all = [...places.values()], half = Math.max(34, ...all.map(it => it.half)) + 8;
+  const left = Math.min(...all.map(it => it.x)) - half, right = Math.max(...all.map(it => it.x)) + half;
   const top = Math.min(...all.map(it => it.y)) - 62, bottom = Math.max(...all.map(it => it.y)) + 62;
   picture.setAttribute("viewBox", `${left} ${top} ${right - left} ${bottom - top}`);
   picture.setAttribute("width", right - left);
@@ -472,7 +491,8 @@ function list_blocks() {
   $("no-blocks").hidden = names.length > 0;
   $("blocks").replaceChildren(...names.map(name => {
     const [verdict, words] = state_of(blocks.get(name));
-    return el("li", {}, el("button", { type: "button", "aria-current": name === shown ? "true" : null, onclick: () => go_to(name) },
+    const now = name === shown ? "true" : null;
+    return el("li", {}, el("button", { type: "button", "aria-current": now, onclick: () => go_to(name) },
       el("span", {}, name), el("span", { class: `state ${verdict}` }, words)));
   }));
 }

@@ -99,7 +99,9 @@ pub const PAGE_HTML: &[u8] = b"<!DOCTYPE html>
     <section id=\"trace\" aria-labelledby=\"trace-title\" hidden>
       <div class=\"head\">
         <h3 id=\"trace-title\" tabindex=\"-1\"></h3>
-        <label class=\"base\">Values <select id=\"base\"><option value=\"10\">decimal</option><option value=\"16\">hexadecimal</option></select></label>
+        <label class=\"base\">Values
+          <select id=\"base\"><option value=\"10\">decimal</option><option value=\"16\">hexadecimal</option></select>
+        </label>
         <button type=\"button\" id=\"trace-close\">Close</button>
       </div>
       <p id=\"trace-note\" class=\"quiet\"></p>
@@ -157,7 +159,10 @@ h2:focus, h3:focus, main:focus { outline: none; }
 .skip { position: absolute; left: -99rem; }
 .skip:focus { left: 1rem; top: .5rem; background: var(--card); padding: .3rem .8rem; z-index: 2; }
 
-header { display: flex; gap: 1.5rem; align-items: baseline; padding: .8rem 1.5rem; border-bottom: 1px solid var(--line); background: var(--card); }
+header {
+  display: flex; gap: 1.5rem; align-items: baseline; padding: .8rem 1.5rem; border-bottom: 1px solid var(--line);
+  background: var(--card);
+}
 header p { color: var(--quiet); font-size: .9rem; min-height: 1.4em; }
 #gone { display: flex; gap: 1rem; align-items: center; padding: .6rem 1.5rem; background: var(--refuted-wash); color: var(--refuted); }
 .desk { display: grid; grid-template-columns: 15rem minmax(0, 1fr); }
@@ -192,7 +197,10 @@ progress { flex: 1; max-width: 24rem; accent-color: var(--accent); }
 #blocks button[aria-current=true] { background: var(--wash); font-weight: 600; }
 #add { margin-top: 1rem; display: grid; gap: .3rem; }
 #add label { font-size: .85rem; color: var(--quiet); }
-.state { font-size: .78rem; font-weight: 600; border-radius: 99px; padding: .05rem .55rem; background: var(--wash); color: var(--quiet); white-space: nowrap; }
+.state {
+  font-size: .78rem; font-weight: 600; border-radius: 99px; padding: .05rem .55rem; background: var(--wash); color: var(--quiet);
+  white-space: nowrap;
+}
 .state.proved { background: var(--proved-wash); color: var(--proved); }
 .state.refuted, .open .refuted { background: var(--refuted-wash); color: var(--refuted); }
 .state.spent, .open .spent { background: var(--spent-wash); color: var(--spent); }
@@ -216,7 +224,10 @@ textarea {
   padding: .6rem .7rem; resize: vertical;
 }
 textarea[aria-invalid=true] { border-color: var(--refuted); }
-pre { font: 13px/1.5 var(--mono); background: var(--paper); border: 1px solid var(--line); border-radius: 6px; padding: .6rem .7rem; overflow: auto; max-height: 26rem; margin: .5rem 0; }
+pre {
+  font: 13px/1.5 var(--mono); background: var(--paper); border: 1px solid var(--line); border-radius: 6px; padding: .6rem .7rem;
+  overflow: auto; max-height: 26rem; margin: .5rem 0;
+}
 details > summary:not(:has(h3)) { color: var(--quiet); font-size: .85rem; margin-top: .9rem; }
 
 .meter { display: flex; height: .5rem; border-radius: 99px; overflow: hidden; gap: 2px; margin: .2rem 0; }
@@ -234,7 +245,10 @@ table { border-collapse: collapse; font-size: .88rem; }
 th, td { padding: .22rem .7rem; border-bottom: 1px solid var(--line); text-align: center; white-space: nowrap; }
 thead th { font-weight: 500; color: var(--quiet); font-size: .82rem; vertical-align: bottom; }
 tbody th { font: 13px/1.5 var(--mono); text-align: left; position: sticky; left: 0; background: var(--card); padding-left: 0; }
-.mark { position: relative; display: inline-block; min-width: 1.6em; margin: 0 1px; padding: 0 .15em; border-radius: 4px; border: 0; background: none; line-height: 1.5; }
+.mark {
+  position: relative; display: inline-block; min-width: 1.6em; margin: 0 1px; padding: 0 .15em; border-radius: 4px; border: 0;
+  background: none; line-height: 1.5;
+}
 .mark.proved { color: var(--proved); }
 .mark.spent { color: var(--spent); background: var(--spent-wash); font-weight: 700; }
 .mark.refuted { color: var(--card); background: var(--refuted); font-weight: 700; }
@@ -430,18 +444,19 @@ function mark(line) {
 /** A table with a row for each name; a cell has the marks of the lines that `cell` finds. */
 function table([title, note], rows, columns, cell) {
   const head = columns.map(it => el(\"th\", { scope: \"col\" }, it));
-  const body = rows.map(row => el(\"tr\", {}, el(\"th\", { scope: \"row\" }, row), ...columns.map(column => el(\"td\", {}, ...cell(row, column).map(mark)))));
+  const body = rows.map(row => el(\"tr\", {}, el(\"th\", { scope: \"row\" }, row),
+    ...columns.map(column => el(\"td\", {}, ...cell(row, column).map(mark)))));
   return el(\"div\", { class: \"group\" }, el(\"h4\", {}, title), el(\"p\", { class: \"quiet\" }, note),
-    el(\"div\", { class: \"wide\" }, el(\"table\", { \"aria-label\": title }, el(\"thead\", {}, el(\"tr\", {}, el(\"td\"), ...head)), el(\"tbody\", {}, ...body))));
+    el(\"div\", { class: \"wide\" }, el(\"table\", { \"aria-label\": title },
+      el(\"thead\", {}, el(\"tr\", {}, el(\"td\"), ...head)), el(\"tbody\", {}, ...body))));
 }
 
 function open_lines(lines) {
   const open = lines.filter(line => line.verdict !== \"proved\");
   return el(\"ul\", { class: \"open\", \"aria-label\": \"Lines that aren't proved\" }, ...open.map(line => el(\"li\", {},
-    line.verdict === \"spent\" ? el(\"span\", { class: \"spent\", title: \"The solver's steps ran out\" }, `spent ${line.name}`) : el(\"button\", {
-      type: \"button\", class: \"refuted\", \"data-line\": line.number, \"aria-pressed\": \"false\",
-      title: \"Show the waveform\", onclick: () => show_trace(line),
-    }, line.name))));
+    line.verdict === \"spent\" ? el(\"span\", { class: \"spent\", title: \"The solver's steps ran out\" }, `spent ${line.name}`)
+      : el(\"button\", { type: \"button\", class: \"refuted\", \"data-line\": line.number, \"aria-pressed\": \"false\",
+        title: \"Show the waveform\", onclick: () => show_trace(line) }, line.name))));
 }
 
 function report_tables(lines) {
@@ -453,7 +468,8 @@ function report_tables(lines) {
     tables.push(table([\"Invariants\", \"after reset; from cycle to cycle\"], invariants, [\"base\", \"step\"],
       (row, column) => [named.get(`${column} ${row}`)]));
   }
-  tables.push(table([\"Operations\", \"the block; then what the set says\"], properties, [\"block\", \"end\", \"split\", \"same-end\", \"determine\"].filter(it => it === \"block\" || after(it).length),
+  const kinds = [\"end\", \"split\", \"same-end\", \"determine\"].filter(it => after(it).length);
+  tables.push(table([\"Operations\", \"the block; then what the set says\"], properties, [\"block\", ...kinds],
     (row, column) => [named.get(column !== \"block\" ? `${column} ${row}` : row === \"reset\" ? row : `op ${row}`)]));
   if (after(\"choose\").length + after(\"hand\").length) {
     tables.push(table([\"Edges\", \"choose, hand: from row to column\"], properties, operations,
@@ -526,20 +542,25 @@ function wave(values, differs, is_bit, y, cell, told) {
       const rise = from && values[from - 1] !== values[from] ? `M${left} ${low + high - at}V${at}` : `M${left} ${at}`;
       parts.push(draw(\"path\", { class: `wave${kind}`, d: `${rise}H${right}` }));
     } else {
-      parts.push(draw(\"path\", { class: `bus${kind}`, d: `M${left} ${mid}L${left + 4} ${high}H${right - 4}L${right} ${mid}L${right - 4} ${low}H${left + 4}Z` }),
+      const box = `M${left} ${mid}L${left + 4} ${high}H${right - 4}L${right} ${mid}L${right - 4} ${low}H${left + 4}Z`;
+      parts.push(draw(\"path\", { class: `bus${kind}`, d: box }),
         draw(\"text\", { x: (left + right) / 2, y: mid + 4, \"text-anchor\": \"middle\" }, told(values[from])));
     }
   }
   return parts;
 }
 
-/** A window as a picture; `differs` says of each signal and cycle whether the other window has another value, `told` how to write one. */
+/**
+ * A window as a picture: `differs` says of each signal and cycle whether the other window has another value,
+ * `told` how to write one.
+ */
 function window_picture(window, differs, widths, told, cell) {
   const height = TOP + window.names.length * ROW, width = window.cycles.length * cell;
   const side = Math.max(6, ...window.names.map(name => name.length)) * 7.3 + 14;
   const names = draw(\"svg\", { width: side, height, \"aria-hidden\": \"true\" }, draw(\"text\", { class: \"dim\", x: 0, y: 15 }, \"cycle\"));
+  const which = window.title && ` of the ${window.title} window`;
   const waves = draw(\"svg\", { width: width + 1, height, role: \"img\",
-    \"aria-label\": `Waveform${window.title && ` of the ${window.title} window`}: ${counted(window.cycles.length, \"cycle\")} of ${window.names.join(\", \")}` });
+    \"aria-label\": `Waveform${which}: ${counted(window.cycles.length, \"cycle\")} of ${window.names.join(\", \")}` });
   window.cycles.forEach((cycle, at) => {
     if (cycle < 0) waves.append(draw(\"rect\", { class: \"reset\", x: at * cell, y: 0, width: cell, height }));
     waves.append(draw(\"path\", { class: \"grid\", d: `M${at * cell + .5} ${TOP - 4}V${height}` }),
@@ -555,7 +576,8 @@ function window_picture(window, differs, widths, told, cell) {
     waves.append(...wave(values, differs[at], is_bit, y, cell, told));
   });
   return el(\"div\", { class: \"window\" }, window.title ? el(\"h4\", {}, `${window.title} window`) : \"\",
-    el(\"div\", { class: \"waves\" }, names, el(\"div\", { class: \"scroll\", tabindex: \"0\", role: \"region\", \"aria-label\": \"Waveform, scrolls sideways\" }, waves)));
+    el(\"div\", { class: \"waves\" }, names,
+      el(\"div\", { class: \"scroll\", tabindex: \"0\", role: \"region\", \"aria-label\": \"Waveform, scrolls sideways\" }, waves)));
 }
 
 /** Where the two windows of a trace differ, by signal and cycle. */
@@ -564,18 +586,27 @@ function differences(windows) {
   return one.names.map((_, at) => one.rows.map((row, cycle) => Boolean(two) && row[at] !== two.rows[cycle]?.[at]));
 }
 
+/** In which signals and cycles two windows differ, in words. */
+function told_differences(windows, differs) {
+  if (windows.length < 2) return \"\";
+  const apart = windows[0].names.map((name, at) => [name, windows[0].cycles.filter((_, cycle) => differs[at][cycle])]);
+  const told = apart.filter(([, cycles]) => cycles.length).map(([name, cycles]) => `${name} (cycle ${cycles.join(\", \")})`);
+  return told.length ? `The windows differ in ${told.join(\"; \")}.` : \"The windows don't differ in a declared name.\";
+}
+
 function draw_trace() {
   const { starts, windows } = trace_of(trace.text);
   const differs = differences(windows), hex = $(\"base\").value === \"16\";
   const told = value => hex ? `0x${BigInt(value).toString(16)}` : value;
-  const apart = windows[0].names.map((name, at) => [name, windows[0].cycles.filter((_, cycle) => differs[at][cycle])]).filter(([, cycles]) => cycles.length);
   const widest = Math.max(...windows.flatMap(it => it.rows.flat()).map(it => told(it).length));
   const cell = Math.max(46, widest * 7.4 + 16);
-  $(\"trace-note\").textContent = windows.length < 2 ? \"\"
-    : apart.length ? `The windows differ in ${apart.map(([name, cycles]) => `${name} (cycle ${cycles.join(\", \")})`).join(\"; \")}.` : \"The windows don't differ in a declared name.\";
-  const registers = starts.length ? [el(\"h4\", {}, \"Registers in the first cycle\"),
-    el(\"dl\", { class: \"starts\" }, ...starts.map(([name, value]) => el(\"div\", {}, el(\"dt\", {}, name), el(\"dd\", {}, told(value)))))] : [];
-  $(\"trace-body\").replaceChildren(...windows.map(it => window_picture(it, differs, widths_of(texts_of(shown).set), told, cell)), ...registers);
+  const widths = widths_of(texts_of(shown).set);
+  const registers = starts.map(([name, value]) => el(\"div\", {}, el(\"dt\", {}, name), el(\"dd\", {}, told(value))));
+  $(\"trace-note\").textContent = told_differences(windows, differs);
+  $(\"trace-body\").replaceChildren(...windows.map(it => window_picture(it, differs, widths, told, cell)));
+  if (registers.length) {
+    $(\"trace-body\").append(el(\"h4\", {}, \"Registers in the first cycle\"), el(\"dl\", { class: \"starts\" }, ...registers));
+  }
   $(\"trace-text\").textContent = trace.text;
 }
 
@@ -647,7 +678,8 @@ function rim(node, from) {
 function arrow(path, tip, from, attributes) {
   const turn = Math.atan2(tip.y - from.y, tip.x - from.x);
   const corner = side => `${tip.x - 9 * Math.cos(turn + side)},${tip.y - 9 * Math.sin(turn + side)}`;
-  return draw(\"g\", attributes, draw(\"path\", { d: path }), draw(\"polygon\", { points: `${tip.x},${tip.y} ${corner(.4)} ${corner(-.4)}` }));
+  const head = `${tip.x},${tip.y} ${corner(.4)} ${corner(-.4)}`;
+  return draw(\"g\", attributes, draw(\"path\", { d: path }), draw(\"polygon\", { points: head }));
 }
 
 function edge(one, two, attributes) {
@@ -682,11 +714,12 @@ function show_graph(set, report) {
     nodes.push(draw(\"g\", { class: `node ${verdict}`, tabindex: \"0\", role: \"img\",
       \"aria-label\": `${name}${verdict && `, ${verdict}`}; next: ${next.join(\", \")}`,
       onfocus: () => look(name), onblur: () => look(null), onpointerenter: () => look(name), onpointerleave: () => look(null) },
-      draw(\"rect\", { x: place.x - place.half, y: place.y - NODE / 2, width: place.half * 2, height: NODE, rx: name === \"reset\" ? 4 : NODE / 2 }),
+      draw(\"rect\", { x: place.x - place.half, y: place.y - NODE / 2, width: place.half * 2, height: NODE,
+        rx: name === \"reset\" ? 4 : NODE / 2 }),
       draw(\"text\", { x: place.x, y: place.y + 4, \"text-anchor\": \"middle\" }, name)));
   }
-  const all = [...places.values()];
-  const left = Math.min(...all.map(it => it.x - Math.max(it.half, 34))) - 8, right = Math.max(...all.map(it => it.x + Math.max(it.half, 34))) + 8;
+  const all = [...places.values()], half = Math.max(34, ...all.map(it => it.half)) + 8;
+  const left = Math.min(...all.map(it => it.x)) - half, right = Math.max(...all.map(it => it.x)) + half;
   const top = Math.min(...all.map(it => it.y)) - 62, bottom = Math.max(...all.map(it => it.y)) + 62;
   picture.setAttribute(\"viewBox\", `${left} ${top} ${right - left} ${bottom - top}`);
   picture.setAttribute(\"width\", right - left);
@@ -768,7 +801,8 @@ function list_blocks() {
   $(\"no-blocks\").hidden = names.length > 0;
   $(\"blocks\").replaceChildren(...names.map(name => {
     const [verdict, words] = state_of(blocks.get(name));
-    return el(\"li\", {}, el(\"button\", { type: \"button\", \"aria-current\": name === shown ? \"true\" : null, onclick: () => go_to(name) },
+    const now = name === shown ? \"true\" : null;
+    return el(\"li\", {}, el(\"button\", { type: \"button\", \"aria-current\": now, onclick: () => go_to(name) },
       el(\"span\", {}, name), el(\"span\", { class: `state ${verdict}` }, words)));
   }));
 }
