@@ -1,5 +1,5 @@
 -- The options and the plain words among words.
-use Rattle.std.specs.Prelude.{ℕ, Bool, ◌&&◌, not, nat_eq, List, [], ◌∷◌, ◌++◌, drop, codes, Option, Some, None, is_none, is_some, if◌then◌else◌}
+use Rattle.std.specs.Prelude.{ℕ, Bool, true, false, ◌&&◌, not, nat_eq, List, [], ◌∷◌, ◌++◌, drop, codes, Option, Some, None, is_none, is_some, if◌then◌else◌}
 use Rattle.std.specs.List.{starts_with}
 use Rattle.std.specs.Str.{bytes_eq}
 use Rattle.command_words.specs.declared.chosen.Choice.{Choice}
@@ -12,14 +12,15 @@ pub record Choices : Type 0 where
   pub workers : Option ℕ
   pub store : Option (List ℕ)
   pub timeout : Option ℕ
+  pub replied : Bool
   pub plain : List (List ℕ)
 
 abbrev pub nothing : Choices
-nothing = record { budget = None; workers = None; store = None; timeout = None; plain = [] }
+nothing = record { budget = None; workers = None; store = None; timeout = None; replied = false; plain = [] }
 
 -- no option is given that tells how a desk is served
 abbrev pub serves_by_default : Choices → Bool
-serves_by_default c = is_none c.timeout
+serves_by_default c = is_none c.timeout && not c.replied
 
 -- no option is given
 abbrev pub has_no_options : Choices → Bool
@@ -41,6 +42,10 @@ abbrev pub with_timeout : Option ℕ → Choices → Option Choices
 with_timeout None c = None
 with_timeout (Some n) c = if is_some c.timeout then None else Some (record c { timeout = Some n })
 
+-- the option that has no value is given, and wasn't yet
+abbrev pub with_replied : Choices → Option Choices
+with_replied c = if c.replied then None else Some (record c { replied = true })
+
 abbrev pub given : Choice → List ℕ → Choices → Option Choices
 given Budget word c = with_budget (number_within 1 10000000 word) c
 given Workers word c = with_workers (number_within 1 64 word) c
@@ -58,11 +63,13 @@ all_plain (w ∷ ws) c = all_plain ws (with_plain w c)
 abbrev pub is_hyphened : List ℕ → Bool
 is_hyphened word = starts_with nat_eq word (45 ∷ [])
 
--- what a word is: `--` ends the options; `--x` waits for its value, and `--x=v` has it; any other word that begins with `-` and isn't `-` alone is wrong
+-- what a word is: `--` ends the options; `--x` waits for its value, and `--x=v` has it; `--replied` has none; any other word that begins with `-` and
+-- isn't `-` alone is wrong
 pub data Kind : Type 0 where
   ends : Kind
   waits : Choice → Kind
   gives : Choice → List ℕ → Kind
+  flag : Kind
   wrong : Kind
   plain : Kind
 
@@ -92,6 +99,7 @@ kind_named word None = other_kind word
 abbrev pub kind_of : List ℕ → Kind
 kind_of word =
     if bytes_eq word (codes "--") then ends
+    else if bytes_eq word (codes "--replied") then flag
     else kind_named word (named word)
 
 abbrev pub and_then : Option Choices → (Choices → Option Choices) → Option Choices
@@ -107,6 +115,7 @@ chosen (w ∷ ws) None c = elim (kind_of w) [
   | ends ↦ Some (all_plain ws c)
   | waits o ↦ chosen ws (Some o) c
   | gives o v ↦ and_then (given o v c) (chosen ws None)
+  | flag ↦ and_then (with_replied c) (chosen ws None)
   | wrong ↦ None
   | plain ↦ chosen ws None (with_plain w c)
 ]

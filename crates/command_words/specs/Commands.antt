@@ -31,7 +31,7 @@ migrate_of choices file = if has_no_options choices then Some (c.Migrate file) e
 
 -- a desk that is served takes no other file of proofs than its own
 abbrev pub service_of : ℕ → ℕ → List ℕ → Choices → Service
-service_of port count file c = record { port = port; count = count; file = file; timeout = unwrap_or c.timeout 10; budget = unwrap_or c.budget 20000; workers = unwrap_or c.workers 4 }
+service_of port count file c = record { port = port; count = count; file = file; timeout = unwrap_or c.timeout 10; replied = c.replied; budget = unwrap_or c.budget 20000; workers = unwrap_or c.workers 4 }
 
 abbrev pub serve_within : Option ℕ → Option ℕ → List ℕ → Choices → Option Command
 serve_within (Some port) (Some count) file choices = Some (c.Serve (service_of port count file choices))

@@ -3,15 +3,16 @@ use Rattle.std.specs.Prelude.{◌<◌, ◌≤◌, IfSome}
 use Rattle.command_words.specs.declared.chosen.Chosen.{Chosen}
 use Rattle.command_words.specs.declared.choices.Kind.{Kind as View}
 use Rattle.command_words.specs.declared.choices.Kind.TheVariants as v
-use Rattle.command_words.specs.Choices.{Choices, Kind, ends, gives, plain, waits, wrong}
+use Rattle.command_words.specs.Choices.{Choices, Kind, ends, flag, gives, plain, waits, wrong}
 
 abbrev pub choices_of : Chosen → Choices
-choices_of c = record { budget = c.budget; workers = c.workers; store = c.store; timeout = c.timeout; plain = c.plain.items }
+choices_of c = record { budget = c.budget; workers = c.workers; store = c.store; timeout = c.timeout; replied = c.replied; plain = c.plain.items }
 
 abbrev pub kind_meant : View → Kind
 kind_meant v.Ends = ends
 kind_meant (v.Waits o) = waits o
 kind_meant (v.Gives o w) = gives o w.now
+kind_meant v.Replied = flag
 kind_meant v.Wrong = wrong
 kind_meant v.Plain = plain
 

@@ -36,14 +36,15 @@ pub struct Job {
 }
 
 /// The port that is listened at (1 to 65,535), how many connections are served (1 to 1,000,000), the file that holds the desk, how many seconds a peer has
-/// for its request and as many for taking the reply (1 to 3,600, 10 where no option says), and for the desk's checks the most steps of the solver for a line
-/// and the workers, as for a job.
+/// for its request and as many for taking the reply (1 to 3,600, 10 where no option says), whether connections without a reply don't count, and for the desk's
+/// checks the most steps of the solver for a line and the workers, as for a job.
 #[derive(Drop)]
 pub struct Service {
     pub port: u16,
     pub count: u32,
     pub file: Text,
     pub timeout: u32,
+    pub replied: bool,
     pub budget: u64,
     pub workers: u32,
 }

@@ -1,6 +1,6 @@
 // Options and plain words.
 ghost use Rattle.std.specs.Prelude.{◌≡◌, ◌≤◌, None, drop, length, map, option_map, string_bytes, IfOk, IfSome};
-ghost use Rattle.command_words.specs.Choices.{all_plain, chosen, given, is_hyphened, kind_of, named, other_kind, with_budget, with_plain, with_store, with_timeout, with_workers};
+ghost use Rattle.command_words.specs.Choices.{all_plain, chosen, given, is_hyphened, kind_of, named, other_kind, with_budget, with_plain, with_replied, with_store, with_timeout, with_workers};
 ghost use Rattle.command_words.specs.Numbers.{number_within};
 ghost use Rattle.command_words.specs.Seen.{AreBounded, choices_of, kind_meant};
 
@@ -18,6 +18,8 @@ pub enum Kind<'a> {
     Waits(Choice),
     /// An option with its value.
     Gives(Choice, &'a [u8]),
+    /// The option that connections without a reply don't count.
+    Replied,
     Wrong,
     Plain,
 }
@@ -70,6 +72,9 @@ fn kind_of(word: &[u8]) -> Kind<'_>
 {
     if word == b"--".as_slice() {
         return Kind::Ends;
+    }
+    if word == b"--replied".as_slice() {
+        return Kind::Replied;
     }
     match named(word) {
         Some(choice) => Kind::Waits(choice),
@@ -130,6 +135,21 @@ fn with_timeout(word: &[u8], so_far: Chosen) -> Option<Chosen>
     }
     Some(Chosen {
         timeout: Some(value as u32),
+        ..so_far
+    })
+}
+
+// Choices with the option that has no value, where it isn't given yet.
+fn with_replied(so_far: Chosen) -> Option<Chosen>
+    requires { AreBounded (choices_of so_far) }
+    ensures is { option_map choices_of result ≡ with_replied (choices_of so_far) }
+    ensures bounded { IfSome result (λ c. AreBounded (choices_of c)) }
+{
+    if so_far.replied {
+        return None;
+    }
+    Some(Chosen {
+        replied: true,
         ..so_far
     })
 }
@@ -213,6 +233,10 @@ pub fn choices_in(
                     }
                     Kind::Waits(choice) => choices_in(alloc, rest, Some(choice), so_far),
                     Kind::Gives(choice, value) => match given(alloc, choice, value, so_far)? {
+                        Some(so_far) => choices_in(alloc, rest, None, so_far),
+                        None => Ok(None),
+                    },
+                    Kind::Replied => match with_replied(so_far) {
                         Some(so_far) => choices_in(alloc, rest, None, so_far),
                         None => Ok(None),
                     },

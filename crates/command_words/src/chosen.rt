@@ -25,6 +25,7 @@ pub struct Chosen {
     pub workers: Option<u32>,
     pub store: Option<Text>,
     pub timeout: Option<u32>,
+    pub replied: bool,
     pub plain: Vec<Text>,
 }
 
@@ -33,7 +34,7 @@ impl Chosen {
     pub fn serves_by_default(&self) -> bool
         ensures { result ≡ serves_by_default (choices_of self.now) }
     {
-        self.timeout.is_none()
+        self.timeout.is_none() && !self.replied
     }
 
     /// Whether no option is given.

@@ -117,6 +117,7 @@ fn service_of(
         count,
         file: Text::copy(alloc, file.bytes())?,
         timeout: choices.timeout.unwrap_or(10),
+        replied: choices.replied,
         budget: choices.budget.unwrap_or(20_000),
         workers: choices.workers.unwrap_or(4),
     })
@@ -170,9 +171,9 @@ fn with_plain_words(
     }
 }
 
-/// The command that words spell. The first one is its name. Options stand anywhere after it, each at most once, as `--x v` or `--x=v`; a value of the
-/// first form doesn't begin with `-`. The word `--` ends the options, and before it any other word that begins with `-` and isn't `-` alone is wrong.
-/// A number is 1 to 10 decimal digits and nothing else. None: the words are no command.
+/// The command that words spell. The first one is its name. Options stand anywhere after it, each at most once, as `--x v` or `--x=v`, or as
+/// `--replied`, which has no value; a value of the first form doesn't begin with `-`. The word `--` ends the options, and before it any other word
+/// that begins with `-` and isn't `-` alone is wrong. A number is 1 to 10 decimal digits and nothing else. None: the words are no command.
 pub fn command_in(alloc: Global, words: &[String]) -> Result<Option<Command>, AllocError>
     ensures is { IfOk result (λ o. o ≡ command_of (map string_bytes words.now)) }
     ensures bounded { IfOk result (λ o. IfSome o IsBounded) }
@@ -187,6 +188,7 @@ pub fn command_in(alloc: Global, words: &[String]) -> Result<Option<Command>, Al
                     workers: None,
                     store: None,
                     timeout: None,
+                    replied: false,
                     plain: Vec::new(alloc),
                 };
                 match choices_in(alloc, rest, None, nothing)? {

@@ -1,5 +1,5 @@
 -- Connections served one after another by the desk that a keeper holds.
-use Rattle.std.specs.Prelude.{◌<◌, ◌≤◌, ℕ, zero, suc, List, Option, Result, Ok, Err}
+use Rattle.std.specs.Prelude.{◌≡◌, ◌⊎◌, ◌<◌, ◌≤◌, ◌-◌, ◌^◌, ℕ, zero, suc, Bool, true, false, List, Option, Result, Ok, Err}
 use Rattle.outside.specs.Faults.{Rose}
 use Rattle.outside.specs.Port.{Wire}
 use Rattle.outside.specs.Tables.{Tables}
@@ -8,11 +8,13 @@ use Rattle.desk_commands.specs.declared.command.Command.{Command}
 use Rattle.desk_commands.specs.declared.fault.DeskFault.{DeskFault}
 use Rattle.desk_commands.specs.declared.fault.DeskFault.TheVariants as f
 use Rattle.http_connection.specs.declared.serve.Served.{Served}
+use Rattle.http_connection.specs.declared.serve.Served.TheVariants.{Replied, Cut, Broken}
 use Rattle.http_connection.specs.declared.serve.ServeFault.{ServeFault}
 use Rattle.http_connection.specs.Serve.{Serves}
 use Rattle.reports.specs.declared.book.Book.{Book}
 use Rattle.desk_core.specs.States.{IsDesk}
 use Rattle.desk_core.specs.Steps.{IsLeft, Leaves, Steps, desk}
+use Rattle.desk_http.specs.declared.serving.Quota.{Quota}
 use Rattle.proof_store.specs.Counts.{NoneFalls}
 use Rattle.proof_store.specs.Stored.{Told}
 
@@ -58,16 +60,35 @@ line wire faults = record { wire = wire; faults = faults }
 abbrev pub ServesOne : ℕ → ℕ → Line → State → Result Served ServeFault → Line → State → Type 0
 ServesOne budget workers v d result w e = Serves (Acts budget workers) v.wire w.wire v.faults w.faults d e result
 
--- so many connections were served one after another, each with the port and the desk as the one before left them
-pub data ServesMany (budget workers : ℕ) (v : Line) (d : State) : ℕ → Line → State → Type 0 where
-  none : ServesMany budget workers v d zero v d
-  next : {n : ℕ} {u w : Line} {c e : State} (served : Served) → ServesMany budget workers v d n u c → ServesOne budget workers u c (Ok served) w e → ServesMany budget workers v d (suc n) w e
+-- one more connection counts: each does, or those alone that got a reply
+abbrev pub counted : Bool → Served → ℕ → ℕ
+counted false served n = suc n
+counted true (Replied s) n = suc n
+counted true Cut n = n
+counted true Broken n = n
 
--- fewer than so many were served, and the next one couldn't be taken
-pub record StopsWithin (budget workers count : ℕ) (v : Line) (d : State) (fault : ServeFault) (w : Line) (e : State) : Type 0 where
+-- so many connections were served one after another, each with the port and the desk as the one before left them, and so many of them count
+pub data ServesMany (budget workers : ℕ) (replied : Bool) (v : Line) (d : State) : ℕ → ℕ → Line → State → Type 0 where
+  none : ServesMany budget workers replied v d zero zero v d
+  next : {taken n : ℕ} {u w : Line} {c e : State} (served : Served) → ServesMany budget workers replied v d taken n u c → ServesOne budget workers u c (Ok served) w e → ServesMany budget workers replied v d (suc taken) (counted replied served n) w e
+
+-- the quota is filled; where replies alone count, 2 ^ 64 - 1 connections are enough in any case
+abbrev pub Fills : Quota → ℕ → ℕ → Type 0
+Fills q taken n = (n ≡ q.count) ⊎ ((q.replied ≡ true) × (taken ≡ 2 ^ 64 - 1))
+
+-- connections were served until the quota was filled, so many of which count
+pub record ServesQuota (budget workers : ℕ) (q : Quota) (v : Line) (d : State) (n : ℕ) (w : Line) (e : State) : Type 0 where
+  pub most : n ≤ q.count
+  pub taken : ℕ
+  pub many : ServesMany budget workers q.replied v d taken n w e
+  pub fills : Fills q taken n
+
+-- the quota wasn't filled yet, and the next one couldn't be taken
+pub record StopsWithin (budget workers : ℕ) (q : Quota) (v : Line) (d : State) (fault : ServeFault) (w : Line) (e : State) : Type 0 where
   pub served : ℕ
-  pub fewer : served < count
+  pub fewer : served < q.count
+  pub taken : ℕ
   pub port : Line
   pub desk : State
-  pub before : ServesMany budget workers v d served port desk
+  pub before : ServesMany budget workers q.replied v d taken served port desk
   pub last : ServesOne budget workers port desk (Err fault) w e

@@ -3,4 +3,4 @@
 
 mod serving;
 
-pub use serving::{serve, serve_one};
+pub use serving::{Quota, serve, serve_one};

@@ -1,7 +1,7 @@
 // Connections served one after another.
-ghost use Rattle.std.specs.Prelude.{◌≡◌, IfErr, OnErr, OnOk, map};
+ghost use Rattle.std.specs.Prelude.{◌≡◌, ◌<◌, ◌≤◌, IfErr, IfOk, OnErr, OnOk, map};
 ghost use Rattle.outside.specs.Faults.{Rose};
-ghost use Rattle.desk_http.specs.Serving.{Acts, Keeps, ServesMany, ServesOne, StopsWithin, line, state};
+ghost use Rattle.desk_http.specs.Serving.{Acts, Keeps, ServesOne, ServesQuota, StopsWithin, counted, line, state};
 
 use desk_commands::{Answer, Command, DeskFault};
 use desk_core::act;
@@ -59,29 +59,56 @@ pub fn serve_one<R: Threads + Sync, P: Port, K: Keeper, H: Helper, G: Gate + Syn
     }
 }
 
-/// Serves so many connections, one after another, by the desk that the keeper holds: each finds the tables and the book as the one before left them. A
-/// connection that the peer broke off or that failed counts as one. Whoever begins with a desk whose reports are of its texts ends with one.
+/// How many connections are served, and whether those alone count that got a reply.
+#[derive(Clone, Copy)]
+pub struct Quota {
+    pub count: u32,
+    pub replied: bool,
+}
+
+impl Quota {
+    /// The number of connections that count, with one more that came to this.
+    fn counted(&self, served: Served, so_far: u32) -> u32
+        requires { so_far < self.now.count }
+        ensures value { result ≡ counted self.now.replied served so_far }
+        ensures most { result ≤ self.now.count }
+    {
+        if self.replied && !matches!(served, Served::Replied { .. }) {
+            return so_far;
+        }
+        so_far + 1
+    }
+}
+
+/// Serves connections, one after another, by the desk that the keeper holds, until so many count, and says how many: each finds the tables and the book as the
+/// one before left them. A connection that the peer broke off or that failed counts as any other, or not at all, as the quota says; where it doesn't, 2^64 - 1
+/// connections are enough in any case. Whoever begins with a desk whose reports are of its texts ends with one.
 ///
 /// It stops at the first connection that can't be taken, and is refused as `serve_one` is.
 pub fn serve<R: Threads + Sync, P: Port, K: Keeper, H: Helper, G: Gate + Sync>(
     rt: &R,
     alloc: Global,
-    count: u32,
+    quota: Quota,
     port: &mut P,
     settings: &Settings,
     keeper: &mut K,
     helpers: &mut Vec<H>,
     gate: &G,
     book: &mut Book,
-) -> Result<(), ServeFault>
-    ensures ok { OnOk result (ServesMany settings.now.budget settings.now.workers (line (P.wire port.old) (P.faults port.old)) (state (K.tables keeper.old) (K.faults keeper.old) (map H.asked helpers.old.items) book.old) count (line (P.wire port.new) (P.faults port.new)) (state (K.tables keeper.new) (K.faults keeper.new) (map H.asked helpers.new.items) book.new)) }
-    ensures err { IfErr result (λ fault. StopsWithin settings.now.budget settings.now.workers count (line (P.wire port.old) (P.faults port.old)) (state (K.tables keeper.old) (K.faults keeper.old) (map H.asked helpers.old.items) book.old) fault (line (P.wire port.new) (P.faults port.new)) (state (K.tables keeper.new) (K.faults keeper.new) (map H.asked helpers.new.items) book.new)) }
+) -> Result<u32, ServeFault>
+    ensures ok { IfOk result (λ n. ServesQuota settings.now.budget settings.now.workers quota (line (P.wire port.old) (P.faults port.old)) (state (K.tables keeper.old) (K.faults keeper.old) (map H.asked helpers.old.items) book.old) n (line (P.wire port.new) (P.faults port.new)) (state (K.tables keeper.new) (K.faults keeper.new) (map H.asked helpers.new.items) book.new)) }
+    ensures err { IfErr result (λ fault. StopsWithin settings.now.budget settings.now.workers quota (line (P.wire port.old) (P.faults port.old)) (state (K.tables keeper.old) (K.faults keeper.old) (map H.asked helpers.old.items) book.old) fault (line (P.wire port.new) (P.faults port.new)) (state (K.tables keeper.new) (K.faults keeper.new) (map H.asked helpers.new.items) book.new)) }
     ensures keeps { Keeps (state (K.tables keeper.old) (K.faults keeper.old) (map H.asked helpers.old.items) book.old) (state (K.tables keeper.new) (K.faults keeper.new) (map H.asked helpers.new.items) book.new) }
     ensures next_ok { OnOk result (P.next_faults port.new ≡ P.next_faults port.old) }
     ensures next_err { OnErr result (Rose (P.next_faults port.old) (P.next_faults port.new)) }
 {
-    for _served in 0..count {
-        serve_one(rt, alloc, port, settings, keeper, helpers, gate, book)?;
+    let mut served = 0;
+    for _taken in 0..u64::MAX {
+        if served == quota.count {
+            return Ok(served);
+        }
+        let one = serve_one(rt, alloc, port, settings, keeper, helpers, gate, book)?;
+        served = quota.counted(one, served);
     }
-    Ok(())
+    Ok(served)
 }

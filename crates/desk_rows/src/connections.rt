@@ -3,6 +3,8 @@ use desk_commands::{Answer, Command, DeskFault, Names, Signs};
 use http_connection::{
     Incoming, Request, ServeFault, Served, Take, one_request, read_request, receive, reply_to,
 };
+use http_reply::{PAGE_CSS, PAGE_HTML, PAGE_JS};
+use http_request::Wanted;
 use outside::{MemPort, Port, Text};
 use std::alloc::{AllocError, Global};
 use std::process::Abort;
@@ -95,9 +97,19 @@ fn serve_one(
 
 /// A port with one connection, on which these bytes come. The calls of these numbers fail.
 fn port(alloc: Global, sent: &[u8], fails: &[u64]) -> Result<MemPort, AllocError> {
+    port_with_room(alloc, sent, 512, fails)
+}
+
+/// Such a port, with room for a reply of so many bytes.
+fn port_with_room(
+    alloc: Global,
+    sent: &[u8],
+    room: usize,
+    fails: &[u64],
+) -> Result<MemPort, AllocError> {
     let mut peers = Vec::new(alloc);
     peers.push(Text::copy(alloc, sent)?)?;
-    MemPort::new(alloc, peers, 512, fails.to_vec(alloc)?)
+    MemPort::new(alloc, peers, room, fails.to_vec(alloc)?)
 }
 
 /// Serves a connection on which these bytes come, and says whether the reply has the status and ends so.
@@ -165,6 +177,30 @@ fn each_route_has_its_command(rt: HostRuntime) -> Result<(), Fail> {
     let mut desk = desk(rt.alloc());
     replies(&rt, &mut desk, ROUTES)?;
     assert!(rt; desk.acts == 8 && desk.line == 12 && desk.text.bytes() == b"ab".as_slice());
+    Ok(())
+}
+
+/// Asks for a file of the page, and says whether the reply ends with these bytes.
+fn gives_file(
+    alloc: Global,
+    desk: &mut NamedAnswers,
+    target: &str,
+    file: &[u8],
+) -> Result<bool, AllocError> {
+    let sent = format!(in alloc; "GET {target} HTTP/1.1\r\nAccept: */*\r\n\r\n")?;
+    let mut port = port_with_room(alloc, sent.as_bytes(), 65_536, &[])?;
+    let served = serve_one(alloc, &mut port, desk);
+    Ok(served == Ok(Served::Replied { status: 200 }) && port.reply(0).ends_with(file))
+}
+
+#[test]
+fn the_page_is_sent_without_the_desk(rt: HostRuntime) -> Result<(), Fail> {
+    let alloc = rt.alloc();
+    let mut desk = desk(alloc);
+    assert!(rt; gives_file(alloc, &mut desk, "/", PAGE_HTML)?);
+    assert!(rt; gives_file(alloc, &mut desk, "/page.css?1", PAGE_CSS)?);
+    assert!(rt; gives_file(alloc, &mut desk, "/page.js", PAGE_JS)?);
+    assert!(rt; desk.acts == 0);
     Ok(())
 }
 
@@ -266,6 +302,21 @@ const HEADS: &[Row] = &[
         "GET /blocks/c1/trace/ HTTP/1.1\r\n\r\n",
         404,
         "\r\n\r\n{\"error\":\"no route\"}",
+    ),
+    (
+        "GET // HTTP/1.1\r\n\r\n",
+        404,
+        "\r\n\r\n{\"error\":\"no route\"}",
+    ),
+    (
+        "GET /page.html HTTP/1.1\r\n\r\n",
+        404,
+        "\r\n\r\n{\"error\":\"no route\"}",
+    ),
+    (
+        "POST / HTTP/1.1\r\n\r\n",
+        405,
+        "\r\n\r\n{\"error\":\"method\"}",
     ),
     (
         "GET blocks HTTP/1.1\r\n\r\n",
@@ -467,7 +518,7 @@ fn a_request_is_read(rt: HostRuntime) -> Result<(), Fail> {
     assert!(rt; port.next() == Ok(()));
     let asked = matches!(
         read_request(alloc, &mut port),
-        Take::Whole(Request::Asked(Command::PutModule { .. }))
+        Take::Whole(Request::Asked(Wanted::Act(Command::PutModule { .. })))
     );
     assert!(rt; asked);
     one_request();

@@ -1,6 +1,8 @@
 use desk_commands::{Answer, Names, Signs};
-use http_reply::{Reply, STARVED, keeper_reply, refusal_reply, reply_of};
-use http_request::Refusal;
+use http_reply::{
+    PAGE_CSS, PAGE_HTML, PAGE_JS, Reply, STARVED, file_reply, keeper_reply, refusal_reply, reply_of,
+};
+use http_request::{PageFile, Refusal};
 use outside::{Sign, Text};
 use std::alloc::{AllocError, Global};
 use std::process::Abort;
@@ -106,6 +108,24 @@ fn a_desk_that_fails_has_its_reply(rt: HostRuntime) -> Result<(), Fail> {
             == b"HTTP/1.1 507 Insufficient Storage\r\nContent-Length: 0\r\nConnection: close\r\n\r\n".as_slice()
     );
     Ok(())
+}
+
+/// Wants this reply to a request for a file of the page.
+fn sent(
+    rt: &(impl Abort + AllocGlobal),
+    file: PageFile,
+    kind: &str,
+    bytes: &[u8],
+) -> Result<(), Fail> {
+    let body = str::from_utf8(bytes).map_err(|_| "no UTF-8")?;
+    replied(rt, &file_reply(rt.alloc(), file)?, (200, "OK", kind, body))
+}
+
+#[test]
+fn each_file_of_the_page_has_its_reply(rt: HostRuntime) -> Result<(), Fail> {
+    sent(&rt, PageFile::Html, "text/html; charset=utf-8", PAGE_HTML)?;
+    sent(&rt, PageFile::Style, "text/css", PAGE_CSS)?;
+    sent(&rt, PageFile::Script, "text/javascript", PAGE_JS)
 }
 
 /// Wants this reply to an answer.

@@ -1,6 +1,7 @@
 use desk_commands::Command;
 use http_request::{
-    More, Place, Reading, Refusal, asked, command_of, front_len, read_head, read_some,
+    More, PageFile, Place, Reading, Refusal, Wanted, asked, front_len, read_head, read_some,
+    wanted_of,
 };
 use httparse::spans::EMPTY_HEADER_SPAN;
 use outside::{MemPort, Port, Text};
@@ -65,14 +66,18 @@ fn a_head_is_refused_by_its_first_cause(rt: HostRuntime) -> Result<(), Fail> {
 }
 
 #[test]
-fn an_order_gives_its_command(rt: HostRuntime) -> Result<(), Fail> {
+fn an_order_gives_what_is_asked_for(rt: HostRuntime) -> Result<(), Fail> {
     let alloc = rt.alloc();
     let place = Place::Trace(b"c1", b"12");
-    let is_trace = match command_of(alloc, place, b"")? {
-        Command::GetTrace { name, line } => name.bytes() == b"c1".as_slice() && line == 12,
+    let is_trace = match wanted_of(alloc, place, b"")? {
+        Wanted::Act(Command::GetTrace { name, line }) => {
+            name.bytes() == b"c1".as_slice() && line == 12
+        }
         _ => false,
     };
     assert!(rt; is_trace);
+    let file = wanted_of(alloc, Place::File(PageFile::Style), b"")?;
+    assert!(rt; matches!(file, Wanted::File(PageFile::Style)));
     Ok(())
 }
 

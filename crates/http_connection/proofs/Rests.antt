@@ -13,7 +13,7 @@ use Rattle.http_request.specs.Front.{front, is_full}
 use Rattle.http_request.specs.Reading.{TakesBytes, OnlyRead, IsNoHead}
 use Rattle.http_request.proofs.Taken.{takes_more, takes_all, step_twice}
 use Rattle.http_request.specs.Fields.{Pair}
-use Rattle.http_request.specs.Asked.{Order, asked, asked_of, command_of}
+use Rattle.http_request.specs.Asked.{Order, asked, asked_of, wanted_of}
 use Rattle.http_connection.specs.Request.{BeginsWith, after_head, Asks, IsRefused, NeedsMore}
 use Rattle.http_connection.specs.Rest.{TakesBody, TakesRest}
 use Rattle.http_connection.specs.Serve.{Takes}
@@ -44,7 +44,7 @@ module _ (bytes : List ℕ) (headers : List HeaderSpan) (spans : RequestSpans) (
 
   pub rest_of_body : (old new : Option Wire) (before now : ℕ) (t : Take)
       → TakesBody old new before now (drop spans.len bytes) order.place order.count t → TakesRest old new before now bytes t
-  rest_of_body old new before now (Whole (Asked command)) body =
+  rest_of_body old new before now (Whole (Asked wanted)) body =
       let d = body.0 in
       let after = drop spans.len bytes in (
         d,
@@ -55,7 +55,7 @@ module _ (bytes : List ℕ) (headers : List HeaderSpan) (spans : RequestSpans) (
           begins_still bytes d of.0 begins,
           asked_here,
           subst (λ (l : List ℕ). order.count ≤ length l) (sym (after_is d)) (enough order.count after d body.2),
-          body.3 ∙ ap (command_of order.place) (sym (filled_is order.count after d body.2) ∙ ap (take order.count) (sym (after_is d))),
+          body.3 ∙ ap (wanted_of order.place) (sym (filled_is order.count after d body.2) ∙ ap (take order.count) (sym (after_is d))),
         ),
         body.4,
       )
@@ -94,9 +94,9 @@ reads_on old mid new bytes taken more =
 
 pub takes_rest : (old mid new : Option Wire) (f0 f1 f2 : ℕ) (bytes : List ℕ) (t : Take)
     → TakesBytes old mid bytes → f1 ≡ f0 → TakesRest mid new f1 f2 bytes t → Takes old new f0 f2 t
-takes_rest old mid new f0 f1 f2 bytes (Whole (Asked command)) taken calm rest =
+takes_rest old mid new f0 f1 f2 bytes (Whole (Asked wanted)) taken calm rest =
     let all = takes_more old mid new bytes rest.0 (bytes ++ rest.0) taken rest.1 refl in
-    ((length (bytes ++ rest.0), all.0), seen_first (λ (l : List ℕ). Asks l command) old (bytes ++ rest.0) all.1 rest.2, rest.3 ∙ calm)
+    ((length (bytes ++ rest.0), all.0), seen_first (λ (l : List ℕ). Asks l wanted) old (bytes ++ rest.0) all.1 rest.2, rest.3 ∙ calm)
 takes_rest old mid new f0 f1 f2 bytes (Whole (Refused refusal)) taken calm rest =
     (reads_on old mid new bytes taken rest.0, seen_first (λ (l : List ℕ). IsRefused l refusal) old bytes taken.1 rest.1, rest.2 ∙ calm)
 takes_rest old mid new f0 f1 f2 bytes (Whole Partial) taken calm rest =

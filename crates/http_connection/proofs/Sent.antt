@@ -8,6 +8,7 @@ use Rattle.desk_commands.specs.declared.command.Command.{Command}
 use Rattle.desk_commands.specs.declared.command.Answer.{Answer}
 use Rattle.desk_commands.specs.declared.fault.DeskFault.{DeskFault}
 use Rattle.http_reply.specs.declared.replies.Reply.{Reply}
+use Rattle.http_request.specs.declared.wanted.Wanted.TheVariants as wanted
 use Rattle.http_request.specs.Reading.{OnlyRead}
 use Rattle.http_connection.specs.Serve.{Sends, Answers, Does, Permitted, SendsReplyTo, ServesIdle, ServesPresent}
 use Rattle.http_connection.specs.declared.request.Request.{Request}
@@ -31,17 +32,18 @@ module _ {D : Type 0} (Acts : Command → Result Answer DeskFault → D → D �
 
   -- after the command was carried out, the reply to what it came to was sent
   pub serves_asked : (w0 w1 w2 : Option Wire) (f0 f1 f2 : ℕ) (old new : D) (command : Command) (outcome : Result Answer DeskFault) (served : Served)
-      → OnlyRead w0 w1 → Permitted w0 (Asked command) → f1 ≡ f0 → Acts command outcome old new
+      → OnlyRead w0 w1 → Permitted w0 (Asked (wanted.Act command)) → f1 ≡ f0 → Acts command outcome old new
       → SendsReplyTo outcome w1 w2 f1 f2 served
       → ServesPresent Acts w0 w2 f0 f2 old new served
   serves_asked w0 w1 w2 f0 f1 f2 old new command outcome served read permitted calm acts sends =
-      serves_sent w0 w1 w2 f0 f1 f2 old new sends.0 served read calm (inl (Asked command, permitted, (outcome, acts, sends.1))) sends.2
+      serves_sent w0 w1 w2 f0 f1 f2 old new sends.0 served read calm (inl (Asked (wanted.Act command), permitted, (outcome, acts, sends.1))) sends.2
 
   -- a connection without a command leaves any desk as it is
   module _ (d : D) where
     does_idly : (request : Request) (reply : Reply) → Does {D = Unit {0}} (λ command outcome old new. ⊥) request tt tt reply → Does Acts request d d reply
     does_idly (Refused refusal) reply h = (refl, h.1)
-    does_idly (Asked command) reply h = absurd h.1
+    does_idly (Asked (wanted.File file)) reply h = (refl, h.1)
+    does_idly (Asked (wanted.Act command)) reply h = absurd h.1
     does_idly Partial reply h = absurd h
 
     answers_idly : (w : Option Wire) (reply : Reply) → Answers {D = Unit {0}} (λ command outcome old new. ⊥) w tt tt reply → Answers Acts w d d reply

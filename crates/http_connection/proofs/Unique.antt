@@ -5,10 +5,10 @@ use Rattle.std.proofs.lemmas.Grind.{common_steps}
 use Rattle.std.proofs.lemmas.List.{take-append-drop, take-append-le}
 use Rattle.httparse.specs.Grammar.{RequestHead, ReadsRequest, print_request}
 use Rattle.httparse.proofs.GrammarLemmas.{request_unique}
-use Rattle.desk_commands.specs.declared.command.Command.{Command}
 use Rattle.http_request.specs.declared.refusal.Refusal.{Refusal}
+use Rattle.http_request.specs.declared.wanted.Wanted.{Wanted}
 use Rattle.http_request.specs.Front.{front}
-use Rattle.http_request.specs.Asked.{Order, asked_of, command_of}
+use Rattle.http_request.specs.Asked.{Order, asked_of, wanted_of}
 use Rattle.http_request.specs.Reading.{IsNoHead}
 use Rattle.http_connection.specs.Request.{BeginsWith, after_head, Asks, Permits}
 use Rattle.http_connection.specs.declared.request.Request.{Request}
@@ -46,25 +46,25 @@ still_long : (n count : ℕ) (xs ys : List ℕ) → count ≤ length (drop n xs)
 still_long n count xs ys le = omega (arith, le, length-drop n xs, length-drop n (xs ++ ys), length-append xs ys)
 
 -- what first bytes ask for, all of them ask for
-asks_on : (xs ys : List ℕ) (command : Command) → Asks xs command → Asks (xs ++ ys) command
-asks_on xs ys command a =
+asks_on : (xs ys : List ℕ) (wanted : Wanted) → Asks xs wanted → Asks (xs ++ ys) wanted
+asks_on xs ys wanted a =
     let n : ℕ = length (print_request a.0) in (
       a.0,
       a.1,
       begins_still xs ys a.0 a.2,
       a.3,
       still_long n a.1.count xs ys a.4,
-      a.5 ∙ ap (command_of a.1.place) (sym (first_part n a.1.count xs ys a.4)),
+      a.5 ∙ ap (wanted_of a.1.place) (sym (first_part n a.1.count xs ys a.4)),
     )
 
-asks_all : (n : ℕ) (all : List ℕ) (command : Command) → Asks (take n all) command → Asks all command
-asks_all n all command a = subst (λ (l : List ℕ). Asks l command) (take-append-drop n all) (asks_on (take n all) (drop n all) command a)
+asks_all : (n : ℕ) (all : List ℕ) (wanted : Wanted) → Asks (take n all) wanted → Asks all wanted
+asks_all n all wanted a = subst (λ (l : List ℕ). Asks l wanted) (take-append-drop n all) (asks_on (take n all) (drop n all) wanted a)
 
 -- what a head asks for, with the bytes that begin with it
 module _ (all : List ℕ) (h : RequestHead) where
   abbrev IsTaken : Request → Type 0
-  IsTaken (Asked command) = (order : Order) × (asked_of h ≡ Ok order) × (order.count ≤ length (after_head h all))
-      × (command ≡ command_of order.place (take order.count (after_head h all)))
+  IsTaken (Asked wanted) = (order : Order) × (asked_of h ≡ Ok order) × (order.count ≤ length (after_head h all))
+      × (wanted ≡ wanted_of order.place (take order.count (after_head h all)))
   IsTaken (Refused refusal) = asked_of h ≡ Err refusal
   IsTaken Partial = (order : Order) × (asked_of h ≡ Ok order) × (length (after_head h all) < order.count)
 
@@ -84,7 +84,7 @@ module _ (all : List ℕ) (h : RequestHead) where
 
   one_taken : (r s : Request) → IsTaken r → IsTaken s → r ≡ s
   one_taken (Asked c) (Asked d) a b =
-      ap Asked (a.3 ∙ ap (λ (o : Order). command_of o.place (take o.count (after_head h all))) (one_order a.0 b.0 a.1 b.1) ∙ sym b.3)
+      ap Asked (a.3 ∙ ap (λ (o : Order). wanted_of o.place (take o.count (after_head h all))) (one_order a.0 b.0 a.1 b.1) ∙ sym b.3)
   one_taken (Asked c) (Refused y) a b = absurd (not_both a.0 y a.1 b)
   one_taken (Asked c) Partial a b = absurd (not_short a.0 b.0 a.1 b.1 a.2 b.2)
   one_taken (Refused x) (Asked d) a b = absurd (not_both b.0 x b.1 a)
@@ -95,9 +95,9 @@ module _ (all : List ℕ) (h : RequestHead) where
   one_taken Partial Partial a b = refl
 
 is_taken : (all : List ℕ) (h : RequestHead) (request : Request) → BeginsWith all h → Permits all request → IsTaken all h request
-is_taken all h (Asked command) begins permits =
-    let a = asks_all permits.0 all command permits.1 in
-    subst (λ (k : RequestHead). IsTaken all k (Asked command)) (one_head all a.0 h a.2 begins) (a.1, a.3, a.4, a.5)
+is_taken all h (Asked wanted) begins permits =
+    let a = asks_all permits.0 all wanted permits.1 in
+    subst (λ (k : RequestHead). IsTaken all k (Asked wanted)) (one_head all a.0 h a.2 begins) (a.1, a.3, a.4, a.5)
 is_taken all h (Refused refusal) begins (n, inl none) = absurd (no_head n all refusal h none begins)
 is_taken all h (Refused refusal) begins (n, inr refused) =
     subst (λ (k : RequestHead). asked_of k ≡ Err refusal) (one_head all refused.0 h (begins_all n all refused.0 refused.1) begins) refused.2

@@ -4,10 +4,10 @@ use Rattle.httparse.specs.Grammar.{RequestHead, ReadsRequest, HasNoRequest, prin
 use Rattle.http_request.specs.Front.{front, is_full}
 use Rattle.http_request.specs.declared.refusal.Refusal.{Refusal}
 use Rattle.http_request.specs.Reading.{IsNoHead}
-use Rattle.desk_commands.specs.declared.command.Command.{Command}
+use Rattle.http_request.specs.declared.wanted.Wanted.{Wanted}
 use Rattle.http_connection.specs.declared.request.Request.{Request}
 use Rattle.http_connection.specs.declared.request.Request.TheVariants.{Refused, Asked, Partial}
-use Rattle.http_request.specs.Asked.{Order, asked_of, command_of}
+use Rattle.http_request.specs.Asked.{Order, asked_of, wanted_of}
 
 -- the bytes after a head
 abbrev pub after_head : RequestHead → List ℕ → List ℕ
@@ -18,9 +18,9 @@ abbrev pub BeginsWith : List ℕ → RequestHead → Type 0
 BeginsWith bytes h = (rest : List ℕ) × ReadsRequest (front bytes) h rest
 
 -- a whole request: its head, and the body that the head awaits
-abbrev pub Asks : List ℕ → Command → Type 0
-Asks bytes command = (h : RequestHead) × (order : Order) × BeginsWith bytes h × (asked_of h ≡ Ok order)
-    × (order.count ≤ length (after_head h bytes)) × (command ≡ command_of order.place (take order.count (after_head h bytes)))
+abbrev pub Asks : List ℕ → Wanted → Type 0
+Asks bytes wanted = (h : RequestHead) × (order : Order) × BeginsWith bytes h × (asked_of h ≡ Ok order)
+    × (order.count ≤ length (after_head h bytes)) × (wanted ≡ wanted_of order.place (take order.count (after_head h bytes)))
 
 -- why the bytes are refused: they begin with no head, or with one that is refused
 abbrev pub IsRefused : List ℕ → Refusal → Type 0
@@ -36,5 +36,5 @@ NeedsMore bytes =
 -- So it depends on the bytes in their order, however they were cut.
 abbrev pub Permits : List ℕ → Request → Type 0
 Permits all (Refused refusal) = (n : ℕ) × IsRefused (take n all) refusal
-Permits all (Asked command) = (n : ℕ) × Asks (take n all) command
+Permits all (Asked wanted) = (n : ℕ) × Asks (take n all) wanted
 Permits all Partial = NeedsMore all

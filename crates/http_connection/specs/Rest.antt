@@ -3,7 +3,7 @@ use Rattle.std.specs.Prelude.{◌≡◌, ◌<◌, ℕ, List, [], ◌++◌, take,
 use Rattle.outside.specs.Faults.{Rose}
 use Rattle.outside.specs.Port.{Wire}
 use Rattle.http_request.specs.Reading.{TakesBytes, OnlyRead}
-use Rattle.http_request.specs.Asked.{command_of}
+use Rattle.http_request.specs.Asked.{wanted_of}
 use Rattle.http_request.specs.Places.{Place}
 use Rattle.http_connection.specs.Request.{IsRefused, Asks, NeedsMore}
 use Rattle.http_connection.specs.declared.request.Request.TheVariants.{Refused, Asked, Partial}
@@ -12,8 +12,8 @@ use Rattle.http_connection.specs.declared.request.Take.TheVariants.{Whole, Broke
 
 -- the body after a head, by the bytes that were read with the head and those that were read now
 abbrev pub TakesBody : Option Wire → Option Wire → ℕ → ℕ → List ℕ → Place → ℕ → Take → Type 0
-TakesBody old new before now after place count (Whole (Asked command)) =
-    (d : List ℕ) × TakesBytes old new d × (length (take count after ++ d) ≡ count) × (command ≡ command_of place (take count after ++ d)) × (now ≡ before)
+TakesBody old new before now after place count (Whole (Asked wanted)) =
+    (d : List ℕ) × TakesBytes old new d × (length (take count after ++ d) ≡ count) × (wanted ≡ wanted_of place (take count after ++ d)) × (now ≡ before)
 TakesBody old new before now after place count (Whole (Refused refusal)) = ⊥
 TakesBody old new before now after place count (Whole Partial) =
     (d : List ℕ) × TakesBytes old new d × (length (take count after ++ d) < count) × IfSome new (λ w. w.unread ≡ []) × (now ≡ before)
@@ -22,7 +22,7 @@ TakesBody old new before now after place count NoMemory = OnlyRead old new × (n
 
 -- the request, by the bytes up to the head's end and some after it, and those that were read now
 abbrev pub TakesRest : Option Wire → Option Wire → ℕ → ℕ → List ℕ → Take → Type 0
-TakesRest old new before now bytes (Whole (Asked command)) = (d : List ℕ) × TakesBytes old new d × Asks (bytes ++ d) command × (now ≡ before)
+TakesRest old new before now bytes (Whole (Asked wanted)) = (d : List ℕ) × TakesBytes old new d × Asks (bytes ++ d) wanted × (now ≡ before)
 TakesRest old new before now bytes (Whole (Refused refusal)) = OnlyRead old new × IsRefused bytes refusal × (now ≡ before)
 TakesRest old new before now bytes (Whole Partial) =
     (d : List ℕ) × TakesBytes old new d × NeedsMore (bytes ++ d) × IfSome new (λ w. w.unread ≡ []) × (now ≡ before)

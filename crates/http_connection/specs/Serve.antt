@@ -6,8 +6,9 @@ use Rattle.desk_commands.specs.declared.command.Command.{Command}
 use Rattle.desk_commands.specs.declared.command.Answer.{Answer}
 use Rattle.desk_commands.specs.declared.fault.DeskFault.{DeskFault}
 use Rattle.desk_commands.specs.declared.fault.DeskFault.TheVariants as f
+use Rattle.http_request.specs.declared.wanted.Wanted.TheVariants as wanted
 use Rattle.http_request.specs.Reading.{OnlyRead}
-use Rattle.http_reply.specs.Reply.{reply_of, refusal_reply, keeper_reply, starved_reply}
+use Rattle.http_reply.specs.Reply.{reply_of, file_reply, refusal_reply, keeper_reply, starved_reply}
 use Rattle.http_reply.specs.declared.replies.Reply.{Reply}
 use Rattle.http_connection.specs.Request.{Permits}
 use Rattle.http_connection.specs.declared.request.Request.{Request}
@@ -61,7 +62,8 @@ module _ {D : Type 0} (Acts : Command → Result Answer DeskFault → D → D �
   -- what is done with a request, and the reply to it
   abbrev pub Does : Request → D → D → Reply → Type 0
   Does (Refused refusal) old new reply = (new ≡ old) × ((reply ≡ refusal_reply refusal) ⊎ (reply ≡ starved_reply))
-  Does (Asked command) old new reply = (outcome : Result Answer DeskFault) × Acts command outcome old new × RepliesTo outcome reply
+  Does (Asked (wanted.File file)) old new reply = (new ≡ old) × ((reply ≡ file_reply file) ⊎ (reply ≡ starved_reply))
+  Does (Asked (wanted.Act command)) old new reply = (outcome : Result Answer DeskFault) × Acts command outcome old new × RepliesTo outcome reply
   Does Partial old new reply = ⊥
 
   -- the reply to a request that the unread bytes may be taken for; or memory ran out before
@@ -90,7 +92,7 @@ ServesIdle w0 w1 before now served = ServesPresent {D = Unit {0}} (λ command ou
 
 -- what the present connection comes to: its request asks for a command, or it is served without one
 abbrev pub ReceivesPresent : Option Wire → Option Wire → ℕ → ℕ → Incoming → Type 0
-ReceivesPresent w0 w1 before now (Act command) = Takes w0 w1 before now (Whole (Asked command))
+ReceivesPresent w0 w1 before now (Act command) = Takes w0 w1 before now (Whole (Asked (wanted.Act command)))
 ReceivesPresent w0 w1 before now (Done served) = ServesIdle w0 w1 before now served
 
 -- what taking one connection comes to

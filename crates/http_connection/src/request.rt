@@ -7,8 +7,7 @@ ghost use Rattle.http_request.specs.Front.{front as front_of};
 ghost use Rattle.httparse.specs.Spans.{IsRequestOf, IsRequestWithin};
 
 use crate::body::{Filled, fill};
-use desk_commands::Command;
-use http_request::{Place, Reading, Refusal, asked, command_of, front_len, read_head};
+use http_request::{Place, Reading, Refusal, Wanted, asked, front_len, read_head, wanted_of};
 use httparse::spans::{EMPTY_HEADER_SPAN, HeaderSpan, RequestSpans};
 use outside::Port;
 use std::alloc::{AllocError, Global};
@@ -17,7 +16,7 @@ use std::alloc::{AllocError, Global};
 #[derive(Drop)]
 pub enum Request {
     /// A whole request, which asks for this.
-    Asked(Command),
+    Asked(Wanted),
     /// It is refused at its head.
     Refused(Refusal),
     /// The peer ended before the request was whole or refused.
@@ -92,8 +91,8 @@ fn read_body<P: Port>(
         return Take::NoMemory;
     };
     match fill(port, &mut body, count) {
-        Filled::Whole => match command_of(alloc, place, &body) {
-            Ok(command) => Take::Whole(Request::Asked(command)),
+        Filled::Whole => match wanted_of(alloc, place, &body) {
+            Ok(wanted) => Take::Whole(Request::Asked(wanted)),
             Err(AllocError) => Take::NoMemory,
         },
         Filled::End => Take::Whole(Request::Partial),

@@ -6,7 +6,8 @@ ghost use Rattle.http_connection.specs.Serve.{Receives, ReceivesPresent, Replies
 
 use crate::request::{Request, Take, read_request};
 use desk_commands::{Answer, Command, DeskFault};
-use http_reply::{Reply, STARVED, keeper_reply, refusal_reply, reply_of};
+use http_reply::{Reply, STARVED, file_reply, keeper_reply, refusal_reply, reply_of};
+use http_request::Wanted;
 use outside::{Failed, Port};
 use std::alloc::{AllocError, Global};
 
@@ -33,14 +34,14 @@ pub enum ServeFault {
 /// What a connection that was taken comes to.
 #[derive(Drop)]
 pub enum Incoming {
-    /// Its request asks for this, and awaits a reply.
+    /// Its request asks for this command, and awaits a reply.
     Act(Command),
     /// It was served, and no command is carried out.
     Done(Served),
 }
 
-/// Takes one connection and reads one request. One that asks for nothing is served at once: the request is refused, the peer has ended early, a read
-/// failed, or memory ran out, where the reply is the fixed text with the status 507.
+/// Takes one connection and reads one request. One that asks for no command is served at once: it asks for a file of the page, or is
+/// refused, the peer has ended early, a read failed, or memory ran out, where the reply is the fixed text with the status 507.
 pub fn receive<P: Port>(alloc: Global, port: &mut P) -> Result<Incoming, ServeFault>
     ensures receives { Receives (P.wire port.old) (P.wire port.new) (P.faults port.old) (P.faults port.new) result }
     ensures next_ok { OnOk result (P.next_faults port.new ≡ P.next_faults port.old) }
@@ -57,7 +58,11 @@ fn receive_present<P: Port>(alloc: Global, port: &mut P) -> Incoming
     ensures other { P.next_faults port.new ≡ P.next_faults port.old }
 {
     match read_request(alloc, port) {
-        Take::Whole(Request::Asked(command)) => Incoming::Act(command),
+        Take::Whole(Request::Asked(Wanted::Act(command))) => Incoming::Act(command),
+        Take::Whole(Request::Asked(Wanted::File(file))) => {
+            let reply = file_reply(alloc, file);
+            Incoming::Done(send_reply(port, &reply))
+        }
         Take::Whole(Request::Refused(refusal)) => {
             let reply = refusal_reply(alloc, refusal);
             Incoming::Done(send_reply(port, &reply))

@@ -5,8 +5,11 @@ use Rattle.std.specs.List.{flat_map}
 use Rattle.outside.specs.declared.rows.Sign.{Sign}
 use Rattle.desk_commands.specs.declared.command.Answer.{Answer}
 use Rattle.desk_commands.specs.declared.command.Answer.TheVariants.{Stored, Refused, NoBlock, NoText, NoReport, NoTrace, NotSigned, Reported, Traced, Signed, Names, Signs}
+use Rattle.http_request.specs.declared.wanted.PageFile.{PageFile}
+use Rattle.http_request.specs.declared.wanted.PageFile.TheVariants.{Html, Style, Script}
 use Rattle.http_request.specs.declared.refusal.Refusal.{Refusal}
 use Rattle.http_request.specs.declared.refusal.Refusal.TheVariants.{Head, LargeHead, Coding, Length, NoLength, Long, NoRoute, Method, Name}
+use Rattle.http_reply.specs.declared.page_files.TheConstants.{PAGE_CSS, PAGE_HTML, PAGE_JS}
 use Rattle.http_reply.specs.declared.replies.Reply.{Reply}
 
 -- the phrase of a status (RFC 9110, section 15)
@@ -91,6 +94,21 @@ reply_of (Traced text) = reply_with 200 text_plain text
 reply_of (Signed n) = reply_with 200 json (codes "{\"number\":" ++ decimal n ++ codes "}")
 reply_of (Names names) = reply_with 200 json (comma_list (map name_item names))
 reply_of (Signs signs) = reply_with 200 json (comma_list (map sign_item signs))
+
+-- what kind of text a file of the page is (RFC 2046, 2318 and 9239)
+abbrev pub kind_of : PageFile → List ℕ
+kind_of Html = codes "text/html; charset=utf-8"
+kind_of Style = codes "text/css"
+kind_of Script = codes "text/javascript"
+
+abbrev pub bytes_of : PageFile → List ℕ
+bytes_of Html = PAGE_HTML.now
+bytes_of Style = PAGE_CSS.now
+bytes_of Script = PAGE_JS.now
+
+-- the reply to a request for a file of the page
+abbrev pub file_reply : PageFile → Reply
+file_reply file = reply_with 200 (kind_of file) (bytes_of file)
 
 -- the reply to a request that is refused
 abbrev pub refusal_reply : Refusal → Reply

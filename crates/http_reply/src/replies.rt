@@ -1,10 +1,11 @@
 // Replies.
 ghost use Rattle.std.specs.Prelude.{◌≡◌, ◌++◌, IfOk, OnOk, codes, decimal, map, length, string_bytes};
-ghost use Rattle.http_reply.specs.Reply.{error_with, head_bytes, header_line, status_line as status_line_of, phrase as phrase_of, keeper_reply as reply_at_fault, refusal_reply as reply_of_refusal, reply_of as reply_of_answer, reply_with};
+ghost use Rattle.http_reply.specs.Reply.{bytes_of as bytes_of_file, error_with, file_reply as reply_of_file, head_bytes, header_line, kind_of as kind_of_file, status_line as status_line_of, phrase as phrase_of, keeper_reply as reply_at_fault, refusal_reply as reply_of_refusal, reply_of as reply_of_answer, reply_with};
 
 use crate::body::{add_decimal, error_body, names_body, number_body, signs_body};
+use crate::page_files::{PAGE_CSS, PAGE_HTML, PAGE_JS};
 use desk_commands::Answer;
-use http_request::Refusal;
+use http_request::{PageFile, Refusal};
 use outside::Text;
 use std::alloc::{AllocError, Global};
 
@@ -59,6 +60,34 @@ pub fn refusal_reply(alloc: Global, refusal: Refusal) -> Result<Reply, AllocErro
         Refusal::NoRoute => error(alloc, 404, b"no route"),
         Refusal::Method => error(alloc, 405, b"method"),
         Refusal::Name => error(alloc, 400, b"name"),
+    }
+}
+
+/// The reply to a request for a file of the page. Refused only for want of memory.
+pub fn file_reply(alloc: Global, file: PageFile) -> Result<Reply, AllocError>
+    ensures { IfOk result (λ reply. reply ≡ reply_of_file file) }
+{
+    reply_with_body(alloc, 200, kind_of(file), bytes_of(file))
+}
+
+/// What kind of text the file is (RFC 2046, 2318 and 9239).
+fn kind_of(file: PageFile) -> &'static str
+    ensures { result.now ≡ kind_of_file file }
+{
+    match file {
+        PageFile::Html => "text/html; charset=utf-8",
+        PageFile::Style => "text/css",
+        PageFile::Script => "text/javascript",
+    }
+}
+
+fn bytes_of(file: PageFile) -> &'static [u8]
+    ensures { result.now ≡ bytes_of_file file }
+{
+    match file {
+        PageFile::Html => PAGE_HTML,
+        PageFile::Style => PAGE_CSS,
+        PageFile::Script => PAGE_JS,
     }
 }
 

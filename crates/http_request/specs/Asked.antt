@@ -4,10 +4,11 @@ use Rattle.httparse.specs.Grammar.{RequestHead}
 use Rattle.httparse.specs.Spans.{name_and_value}
 use Rattle.http_request.specs.declared.refusal.Refusal.{Refusal}
 use Rattle.http_request.specs.declared.refusal.Refusal.TheVariants.{Coding, Length, NoLength, Long, NoRoute, Method, Name}
-use Rattle.desk_commands.specs.declared.command.Command.{Command}
 use Rattle.desk_commands.specs.declared.command.Command.TheVariants.{PutModule, PutSet, Check as CheckBlock, GetReport, GetTrace, SignOff, Blocks as AllBlocks, Signoffs as AllSigns}
+use Rattle.http_request.specs.declared.wanted.Wanted.{Wanted}
+use Rattle.http_request.specs.declared.wanted.Wanted.TheVariants.{Act, File as Shown}
 use Rattle.http_request.specs.Fields.{Pair, has_field, values, Declared, Absent, Faulty, Count, declared}
-use Rattle.http_request.specs.Places.{Place, Blocks, Signoffs, Module, Set, Check, Report, Sign, Trace, path_of, place_of, is_block_name, line_number}
+use Rattle.http_request.specs.Places.{Place, File, Blocks, Signoffs, Module, Set, Check, Report, Sign, Trace, path_of, place_of, is_block_name, line_number}
 
 -- the most bytes of a body
 abbrev pub most_length : ℕ
@@ -15,6 +16,7 @@ most_length = 1048576
 
 -- the method of a place
 abbrev pub method_of : Place → List ℕ
+method_of (File f) = codes "GET"
 method_of Blocks = codes "GET"
 method_of Signoffs = codes "GET"
 method_of (Module n) = codes "PUT"
@@ -26,6 +28,7 @@ method_of (Trace n l) = codes "GET"
 
 -- the block that a place is about has a name, where there is one
 abbrev pub is_well_named : Place → Bool
+is_well_named (File f) = true
 is_well_named Blocks = true
 is_well_named Signoffs = true
 is_well_named (Module n) = is_block_name n
@@ -35,16 +38,17 @@ is_well_named (Report n) = is_block_name n
 is_well_named (Sign n) = is_block_name n
 is_well_named (Trace n l) = is_block_name n
 
--- the command of a place, with the body
-abbrev pub command_of : Place → List ℕ → Command
-command_of Blocks body = AllBlocks
-command_of Signoffs body = AllSigns
-command_of (Module n) body = PutModule n body
-command_of (Set n) body = PutSet n body
-command_of (Check n) body = CheckBlock n
-command_of (Report n) body = GetReport n
-command_of (Sign n) body = SignOff n
-command_of (Trace n l) body = GetTrace n (line_number l)
+-- what is asked for at a place, with the body
+abbrev pub wanted_of : Place → List ℕ → Wanted
+wanted_of (File f) body = Shown f
+wanted_of Blocks body = Act AllBlocks
+wanted_of Signoffs body = Act AllSigns
+wanted_of (Module n) body = Act (PutModule n body)
+wanted_of (Set n) body = Act (PutSet n body)
+wanted_of (Check n) body = Act (CheckBlock n)
+wanted_of (Report n) body = Act (GetReport n)
+wanted_of (Sign n) body = Act (SignOff n)
+wanted_of (Trace n l) body = Act (GetTrace n (line_number l))
 
 -- a place, and how many bytes of body are awaited
 pub record Order : Type 0 where

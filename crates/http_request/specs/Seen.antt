@@ -3,12 +3,13 @@ use Rattle.std.specs.Prelude.{Result, Ok, Err}
 use Rattle.http_request.specs.declared.refusal.Refusal.{Refusal}
 use Rattle.http_request.specs.Asked.{Order}
 use Rattle.http_request.specs.declared.order.Order.{Order as SeenOrder}
-use Rattle.http_request.specs.Places.{Place, Blocks, Signoffs, Module, Set, Check, Report, Sign, Trace}
+use Rattle.http_request.specs.Places.{Place, File, Blocks, Signoffs, Module, Set, Check, Report, Sign, Trace}
 use Rattle.http_request.specs.declared.places.Place.{Place as SeenPlace}
-use Rattle.http_request.specs.declared.places.Place.TheVariants.{Blocks as SeenBlocks, Signoffs as SeenSignoffs, Module as SeenModule, Set as SeenSet, Check as SeenCheck, Report as SeenReport, Sign as SeenSign, Trace as SeenTrace}
+use Rattle.http_request.specs.declared.places.Place.TheVariants.{File as SeenFile, Blocks as SeenBlocks, Signoffs as SeenSignoffs, Module as SeenModule, Set as SeenSet, Check as SeenCheck, Report as SeenReport, Sign as SeenSign, Trace as SeenTrace}
 
 -- a place that borrows its parts
 abbrev pub seen_place : SeenPlace → Place
+seen_place (SeenFile f) = File f
 seen_place SeenBlocks = Blocks
 seen_place SeenSignoffs = Signoffs
 seen_place (SeenModule n) = Module n.now

@@ -1,7 +1,7 @@
 // What a head asks for.
 ghost use Rattle.std.specs.Prelude.{◌≡◌, ◌≤◌, All, IfOk, Ok, codes, length, map, option_map, take};
 ghost use Rattle.httparse.specs.Spans.{IsHeaderWithin, IsRequestWithin, header_bytes, span_bytes};
-ghost use Rattle.http_request.specs.Asked.{asked as asked_by, command_of as command_of_place, is_well_named as is_well_named_by, lengthed as lengthed_by, method_of as method_of_place, placed as placed_by};
+ghost use Rattle.http_request.specs.Asked.{asked as asked_by, is_well_named as is_well_named_by, lengthed as lengthed_by, method_of as method_of_place, placed as placed_by, wanted_of as wanted_of_place};
 ghost use Rattle.http_request.specs.Joins.{declared_of};
 ghost use Rattle.http_request.specs.Places.{path_of as path_of_target, place_of as place_of_path};
 ghost use Rattle.http_request.specs.Seen.{seen_order, seen_place};
@@ -9,6 +9,7 @@ ghost use Rattle.http_request.specs.Seen.{seen_order, seen_place};
 use crate::Refusal;
 use crate::fields::{Length, declared_length, has_header};
 use crate::places::{Place, is_block_name, is_word, line_number, path_of, place_of};
+use crate::wanted::Wanted;
 use desk_commands::Command;
 use httparse::spans::{HeaderSpan, RequestSpans};
 use outside::Text;
@@ -105,6 +106,7 @@ fn method_of(place: Place<'_>) -> &'static [u8]
     ensures { result.now ≡ method_of_place (seen_place place.entry) }
 {
     match place {
+        Place::File(_) => b"GET",
         Place::Blocks => b"GET",
         Place::Signoffs => b"GET",
         Place::Module(_) => b"PUT",
@@ -120,6 +122,7 @@ fn is_well_named(place: Place<'_>) -> bool
     ensures { result ≡ is_well_named_by (seen_place place.entry) }
 {
     match place {
+        Place::File(_) => true,
         Place::Blocks => true,
         Place::Signoffs => true,
         Place::Module(name) => is_block_name(name),
@@ -131,33 +134,34 @@ fn is_well_named(place: Place<'_>) -> bool
     }
 }
 
-/// The command of a place, with the body. Refused only for want of memory.
-pub fn command_of(alloc: Global, place: Place<'_>, body: &[u8]) -> Result<Command, AllocError>
-    ensures { IfOk result (λ command. command ≡ command_of_place (seen_place place.entry) body.now) }
+/// What is asked for at a place, with the body. Refused only for want of memory.
+pub fn wanted_of(alloc: Global, place: Place<'_>, body: &[u8]) -> Result<Wanted, AllocError>
+    ensures { IfOk result (λ wanted. wanted ≡ wanted_of_place (seen_place place.entry) body.now) }
 {
     match place {
-        Place::Blocks => Ok(Command::Blocks),
-        Place::Signoffs => Ok(Command::Signoffs),
-        Place::Module(name) => Ok(Command::PutModule {
+        Place::File(file) => Ok(Wanted::File(file)),
+        Place::Blocks => Ok(Wanted::Act(Command::Blocks)),
+        Place::Signoffs => Ok(Wanted::Act(Command::Signoffs)),
+        Place::Module(name) => Ok(Wanted::Act(Command::PutModule {
             name: Text::copy(alloc, name)?,
             text: Text::copy(alloc, body)?,
-        }),
-        Place::Set(name) => Ok(Command::PutSet {
+        })),
+        Place::Set(name) => Ok(Wanted::Act(Command::PutSet {
             name: Text::copy(alloc, name)?,
             text: Text::copy(alloc, body)?,
-        }),
-        Place::Check(name) => Ok(Command::Check {
+        })),
+        Place::Check(name) => Ok(Wanted::Act(Command::Check {
             name: Text::copy(alloc, name)?,
-        }),
-        Place::Report(name) => Ok(Command::GetReport {
+        })),
+        Place::Report(name) => Ok(Wanted::Act(Command::GetReport {
             name: Text::copy(alloc, name)?,
-        }),
-        Place::Sign(name) => Ok(Command::SignOff {
+        })),
+        Place::Sign(name) => Ok(Wanted::Act(Command::SignOff {
             name: Text::copy(alloc, name)?,
-        }),
-        Place::Trace(name, line) => Ok(Command::GetTrace {
+        })),
+        Place::Trace(name, line) => Ok(Wanted::Act(Command::GetTrace {
             name: Text::copy(alloc, name)?,
             line: line_number(line),
-        }),
+        })),
     }
 }

@@ -1,14 +1,17 @@
 // The routes.
 ghost use Rattle.std.specs.Prelude.{◌≡◌, ◌==◌, ◌&&◌, ◌≤◌, ℕ, List, IfOk, map, nat_le, length, option_map, bytes_eq, codes};
 ghost use Rattle.std.specs.List.{list_all, slice_split};
-ghost use Rattle.http_request.specs.Places.{is_block_name as is_block_name_by, is_name_byte, line_number as line_number_of, path_of as path_of_target, place_of as place_of_path, place_below as place_below_by, place_of_part as place_of_part_by, place_of_trace as place_of_trace_by, place_of_root as place_of_root_by, place_of_segments as place_of_segments_by};
+ghost use Rattle.http_request.specs.Places.{file_named as file_named_by, is_block_name as is_block_name_by, is_name_byte, line_number as line_number_of, path_of as path_of_target, place_of as place_of_path, place_below as place_below_by, place_of_part as place_of_part_by, place_of_trace as place_of_trace_by, place_of_root as place_of_root_by, place_of_segments as place_of_segments_by};
 ghost use Rattle.http_request.specs.Seen.{seen_place};
 
+use crate::wanted::PageFile;
 use std::alloc::{AllocError, Global};
 
 /// What a path names. A block's name is any segment here that isn't empty.
 #[derive(Clone, Copy, Debug)]
 pub enum Place<'a> {
+    /// `/`, `/page.css` or `/page.js`
+    File(PageFile),
     /// `/blocks`
     Blocks,
     /// `/signoffs`
@@ -100,6 +103,22 @@ fn place_of_root<'a>(root: &[u8]) -> Option<Place<'a>>
     }
     if is_word(root, b"signoffs") {
         return Some(Place::Signoffs);
+    }
+    Some(Place::File(file_named(root)?))
+}
+
+/// The file of the page that the path's only segment names.
+fn file_named(root: &[u8]) -> Option<PageFile>
+    ensures { result ≡ file_named_by root.now }
+{
+    if root.is_empty() {
+        return Some(PageFile::Html);
+    }
+    if is_word(root, b"page.css") {
+        return Some(PageFile::Style);
+    }
+    if is_word(root, b"page.js") {
+        return Some(PageFile::Script);
     }
     None
 }

@@ -21,7 +21,7 @@ use Rattle.asked_lines.specs.Settled.{AddsProofsOf}
 use Rattle.desk_core.specs.Checks.{AreObsOfTexts, Refuses}
 use Rattle.http_connection.specs.declared.serve.ServeFault.{ServeFault}
 use Rattle.http_connection.specs.declared.serve.ServeFault.TheVariants.{Memory, Next}
-use Rattle.desk_http.specs.Serving.{Line as Wires, ServesMany, State, StopsWithin, none}
+use Rattle.desk_http.specs.Serving.{Line as Wires, ServesMany, ServesQuota, State, StopsWithin, none}
 use Rattle.demo_gen.specs.Texts.{module_text, set_text}
 use Rattle.command_words.specs.declared.action.Command.{Command}
 use Rattle.command_words.specs.declared.action.Command.TheVariants as c
@@ -30,7 +30,7 @@ use Rattle.command_words.specs.declared.action.Service.{Service}
 use Rattle.signoff_call.specs.declared.answer.Answer.{Answer}
 use Rattle.signoff_call.specs.declared.files.Read.{Read}
 use Rattle.signoff_call.specs.declared.files.Read.TheVariants.{Both, NoModule, NoSet}
-use Rattle.signoff_call.specs.Run.{Answers, AnswersJob, AnswersMove, AnswersService, AnswersTexts, AppendsPrefix, Around, Delivers, IsRead, LeavesRead, LeavesRows, LeavesServed, LeavesTexts, Reads, RefusesBy, RefusesTexts, ReportsTexts, Stores, around, done, is_refuted, is_spent, moved_text, refusal, refused_status, report_bytes, reported, served_text, stores, stores_of, summary, which_of}
+use Rattle.signoff_call.specs.Run.{Answers, AnswersJob, AnswersMove, AnswersService, AnswersTexts, AppendsPrefix, Around, Delivers, IsRead, LeavesRead, LeavesRows, LeavesServed, LeavesTexts, Reads, RefusesBy, RefusesTexts, ReportsTexts, Stores, around, done, is_refuted, is_spent, moved_text, quota_of, refusal, refused_status, report_bytes, reported, served_text, stores, stores_of, summary, which_of}
 
 pub both_answered : {E : Type 0} (r : Result Answer E) (j : Job) (read : Read) (m s : List ℕ) (book : Book) (st : Stores) → read ≡ Both m s →
     IfOk r (AnswersTexts m s (which_of j.asked) j.budget j.workers (report_bytes j.asked book.lines.items) book st) → IfOk r (AnswersJob j read book st)
@@ -157,8 +157,8 @@ move_other book st a n p h is = ⊎_elim
 
 service_other : (s : Service) (a b : Around) (x : Answer) (n : ℕ) → IsApart n → (9 ≡ n → ⊥) → AnswersService s a b x → x.status ≡ n → ⊥
 service_other s a b x n p not_9 h is = ⊎_elim
-    (λ (all : ServesMany s.budget s.workers a.line a.desk s.count b.line b.desk × (x ≡ done (served_text s.count))). done_other n p (status_is x (done (served_text s.count)) n all.1 is))
-    (λ (stops : StopsWithin s.budget s.workers s.count a.line a.desk Next b.line b.desk × (x ≡ refusal 9 (codes "port"))). not_9 (status_is x (refusal 9 (codes "port")) n stops.1 is)) h
+    (λ (all : (m : ℕ) × ServesQuota s.budget s.workers (quota_of s) a.line a.desk m b.line b.desk × (x ≡ done (served_text m))). done_other n p (status_is x (done (served_text all.0)) n all.2 is))
+    (λ (stops : StopsWithin s.budget s.workers (quota_of s) a.line a.desk Next b.line b.desk × (x ≡ refusal 9 (codes "port"))). not_9 (status_is x (refusal 9 (codes "port")) n stops.1 is)) h
 
 usage_apart_of : (book : Book) (st : Stores) (a : Answer) (n : ℕ) → IsApart n → RefusesBy 2 (codes "usage") book st a → a.status ≡ n → ⊥
 usage_apart_of book st a n p h is = usage_apart n p (status_is a (refusal 2 (codes "usage")) n h.answer_is is)
@@ -210,24 +210,26 @@ refusal_other (Err e) status n line P other h = tt
 -- ---- services
 
 -- fewer than all connections were served, and the one after them left all as it was
-pub left_stopped : (s : Service) (v w : Wires) (d e : State) (fault : ServeFault) → StopsWithin s.budget s.workers s.count v d fault w e → LeavesServed s (around d v) (around e w)
+pub left_stopped : (s : Service) (v w : Wires) (d e : State) (fault : ServeFault) → StopsWithin s.budget s.workers (quota_of s) v d fault w e → LeavesServed s (around d v) (around e w)
 left_stopped s v w d e Next h = record {
   served = h.served;
   most = let fewer : h.served < s.count = h.fewer in omega arith;
+  taken = h.taken;
   line = h.port;
-  did = subst (λ (x : State). ServesMany s.budget s.workers v d h.served h.port x) (sym h.last.0) h.before;
+  did = subst (λ (x : State). ServesMany s.budget s.workers s.replied v d h.taken h.served h.port x) (sym h.last.0) h.before;
 }
 left_stopped s v w d e Memory h = record {
   served = h.served;
   most = let fewer : h.served < s.count = h.fewer in omega arith;
+  taken = h.taken;
   line = h.port;
-  did = subst (λ (x : State). ServesMany s.budget s.workers v d h.served h.port x) (sym h.last.0) h.before;
+  did = subst (λ (x : State). ServesMany s.budget s.workers s.replied v d h.taken h.served h.port x) (sym h.last.0) h.before;
 }
 
-pub left_served : (s : Service) (v w : Wires) (d e : State) → ServesMany s.budget s.workers v d s.count w e → LeavesServed s (around d v) (around e w)
-left_served s v w d e h = record { served = s.count; most = omega arith; line = w; did = h }
+pub left_served : (s : Service) (v w : Wires) (d e : State) (n : ℕ) → ServesQuota s.budget s.workers (quota_of s) v d n w e → LeavesServed s (around d v) (around e w)
+left_served s v w d e n h = record { served = n; most = h.most; taken = h.taken; line = w; did = h.many }
 
-pub port_answered : {E : Type 0} (r : Result Answer E) (s : Service) (a b : Around) → StopsWithin s.budget s.workers s.count a.line a.desk Next b.line b.desk →
+pub port_answered : {E : Type 0} (r : Result Answer E) (s : Service) (a b : Around) → StopsWithin s.budget s.workers (quota_of s) a.line a.desk Next b.line b.desk →
     IfOk r (λ x. x ≡ refusal 9 (codes "port")) → IfOk r (AnswersService s a b)
 port_answered (Ok x) s a b stops is = inr (stops, is)
 port_answered (Err e) s a b stops is = tt
@@ -298,7 +300,7 @@ leaves_job shelf faults now cmd job read a b is was h =
 
 -- words whose command isn't known yet leave all as it was
 left_as : (s : Service) (a : Around) → LeavesServed s a a
-left_as s a = record { served = 0; most = omega arith; line = a.line; did = none }
+left_as s a = record { served = 0; most = omega arith; taken = 0; line = a.line; did = none }
 
 moves_none : (t : Option Tables) → Told MovesRows t t
 moves_none (Some t) = record { blocks = refl; signs = refl; proofs = λ key. inl refl }

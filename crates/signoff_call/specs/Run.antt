@@ -32,7 +32,8 @@ use Rattle.command_words.specs.declared.action.Command.TheVariants as c
 use Rattle.command_words.specs.declared.action.Job.{Job}
 use Rattle.command_words.specs.declared.action.Service.{Service}
 use Rattle.http_connection.specs.declared.serve.ServeFault.TheVariants.{Next}
-use Rattle.desk_http.specs.Serving.{Line as Wires, ServesMany, State, StopsWithin}
+use Rattle.desk_http.specs.declared.serving.Quota.{Quota}
+use Rattle.desk_http.specs.Serving.{Line as Wires, ServesMany, ServesQuota, State, StopsWithin}
 use Rattle.signoff_call.specs.declared.answer.Answer.{Answer}
 use Rattle.signoff_call.specs.declared.texts.Counts.{Counts}
 use Rattle.signoff_call.specs.declared.files.Read.{Read}
@@ -169,11 +170,14 @@ stores_of a b = stores a.desk.tables b.desk.tables a.desk.asked
 abbrev pub served_text : ℕ → List ℕ
 served_text n = codes "served " ++ counted_word n (codes "\n")
 
--- all connections were served, or there was no next one
+abbrev pub quota_of : Service → Quota
+quota_of s = record { count = s.count; replied = s.replied }
+
+-- as many connections were served as are to be, which the answer tells, or there was no next one
 abbrev pub AnswersService : Service → Around → Around → Answer → Type 0
 AnswersService s a b answer =
-    (ServesMany s.budget s.workers a.line a.desk s.count b.line b.desk × (answer ≡ done (served_text s.count)))
-    ⊎ (StopsWithin s.budget s.workers s.count a.line a.desk Next b.line b.desk × (answer ≡ refusal 9 (codes "port")))
+    ((n : ℕ) × ServesQuota s.budget s.workers (quota_of s) a.line a.desk n b.line b.desk × (answer ≡ done (served_text n)))
+    ⊎ (StopsWithin s.budget s.workers (quota_of s) a.line a.desk Next b.line b.desk × (answer ≡ refusal 9 (codes "port")))
 
 -- the answer to a command, or to words that are none, with what it finds around it and what it leaves; only a service touches the port
 abbrev pub Answers : Option Command → Read → Around → Around → Answer → Type 0
@@ -188,8 +192,9 @@ Answers (Some (c.Migrate file)) read a b answer = (b.line ≡ a.line) × Answers
 pub record LeavesServed (s : Service) (a b : Around) : Type 0 where
   pub served : ℕ
   pub most : served ≤ s.count
+  pub taken : ℕ
   pub line : Wires
-  pub did : ServesMany s.budget s.workers a.line a.desk served line b.desk
+  pub did : ServesMany s.budget s.workers s.replied a.line a.desk taken served line b.desk
 
 -- ---- files
 

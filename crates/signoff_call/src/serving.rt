@@ -8,7 +8,7 @@ ghost use Rattle.signoff_call.specs.Run.{AnswersService, LeavesServed, around, s
 
 use crate::answer::{Answer, done, refusal};
 use command_words::Service;
-use desk_http::serve;
+use desk_http::{Quota, serve};
 use helper_box::Helper;
 use http_connection::ServeFault;
 use outside::{Gate, Keeper, Port, Text};
@@ -51,11 +51,14 @@ pub fn served<R: Threads + Sync, K: Keeper, P: Port, H: Helper, G: Gate + Sync>(
         budget: service.budget,
         workers: service.workers,
     };
-    let count = service.count;
+    let quota = Quota {
+        count: service.count,
+        replied: service.replied,
+    };
     match serve(
-        rt, alloc, count, port, &settings, keeper, helpers, gate, book,
+        rt, alloc, quota, port, &settings, keeper, helpers, gate, book,
     ) {
-        Ok(()) => Ok(done(served_text(alloc, count)?)),
+        Ok(served) => Ok(done(served_text(alloc, served)?)),
         Err(ServeFault::Next) => refusal(alloc, 9, b"port", b""),
         Err(ServeFault::Memory) => Err(AllocError),
     }

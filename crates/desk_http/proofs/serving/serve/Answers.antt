@@ -1,20 +1,30 @@
 use Rattle.std.proofs.Common.{◌<◌, refl, ◌∙◌, add-one, arith}
 use Rattle.desk_http.specs.Serving.{none, next}
 use Rattle.desk_http.proofs.Keeping.{keeps_on, keeps_same}
-use Rattle.desk_http.proofs.Stopping.{stops}
+use Rattle.desk_http.proofs.Stopping.{counted_each, fills_at_the_end, stops}
 use Rattle.desk_http.proofs.serving.serve.Goals as goal
 
-pub loop-served-init : goal.loop-served-init
-loop-served-init g c = record { many = none; keeps = keeps_same _; calm = refl }
+pub loop-taken-init : goal.loop-taken-init
+loop-taken-init g c = record { many = none; most = omega arith; each = λ all. refl; keeps = keeps_same _; calm = refl }
 
-pub loop-served-preserved : goal.loop-served-preserved
-loop-served-preserved g c = record {
-  many = rw add-one (next c.in_ok-serve_one.field-0 c.loop-served.invariant.many c.in_ok-serve_one.ensures.serves);
-  keeps = keeps_on _ _ _ c.loop-served.invariant.keeps c.in_ok-serve_one.ensures.keeps;
-  calm = c.in_ok-serve_one.ensures.next_ok ∙ c.loop-served.invariant.calm;
+pub loop-taken-preserved : goal.loop-taken-preserved
+loop-taken-preserved g c = record {
+  many = rw (add-one, c.counted-served.ensures.value) (next c.in_ok-one.one c.loop-taken.invariant.many c.in_ok-one.ensures.serves);
+  most = c.counted-served.ensures.most;
+  each = λ all. counted_each _ _ _ _ _ all c.counted-served.ensures.value (c.loop-taken.invariant.each all);
+  keeps = keeps_on _ _ _ c.loop-taken.invariant.keeps c.in_ok-one.ensures.keeps;
+  calm = c.in_ok-one.ensures.next_ok ∙ c.loop-taken.invariant.calm;
 }
 
-pub returns-in_err-serve_one-clause-err : goal.returns-in_err-serve_one-clause-err
-returns-in_err-serve_one-clause-err g c =
-    let fewer : c.loop-served._served < c.args.count = omega arith in
-    stops _ _ _ c.loop-served._served _ _ _ _ _ _ c.from_residual.result c.in_err-serve_one.field-0.0 c.from_residual.ensures.1 fewer c.loop-served.invariant.many c.in_err-serve_one.ensures.serves
+pub returns-clause-ok : goal.returns-clause-ok
+returns-clause-ok g c = record {
+  most = c.loop-taken.invariant.most;
+  taken = c.loop-taken._taken;
+  many = c.loop-taken.invariant.many;
+  fills = fills_at_the_end _ _ _ c.loop-taken.invariant.most c.loop-taken.invariant.each (omega arith) (omega arith);
+}
+
+pub returns-in_err-one-clause-err : goal.returns-in_err-one-clause-err
+returns-in_err-one-clause-err g c =
+    let fewer : c.loop-taken.served < c.args.quota.count = omega arith in
+    stops _ _ _ c.loop-taken._taken c.loop-taken.served _ _ _ _ _ _ c.from_residual.result c.in_err-one.field-0.0 c.from_residual.ensures.1 fewer c.loop-taken.invariant.many c.in_err-one.ensures.serves
