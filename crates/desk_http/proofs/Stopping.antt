@@ -3,20 +3,21 @@ use Rattle.std.proofs.Common.{◌≡◌, ◌<◌, ◌≤◌, ◌+◌, ◌-◌, �
 use Rattle.std.specs.Prelude.{Bool, true, false, Result, Ok, Err, IfErr, IsErrAnd}
 use Rattle.http_connection.specs.declared.serve.Served.{Served}
 use Rattle.http_connection.specs.declared.serve.ServeFault.{ServeFault}
+use Rattle.proof_store.specs.declared.settings.Settings.{Settings}
 use Rattle.desk_http.specs.declared.serving.Quota.{Quota}
 use Rattle.desk_http.specs.Serving.{Fills, Line, ServesMany, ServesOne, State, StopsWithin, counted}
 
-pub stops : {T : Type 0} (budget workers : ℕ) (q : Quota) (taken n : ℕ) (v u w : Line) (d c e : State) (r : Result T ServeFault) (x : ServeFault)
-    → IsErrAnd r (λ z. z ≡ x) → n < q.count → ServesMany budget workers q.replied v d taken n u c → ServesOne budget workers u c (Err x) w e → IfErr r (λ fault. StopsWithin budget workers q v d fault w e)
-stops budget workers q taken n v u w d c e (Ok t) x is fewer many one = absurd is
-stops budget workers q taken n v u w d c e (Err fault) x is fewer many one = record {
+pub stops : {T : Type 0} (s : Settings) (q : Quota) (taken n : ℕ) (v u w : Line) (d c e : State) (r : Result T ServeFault) (x : ServeFault)
+    → IsErrAnd r (λ z. z ≡ x) → n < q.count → ServesMany s q.replied v d taken n u c → ServesOne s u c (Err x) w e → IfErr r (λ fault. StopsWithin s q v d fault w e)
+stops s q taken n v u w d c e (Ok t) x is fewer many one = absurd is
+stops s q taken n v u w d c e (Err fault) x is fewer many one = record {
   served = n;
   fewer = fewer;
   taken = taken;
   port = u;
   desk = c;
   before = many;
-  last = subst (λ (z : ServeFault). ServesOne budget workers u c (Err z) w e) (sym is) one;
+  last = subst (λ (z : ServeFault). ServesOne s u c (Err z) w e) (sym is) one;
 }
 
 counted_any : (replied : Bool) (served : Served) (n : ℕ) → replied ≡ false → counted replied served n ≡ n + 1
@@ -35,3 +36,7 @@ full_or_last false count taken n most each small end = let same : n ≡ taken = 
 -- a quota below 2 ^ 32 isn't short of its number after 2 ^ 64 - 1 connections that count
 pub fills_at_the_end : (q : Quota) (taken n : ℕ) → n ≤ q.count → (q.replied ≡ false → n ≡ taken) → q.count < 2 ^ 32 → taken ≡ 2 ^ 64 - 1 → Fills q taken n
 fills_at_the_end q taken n = full_or_last q.replied q.count taken n
+
+-- as much is spent on a line as at first
+pub served_so : (s z : Settings) (u w : Line) (c e : State) (r : Result Served ServeFault) → z ≡ s → ServesOne z u c r w e → ServesOne s u c r w e
+served_so s z u w c e r same one = subst (λ (x : Settings). ServesOne x u c r w e) same one

@@ -1,59 +1,36 @@
 // Connections served one after another.
-ghost use Rattle.std.specs.Prelude.{◌≡◌, ◌<◌, ◌≤◌, IfErr, IfOk, OnErr, OnOk, map};
+ghost use Rattle.std.specs.Prelude.{◌≡◌, ◌<◌, ◌≤◌, IfErr, IfOk, OnErr, OnOk};
 ghost use Rattle.outside.specs.Faults.{Rose};
-ghost use Rattle.desk_http.specs.Serving.{Acts, Keeps, ServesOne, ServesQuota, StopsWithin, counted, line, state};
+ghost use Rattle.desk_core.specs.Checkers.{IsSame};
+ghost use Rattle.desk_http.specs.Serving.{Keeps, ServesOne, ServesQuota, StopsWithin, counted, line, state_of};
 
-use desk_commands::{Answer, Command, DeskFault};
-use desk_core::act;
+use desk_core::Checker;
 use helper_box::Helper;
 use http_connection::{Incoming, ServeFault, Served, receive, reply_to};
 use outside::{Gate, Keeper, Port};
-use proof_store::Settings;
-use reports::Book;
-use std::alloc::Global;
 use std::thread::Threads;
 
-// Carries out a command.
-fn carry_out<R: Threads + Sync, K: Keeper, H: Helper, G: Gate + Sync>(
-    rt: &R,
-    alloc: Global,
-    command: &Command,
-    settings: &Settings,
-    keeper: &mut K,
-    helpers: &mut Vec<H>,
-    gate: &G,
-    book: &mut Book,
-) -> Result<Answer, DeskFault>
-    ensures acts { Acts settings.now.budget settings.now.workers command.now result (state (K.tables keeper.old) (K.faults keeper.old) (map H.asked helpers.old.items) book.old) (state (K.tables keeper.new) (K.faults keeper.new) (map H.asked helpers.new.items) book.new) }
-    ensures keeps { Keeps (state (K.tables keeper.old) (K.faults keeper.old) (map H.asked helpers.old.items) book.old) (state (K.tables keeper.new) (K.faults keeper.new) (map H.asked helpers.new.items) book.new) }
-{
-    act(rt, alloc, command, settings, keeper, helpers, gate, book)
-}
-
-/// Takes one connection, reads one request, carries out its command at the desk that the keeper holds, writes one reply and finishes. Where memory runs
-/// out once the request began, the reply is the fixed text with the status 507.
+/// Takes one connection, reads one request, carries out its command at the desk that the checker's keeper holds, writes one reply and finishes. Where
+/// memory runs out once the request began, the reply is the fixed text with the status 507.
 ///
 /// It is refused with `Next` where the port gave no next connection: its count of faults for that rose in this call, or stands at its last value. It is
 /// refused with `Memory` for want of memory before the request began.
 pub fn serve_one<R: Threads + Sync, P: Port, K: Keeper, H: Helper, G: Gate + Sync>(
-    rt: &R,
-    alloc: Global,
     port: &mut P,
-    settings: &Settings,
-    keeper: &mut K,
-    helpers: &mut Vec<H>,
-    gate: &G,
-    book: &mut Book,
+    checker: &mut Checker<'_, '_, '_, '_, R, K, H, G>,
 ) -> Result<Served, ServeFault>
-    ensures serves { ServesOne settings.now.budget settings.now.workers (line (P.wire port.old) (P.faults port.old)) (state (K.tables keeper.old) (K.faults keeper.old) (map H.asked helpers.old.items) book.old) result (line (P.wire port.new) (P.faults port.new)) (state (K.tables keeper.new) (K.faults keeper.new) (map H.asked helpers.new.items) book.new) }
-    ensures keeps { Keeps (state (K.tables keeper.old) (K.faults keeper.old) (map H.asked helpers.old.items) book.old) (state (K.tables keeper.new) (K.faults keeper.new) (map H.asked helpers.new.items) book.new) }
+    ensures serves { ServesOne checker.old.prover.settings (line (P.wire port.old) (P.faults port.old)) (state_of K.tables K.faults H.asked checker.old)
+        result (line (P.wire port.new) (P.faults port.new)) (state_of K.tables K.faults H.asked checker.new) }
+    ensures keeps { Keeps (state_of K.tables K.faults H.asked checker.old) (state_of K.tables K.faults H.asked checker.new) }
     ensures next_ok { OnOk result (P.next_faults port.new ≡ P.next_faults port.old) }
     ensures next_err { OnErr result (Rose (P.next_faults port.old) (P.next_faults port.new)) }
+    ensures same { IsSame checker.old checker.new }
 {
+    let alloc = checker.prover.alloc;
     match receive(alloc, port)? {
         Incoming::Done(served) => Ok(served),
         Incoming::Act(command) => {
-            let outcome = carry_out(rt, alloc, &command, settings, keeper, helpers, gate, book);
+            let outcome = checker.act(&command);
             Ok(reply_to(alloc, port, &outcome))
         }
     }
@@ -86,28 +63,25 @@ impl Quota {
 ///
 /// It stops at the first connection that can't be taken, and is refused as `serve_one` is.
 pub fn serve<R: Threads + Sync, P: Port, K: Keeper, H: Helper, G: Gate + Sync>(
-    rt: &R,
-    alloc: Global,
     quota: Quota,
     port: &mut P,
-    settings: &Settings,
-    keeper: &mut K,
-    helpers: &mut Vec<H>,
-    gate: &G,
-    book: &mut Book,
+    checker: &mut Checker<'_, '_, '_, '_, R, K, H, G>,
 ) -> Result<u32, ServeFault>
-    ensures ok { IfOk result (λ n. ServesQuota settings.now.budget settings.now.workers quota (line (P.wire port.old) (P.faults port.old)) (state (K.tables keeper.old) (K.faults keeper.old) (map H.asked helpers.old.items) book.old) n (line (P.wire port.new) (P.faults port.new)) (state (K.tables keeper.new) (K.faults keeper.new) (map H.asked helpers.new.items) book.new)) }
-    ensures err { IfErr result (λ fault. StopsWithin settings.now.budget settings.now.workers quota (line (P.wire port.old) (P.faults port.old)) (state (K.tables keeper.old) (K.faults keeper.old) (map H.asked helpers.old.items) book.old) fault (line (P.wire port.new) (P.faults port.new)) (state (K.tables keeper.new) (K.faults keeper.new) (map H.asked helpers.new.items) book.new)) }
-    ensures keeps { Keeps (state (K.tables keeper.old) (K.faults keeper.old) (map H.asked helpers.old.items) book.old) (state (K.tables keeper.new) (K.faults keeper.new) (map H.asked helpers.new.items) book.new) }
+    ensures ok { IfOk result (λ n. ServesQuota checker.old.prover.settings quota (line (P.wire port.old) (P.faults port.old))
+        (state_of K.tables K.faults H.asked checker.old) n (line (P.wire port.new) (P.faults port.new)) (state_of K.tables K.faults H.asked checker.new)) }
+    ensures err { IfErr result (λ fault. StopsWithin checker.old.prover.settings quota (line (P.wire port.old) (P.faults port.old))
+        (state_of K.tables K.faults H.asked checker.old) fault (line (P.wire port.new) (P.faults port.new)) (state_of K.tables K.faults H.asked checker.new)) }
+    ensures keeps { Keeps (state_of K.tables K.faults H.asked checker.old) (state_of K.tables K.faults H.asked checker.new) }
     ensures next_ok { OnOk result (P.next_faults port.new ≡ P.next_faults port.old) }
     ensures next_err { OnErr result (Rose (P.next_faults port.old) (P.next_faults port.new)) }
+    ensures same { IsSame checker.old checker.new }
 {
     let mut served = 0;
     for _taken in 0..u64::MAX {
         if served == quota.count {
             return Ok(served);
         }
-        let one = serve_one(rt, alloc, port, settings, keeper, helpers, gate, book)?;
+        let one = serve_one(port, checker)?;
         served = quota.counted(one, served);
     }
     Ok(served)
