@@ -9,13 +9,12 @@ use Rattle.desk_commands.specs.declared.fault.DeskFault.TheVariants as f
 use Rattle.desk_core.specs.States.{IsDesk}
 use Rattle.desk_core.specs.Steps.{IsLeft, Leaves}
 use Rattle.proof_store.specs.Counts.{NoneFalls}
-use Rattle.proof_store.specs.Provers.{Proceeds}
+use Rattle.proof_store.specs.Provers.{Limits, Proceeds}
 use Rattle.proof_store.specs.Stored.{Told}
-use Rattle.proof_store.specs.declared.settings.Settings.{Settings}
 use Rattle.desk_http.specs.Serving.{Acts, Keeps, State, StepsTo}
 use Rattle.desk_http.proofs.Keeping.{stays_told}
 
-module _ (s : Settings) (command : Command) (d e : State) where
+module _ (s : Limits) (command : Command) (d e : State) where
   keeps_of : Told (λ t u. IsDesk t → IsDesk u) d.tables e.tables → d.faults ≤ e.faults → NoneFalls d.asked e.asked → Keeps d e
   keeps_of desk faults asked = record { desk = desk; faults = faults; asked = asked }
 

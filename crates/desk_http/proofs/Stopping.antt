@@ -3,11 +3,11 @@ use Rattle.std.proofs.Common.{◌≡◌, ◌<◌, ◌≤◌, ◌+◌, ◌-◌, �
 use Rattle.std.specs.Prelude.{Bool, true, false, Result, Ok, Err, IfErr, IsErrAnd}
 use Rattle.http_connection.specs.declared.serve.Served.{Served}
 use Rattle.http_connection.specs.declared.serve.ServeFault.{ServeFault}
-use Rattle.proof_store.specs.declared.settings.Settings.{Settings}
+use Rattle.proof_store.specs.Provers.{Limits}
 use Rattle.desk_http.specs.declared.serving.Quota.{Quota}
 use Rattle.desk_http.specs.Serving.{Fills, Line, ServesMany, ServesOne, State, StopsWithin, counted}
 
-pub stops : {T : Type 0} (s : Settings) (q : Quota) (taken n : ℕ) (v u w : Line) (d c e : State) (r : Result T ServeFault) (x : ServeFault)
+pub stops : {T : Type 0} (s : Limits) (q : Quota) (taken n : ℕ) (v u w : Line) (d c e : State) (r : Result T ServeFault) (x : ServeFault)
     → IsErrAnd r (λ z. z ≡ x) → n < q.count → ServesMany s q.replied v d taken n u c → ServesOne s u c (Err x) w e → IfErr r (λ fault. StopsWithin s q v d fault w e)
 stops s q taken n v u w d c e (Ok t) x is fewer many one = absurd is
 stops s q taken n v u w d c e (Err fault) x is fewer many one = record {
@@ -38,5 +38,5 @@ pub fills_at_the_end : (q : Quota) (taken n : ℕ) → n ≤ q.count → (q.repl
 fills_at_the_end q taken n = full_or_last q.replied q.count taken n
 
 -- as much is spent on a line as at first
-pub served_so : (s z : Settings) (u w : Line) (c e : State) (r : Result Served ServeFault) → z ≡ s → ServesOne z u c r w e → ServesOne s u c r w e
-served_so s z u w c e r same one = subst (λ (x : Settings). ServesOne x u c r w e) same one
+pub served_so : (s z : Limits) (u w : Line) (c e : State) (r : Result Served ServeFault) → z ≡ s → ServesOne z u c r w e → ServesOne s u c r w e
+served_so s z u w c e r same one = subst (λ (x : Limits). ServesOne x u c r w e) same one

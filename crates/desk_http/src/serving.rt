@@ -1,6 +1,7 @@
 // Connections served one after another.
 ghost use Rattle.std.specs.Prelude.{◌≡◌, ◌<◌, ◌≤◌, IfErr, IfOk, OnErr, OnOk};
 ghost use Rattle.outside.specs.Faults.{Rose};
+ghost use Rattle.proof_store.specs.Provers.{limits_of};
 ghost use Rattle.desk_core.specs.Checkers.{IsSame};
 ghost use Rattle.desk_http.specs.Serving.{Keeps, ServesOne, ServesQuota, StopsWithin, counted, line, state_of};
 
@@ -19,7 +20,7 @@ pub fn serve_one<R: Threads + Sync, P: Port, K: Keeper, H: Helper, G: Gate + Syn
     port: &mut P,
     checker: &mut Checker<'_, '_, '_, '_, R, K, H, G>,
 ) -> Result<Served, ServeFault>
-    ensures serves { ServesOne checker.old.prover.settings (line (P.wire port.old) (P.faults port.old)) (state_of K.tables K.faults H.asked checker.old)
+    ensures serves { ServesOne (limits_of checker.old.prover.settings) (line (P.wire port.old) (P.faults port.old)) (state_of K.tables K.faults H.asked checker.old)
         result (line (P.wire port.new) (P.faults port.new)) (state_of K.tables K.faults H.asked checker.new) }
     ensures keeps { Keeps (state_of K.tables K.faults H.asked checker.old) (state_of K.tables K.faults H.asked checker.new) }
     ensures next_ok { OnOk result (P.next_faults port.new ≡ P.next_faults port.old) }
@@ -67,9 +68,9 @@ pub fn serve<R: Threads + Sync, P: Port, K: Keeper, H: Helper, G: Gate + Sync>(
     port: &mut P,
     checker: &mut Checker<'_, '_, '_, '_, R, K, H, G>,
 ) -> Result<u32, ServeFault>
-    ensures ok { IfOk result (λ n. ServesQuota checker.old.prover.settings quota (line (P.wire port.old) (P.faults port.old))
+    ensures ok { IfOk result (λ n. ServesQuota (limits_of checker.old.prover.settings) quota (line (P.wire port.old) (P.faults port.old))
         (state_of K.tables K.faults H.asked checker.old) n (line (P.wire port.new) (P.faults port.new)) (state_of K.tables K.faults H.asked checker.new)) }
-    ensures err { IfErr result (λ fault. StopsWithin checker.old.prover.settings quota (line (P.wire port.old) (P.faults port.old))
+    ensures err { IfErr result (λ fault. StopsWithin (limits_of checker.old.prover.settings) quota (line (P.wire port.old) (P.faults port.old))
         (state_of K.tables K.faults H.asked checker.old) fault (line (P.wire port.new) (P.faults port.new)) (state_of K.tables K.faults H.asked checker.new)) }
     ensures keeps { Keeps (state_of K.tables K.faults H.asked checker.old) (state_of K.tables K.faults H.asked checker.new) }
     ensures next_ok { OnOk result (P.next_faults port.new ≡ P.next_faults port.old) }

@@ -4,6 +4,15 @@ use Rattle.outside.specs.Faults.{Rose}
 use Rattle.outside.specs.Tables.{Tables}
 use Rattle.proof_store.specs.Counts.{NoneFalls}
 use Rattle.proof_store.specs.declared.prover.Prover.{Prover}
+use Rattle.proof_store.specs.declared.settings.Settings.{Settings}
+
+-- how many steps the solver may learn for an obligation, and how many workers decide side by side
+pub record Limits : Type 0 where
+  pub budget : ℕ
+  pub workers : ℕ
+
+abbrev pub limits_of : Settings → Limits
+limits_of s = record { budget = s.budget; workers = s.workers }
 
 -- what its keeper holds, where the keeper tells it
 abbrev pub kept_by : {R K H G : Type 0} → (K → Option Tables) → Prover R K H G → Option Tables

@@ -30,7 +30,7 @@ use Rattle.command_words.specs.declared.action.Service.{Service}
 use Rattle.signoff_call.specs.declared.answer.Answer.{Answer}
 use Rattle.signoff_call.specs.declared.files.Read.{Read}
 use Rattle.signoff_call.specs.declared.files.Read.TheVariants.{Both, NoModule, NoSet}
-use Rattle.signoff_call.specs.Run.{Answers, AnswersJob, AnswersMove, AnswersService, AnswersTexts, AppendsPrefix, Around, Delivers, IsRead, LeavesRead, LeavesRows, LeavesServed, LeavesTexts, Reads, RefusesBy, RefusesTexts, ReportsTexts, Stores, around, done, is_refuted, is_spent, moved_text, quota_of, refusal, refused_status, report_bytes, reported, served_text, stores, stores_of, summary, which_of}
+use Rattle.signoff_call.specs.Run.{Answers, AnswersJob, AnswersMove, AnswersService, AnswersTexts, AppendsPrefix, Around, Delivers, IsRead, LeavesRead, LeavesRows, LeavesServed, LeavesTexts, Reads, RefusesBy, RefusesTexts, ReportsTexts, Stores, around, done, is_refuted, is_spent, limits_for, moved_text, quota_of, refusal, refused_status, report_bytes, reported, served_text, stores, stores_of, summary, which_of}
 
 pub both_answered : {E : Type 0} (r : Result Answer E) (j : Job) (read : Read) (m s : List ℕ) (book : Book) (st : Stores) → read ≡ Both m s →
     IfOk r (AnswersTexts m s (which_of j.asked) j.budget j.workers (report_bytes j.asked book.lines.items) book st) → IfOk r (AnswersJob j read book st)
@@ -157,8 +157,8 @@ move_other book st a n p h is = ⊎_elim
 
 service_other : (s : Service) (a b : Around) (x : Answer) (n : ℕ) → IsApart n → (9 ≡ n → ⊥) → AnswersService s a b x → x.status ≡ n → ⊥
 service_other s a b x n p not_9 h is = ⊎_elim
-    (λ (all : (m : ℕ) × ServesQuota s.budget s.workers (quota_of s) a.line a.desk m b.line b.desk × (x ≡ done (served_text m))). done_other n p (status_is x (done (served_text all.0)) n all.2 is))
-    (λ (stops : StopsWithin s.budget s.workers (quota_of s) a.line a.desk Next b.line b.desk × (x ≡ refusal 9 (codes "port"))). not_9 (status_is x (refusal 9 (codes "port")) n stops.1 is)) h
+    (λ (all : (m : ℕ) × ServesQuota (limits_for s) (quota_of s) a.line a.desk m b.line b.desk × (x ≡ done (served_text m))). done_other n p (status_is x (done (served_text all.0)) n all.2 is))
+    (λ (stops : StopsWithin (limits_for s) (quota_of s) a.line a.desk Next b.line b.desk × (x ≡ refusal 9 (codes "port"))). not_9 (status_is x (refusal 9 (codes "port")) n stops.1 is)) h
 
 usage_apart_of : (book : Book) (st : Stores) (a : Answer) (n : ℕ) → IsApart n → RefusesBy 2 (codes "usage") book st a → a.status ≡ n → ⊥
 usage_apart_of book st a n p h is = usage_apart n p (status_is a (refusal 2 (codes "usage")) n h.answer_is is)
@@ -210,26 +210,26 @@ refusal_other (Err e) status n line P other h = tt
 -- ---- services
 
 -- fewer than all connections were served, and the one after them left all as it was
-pub left_stopped : (s : Service) (v w : Wires) (d e : State) (fault : ServeFault) → StopsWithin s.budget s.workers (quota_of s) v d fault w e → LeavesServed s (around d v) (around e w)
+pub left_stopped : (s : Service) (v w : Wires) (d e : State) (fault : ServeFault) → StopsWithin (limits_for s) (quota_of s) v d fault w e → LeavesServed s (around d v) (around e w)
 left_stopped s v w d e Next h = record {
   served = h.served;
   most = let fewer : h.served < s.count = h.fewer in omega arith;
   taken = h.taken;
   line = h.port;
-  did = subst (λ (x : State). ServesMany s.budget s.workers s.replied v d h.taken h.served h.port x) (sym h.last.0) h.before;
+  did = subst (λ (x : State). ServesMany (limits_for s) s.replied v d h.taken h.served h.port x) (sym h.last.0) h.before;
 }
 left_stopped s v w d e Memory h = record {
   served = h.served;
   most = let fewer : h.served < s.count = h.fewer in omega arith;
   taken = h.taken;
   line = h.port;
-  did = subst (λ (x : State). ServesMany s.budget s.workers s.replied v d h.taken h.served h.port x) (sym h.last.0) h.before;
+  did = subst (λ (x : State). ServesMany (limits_for s) s.replied v d h.taken h.served h.port x) (sym h.last.0) h.before;
 }
 
-pub left_served : (s : Service) (v w : Wires) (d e : State) (n : ℕ) → ServesQuota s.budget s.workers (quota_of s) v d n w e → LeavesServed s (around d v) (around e w)
+pub left_served : (s : Service) (v w : Wires) (d e : State) (n : ℕ) → ServesQuota (limits_for s) (quota_of s) v d n w e → LeavesServed s (around d v) (around e w)
 left_served s v w d e n h = record { served = n; most = h.most; taken = h.taken; line = w; did = h.many }
 
-pub port_answered : {E : Type 0} (r : Result Answer E) (s : Service) (a b : Around) → StopsWithin s.budget s.workers (quota_of s) a.line a.desk Next b.line b.desk →
+pub port_answered : {E : Type 0} (r : Result Answer E) (s : Service) (a b : Around) → StopsWithin (limits_for s) (quota_of s) a.line a.desk Next b.line b.desk →
     IfOk r (λ x. x ≡ refusal 9 (codes "port")) → IfOk r (AnswersService s a b)
 port_answered (Ok x) s a b stops is = inr (stops, is)
 port_answered (Err e) s a b stops is = tt

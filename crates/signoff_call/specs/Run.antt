@@ -32,6 +32,8 @@ use Rattle.command_words.specs.declared.action.Command.TheVariants as c
 use Rattle.command_words.specs.declared.action.Job.{Job}
 use Rattle.command_words.specs.declared.action.Service.{Service}
 use Rattle.http_connection.specs.declared.serve.ServeFault.TheVariants.{Next}
+use Rattle.proof_store.specs.Provers.{Limits}
+use Rattle.desk_core.specs.declared.checker.Checker.{Checker}
 use Rattle.desk_http.specs.declared.serving.Quota.{Quota}
 use Rattle.desk_http.specs.Serving.{Line as Wires, ServesMany, ServesQuota, State, StopsWithin}
 use Rattle.signoff_call.specs.declared.answer.Answer.{Answer}
@@ -156,6 +158,10 @@ pub record AnswersMove (book : Book) (st : Stores) (answer : Answer) : Type 0 wh
   pub is : (answer ≡ refusal 8 (codes "keeper"))
       ⊎ ((m : Moved) × Told (Walks (2 ^ 40) m) st.before st.after × (answer ≡ done (moved_text m)))
 
+-- the same keeper, helpers and book
+abbrev pub HasSame : {R K H G : Type 0} → Checker R K H G → Checker R K H G → Type 0
+HasSame c d = (d.prover.keeper.ghost_name ≡ c.prover.keeper.ghost_name) × (d.prover.helpers.ghost_name ≡ c.prover.helpers.ghost_name) × (d.book.ghost_name ≡ c.book.ghost_name)
+
 -- what a run finds around it, or leaves: the desk that the keeper holds, with the book, and the port
 pub record Around : Type 0 where
   pub desk : State
@@ -170,14 +176,17 @@ stores_of a b = stores a.desk.tables b.desk.tables a.desk.asked
 abbrev pub served_text : ℕ → List ℕ
 served_text n = codes "served " ++ counted_word n (codes "\n")
 
+abbrev pub limits_for : Service → Limits
+limits_for s = record { budget = s.budget; workers = s.workers }
+
 abbrev pub quota_of : Service → Quota
 quota_of s = record { count = s.count; replied = s.replied }
 
 -- as many connections were served as are to be, which the answer tells, or there was no next one
 abbrev pub AnswersService : Service → Around → Around → Answer → Type 0
 AnswersService s a b answer =
-    ((n : ℕ) × ServesQuota s.budget s.workers (quota_of s) a.line a.desk n b.line b.desk × (answer ≡ done (served_text n)))
-    ⊎ (StopsWithin s.budget s.workers (quota_of s) a.line a.desk Next b.line b.desk × (answer ≡ refusal 9 (codes "port")))
+    ((n : ℕ) × ServesQuota (limits_for s) (quota_of s) a.line a.desk n b.line b.desk × (answer ≡ done (served_text n)))
+    ⊎ (StopsWithin (limits_for s) (quota_of s) a.line a.desk Next b.line b.desk × (answer ≡ refusal 9 (codes "port")))
 
 -- the answer to a command, or to words that are none, with what it finds around it and what it leaves; only a service touches the port
 abbrev pub Answers : Option Command → Read → Around → Around → Answer → Type 0
@@ -194,7 +203,7 @@ pub record LeavesServed (s : Service) (a b : Around) : Type 0 where
   pub most : served ≤ s.count
   pub taken : ℕ
   pub line : Wires
-  pub did : ServesMany s.budget s.workers s.replied a.line a.desk taken served line b.desk
+  pub did : ServesMany (limits_for s) s.replied a.line a.desk taken served line b.desk
 
 -- ---- files
 

@@ -3,8 +3,9 @@ ghost use Rattle.std.specs.Prelude.{◌≡◌, ℕ, List, ◌⊎◌, ◌++◌, [
 ghost use Rattle.std.specs.Io.KnownBytes.{Appends};
 ghost use Rattle.outside.specs.Faults.{Rose};
 ghost use Rattle.command_words.specs.Commands.{IsBounded, HasBounds, command_of};
-ghost use Rattle.desk_http.specs.Serving.{line, state};
-ghost use Rattle.signoff_call.specs.Run.{Answers, AnswersJob, Delivers, LeavesRead, LeavesRows, Reads, around, stores};
+ghost use Rattle.proof_store.specs.Provers.{asked_by, kept_by};
+ghost use Rattle.desk_http.specs.Serving.{line, state, state_of};
+ghost use Rattle.signoff_call.specs.Run.{Answers, AnswersJob, Delivers, HasSame, LeavesRead, LeavesRows, Reads, around, stores};
 ghost use Rattle.signoff_call.specs.declared.answer.Answer.{Answer};
 ghost use Rattle.signoff_call.specs.declared.files.Read.{Read};
 
@@ -15,6 +16,7 @@ use crate::moved::moved;
 use crate::serving::served;
 use crate::texts::{demonstrated, judged};
 use command_words::{Command, Job, command_in};
+use desk_core::{Checker, Prover, Settings};
 use helper_box::Helper;
 use outside::{Gate, Keeper, OutFault, Port, Shelf, Sink};
 use reports::Book;
@@ -76,17 +78,19 @@ pub fn signoff<R: Threads + Sync, F: Shelf, S: Sink, K: Keeper, P: Port, H: Help
         × Delivers answer result (S.faults out.old) (S.faults out.new) (S.written out.old) (S.written out.new)) }
 {
     let mut helpers = helpers;
-    match answered(
+    let prover = Prover {
         rt,
         alloc,
-        words,
-        shelf,
+        settings: Settings {
+            budget: 20_000,
+            workers: 4,
+        },
         keeper,
-        port,
-        &mut helpers,
+        helpers: &mut helpers,
         gate,
-        book,
-    ) {
+    };
+    let mut checker = Checker { prover, book };
+    match answered(&mut checker, words, shelf, port) {
         Ok(answer) => deliver(alloc, &answer, out),
         Err(AllocError) => 70,
     }
@@ -94,64 +98,53 @@ pub fn signoff<R: Threads + Sync, F: Shelf, S: Sink, K: Keeper, P: Port, H: Help
 
 /// The answer to words.
 fn answered<R: Threads + Sync, F: Shelf, K: Keeper, P: Port, H: Helper, G: Gate + Sync>(
-    rt: &R,
-    alloc: Global,
+    checker: &mut Checker<'_, '_, '_, '_, R, K, H, G>,
     words: &[String],
     shelf: &mut F,
-    keeper: &mut K,
     port: &mut P,
-    helpers: &mut Vec<H>,
-    gate: &G,
-    book: &mut Book,
 ) -> Result<Answer, AllocError>
-    requires { book.old.lines.items ≡ [] }
+    requires { checker.old.book.now.lines.items ≡ [] }
     ensures answer { IfOk result (λ a. (read : Read)
         × Reads (F.files shelf.old) (F.faults shelf.old) (F.faults shelf.new) (command_of (map string_bytes words.now)) read
-        × Answers (command_of (map string_bytes words.now)) read
-        (around (state (K.tables keeper.old) (K.faults keeper.old) (map H.asked helpers.old.items) book.old) (line (P.wire port.old) (P.faults port.old)))
-        (around (state (K.tables keeper.new) (K.faults keeper.new) (map H.asked helpers.new.items) book.new) (line (P.wire port.new) (P.faults port.new))) a) }
-    ensures left { LeavesRows (F.files shelf.old) (command_of (map string_bytes words.now))
-        (around (state (K.tables keeper.old) (K.faults keeper.old) (map H.asked helpers.old.items) book.old) (line (P.wire port.old) (P.faults port.old)))
-        (around (state (K.tables keeper.new) (K.faults keeper.new) (map H.asked helpers.new.items) book.new) (line (P.wire port.new) (P.faults port.new))) }
-    ensures keeper { IfOk result (λ a. a.status ≡ 8 → Rose (K.faults keeper.old) (K.faults keeper.new)) }
+        × Answers (command_of (map string_bytes words.now)) read (around (state_of K.tables K.faults H.asked checker.old) (line (P.wire port.old) (P.faults port.old)))
+        (around (state_of K.tables K.faults H.asked checker.new) (line (P.wire port.new) (P.faults port.new))) a) }
+    ensures left { LeavesRows (F.files shelf.old) (command_of (map string_bytes words.now)) (around (state_of K.tables K.faults H.asked checker.old) (line (P.wire port.old) (P.faults port.old)))
+        (around (state_of K.tables K.faults H.asked checker.new) (line (P.wire port.new) (P.faults port.new))) }
+    ensures keeper { IfOk result (λ a. a.status ≡ 8 → Rose (K.faults checker.old.prover.keeper.now) (K.faults checker.new.prover.keeper.now)) }
     ensures port { IfOk result (λ a. a.status ≡ 9 → Rose (P.next_faults port.old) (P.next_faults port.new)) }
+    ensures same { HasSame checker.old checker.new }
 {
+    let alloc = checker.prover.alloc;
     match command_in(alloc, words)? {
         None => refusal(alloc, 2, b"usage", b""),
         Some(Command::Texts(job)) => {
             let read = read_both(alloc, shelf, &job)?;
-            job_answer(rt, alloc, &job, &read, keeper, helpers, gate, book)
+            job_answer(checker, &job, &read)
         }
-        Some(Command::Demo(stages)) => demonstrated(rt, alloc, stages, keeper, helpers, gate, book),
-        Some(Command::Serve(service)) => served(
-            rt, alloc, &service, keeper, port, helpers, gate, book,
-        ),
-        Some(Command::Migrate(_)) => moved(alloc, keeper, book),
+        Some(Command::Demo(stages)) => demonstrated(checker, stages),
+        Some(Command::Serve(service)) => served(checker, port, &service),
+        Some(Command::Migrate(_)) => moved(alloc, checker.prover.keeper, checker.book),
     }
 }
 
 fn job_answer<R: Threads + Sync, K: Keeper, H: Helper, G: Gate + Sync>(
-    rt: &R,
-    alloc: Global,
+    checker: &mut Checker<'_, '_, '_, '_, R, K, H, G>,
     job: &Job,
     read: &Read,
-    keeper: &mut K,
-    helpers: &mut Vec<H>,
-    gate: &G,
-    book: &mut Book,
 ) -> Result<Answer, AllocError>
     requires bounds { HasBounds job.now }
-    requires empty { book.old.lines.items ≡ [] }
-    ensures answer { IfOk result (AnswersJob job.now read.now book.new (stores (K.tables keeper.old) (K.tables keeper.new) (map H.asked helpers.old.items))) }
-    ensures left { LeavesRead job.now read.now (K.tables keeper.old) (K.tables keeper.new) }
-    ensures keeper { IfOk result (λ a. a.status ≡ 8 → Rose (K.faults keeper.old) (K.faults keeper.new)) }
+    requires empty { checker.old.book.now.lines.items ≡ [] }
+    ensures answer { IfOk result (AnswersJob job.now read.now checker.new.book.now
+        (stores (kept_by K.tables checker.old.prover) (kept_by K.tables checker.new.prover) (asked_by H.asked checker.old.prover))) }
+    ensures left { LeavesRead job.now read.now (kept_by K.tables checker.old.prover) (kept_by K.tables checker.new.prover) }
+    ensures keeper { IfOk result (λ a. a.status ≡ 8 → Rose (K.faults checker.old.prover.keeper.now) (K.faults checker.new.prover.keeper.now)) }
+    ensures same { HasSame checker.old checker.new }
 {
+    let alloc = checker.prover.alloc;
     match read {
         Read::NoModule => refusal(alloc, 6, b"read: ", job.module.bytes()),
         Read::NoSet => refusal(alloc, 6, b"read: ", job.set.bytes()),
-        Read::Both(module, set) => {
-            judged(rt, alloc, job, module, set, keeper, helpers, gate, book)
-        }
+        Read::Both(module, set) => judged(checker, job, module, set),
     }
 }
 

@@ -1,19 +1,19 @@
 // What is answered where the desk is served.
-ghost use Rattle.std.specs.Prelude.{◌≡◌, ◌++◌, IfOk, map};
+ghost use Rattle.std.specs.Prelude.{◌≡◌, ◌++◌, IfOk};
 ghost use Rattle.std.specs.Fmt.{decimal};
 ghost use Rattle.outside.specs.Faults.{Rose};
 ghost use Rattle.command_words.specs.Commands.{IsServed};
-ghost use Rattle.desk_http.specs.Serving.{line, state};
-ghost use Rattle.signoff_call.specs.Run.{AnswersService, LeavesServed, around, served_text};
+ghost use Rattle.desk_http.specs.Serving.{line, state_of};
+ghost use Rattle.signoff_call.specs.Run.{AnswersService, HasSame, LeavesServed, around, served_text};
 
 use crate::answer::{Answer, done, refusal};
 use command_words::Service;
+use desk_core::Checker;
 use desk_http::{Quota, serve};
 use helper_box::Helper;
 use http_connection::ServeFault;
 use outside::{Gate, Keeper, Port, Text};
 use proof_store::Settings;
-use reports::Book;
 use std::alloc::{AllocError, Global};
 use std::thread::Threads;
 
@@ -28,26 +28,21 @@ fn served_text(alloc: Global, count: u32) -> Result<Text, AllocError>
 
 /// Serves connections, and says how many, or that there was no next one.
 pub fn served<R: Threads + Sync, K: Keeper, P: Port, H: Helper, G: Gate + Sync>(
-    rt: &R,
-    alloc: Global,
-    service: &Service,
-    keeper: &mut K,
+    checker: &mut Checker<'_, '_, '_, '_, R, K, H, G>,
     port: &mut P,
-    helpers: &mut Vec<H>,
-    gate: &G,
-    book: &mut Book,
+    service: &Service,
 ) -> Result<Answer, AllocError>
     requires { IsServed service.now }
-    ensures answer { IfOk result (AnswersService service.now
-        (around (state (K.tables keeper.old) (K.faults keeper.old) (map H.asked helpers.old.items) book.old) (line (P.wire port.old) (P.faults port.old)))
-        (around (state (K.tables keeper.new) (K.faults keeper.new) (map H.asked helpers.new.items) book.new) (line (P.wire port.new) (P.faults port.new)))) }
-    ensures left { LeavesServed service.now
-        (around (state (K.tables keeper.old) (K.faults keeper.old) (map H.asked helpers.old.items) book.old) (line (P.wire port.old) (P.faults port.old)))
-        (around (state (K.tables keeper.new) (K.faults keeper.new) (map H.asked helpers.new.items) book.new) (line (P.wire port.new) (P.faults port.new))) }
+    ensures answer { IfOk result (AnswersService service.now (around (state_of K.tables K.faults H.asked checker.old) (line (P.wire port.old) (P.faults port.old)))
+        (around (state_of K.tables K.faults H.asked checker.new) (line (P.wire port.new) (P.faults port.new)))) }
+    ensures left { LeavesServed service.now (around (state_of K.tables K.faults H.asked checker.old) (line (P.wire port.old) (P.faults port.old)))
+        (around (state_of K.tables K.faults H.asked checker.new) (line (P.wire port.new) (P.faults port.new))) }
     ensures port { IfOk result (λ a. a.status ≡ 9 → Rose (P.next_faults port.old) (P.next_faults port.new)) }
-    ensures keeper { IfOk result (λ a. a.status ≡ 8 → Rose (K.faults keeper.old) (K.faults keeper.new)) }
+    ensures keeper { IfOk result (λ a. a.status ≡ 8 → Rose (K.faults checker.old.prover.keeper.now) (K.faults checker.new.prover.keeper.now)) }
+    ensures same { HasSame checker.old checker.new }
 {
-    let settings = Settings {
+    let alloc = checker.prover.alloc;
+    checker.prover.settings = Settings {
         budget: service.budget,
         workers: service.workers,
     };
@@ -55,9 +50,7 @@ pub fn served<R: Threads + Sync, K: Keeper, P: Port, H: Helper, G: Gate + Sync>(
         count: service.count,
         replied: service.replied,
     };
-    match serve(
-        rt, alloc, quota, port, &settings, keeper, helpers, gate, book,
-    ) {
+    match serve(quota, port, checker) {
         Ok(served) => Ok(done(served_text(alloc, served)?)),
         Err(ServeFault::Next) => refusal(alloc, 9, b"port", b""),
         Err(ServeFault::Memory) => Err(AllocError),

@@ -1,13 +1,14 @@
 // What is answered to two texts.
-ghost use Rattle.std.specs.Prelude.{◌≡◌, ◌≢◌, ◌≤◌, ◌++◌, [], map, IfOk, OnOk};
+ghost use Rattle.std.specs.Prelude.{◌≡◌, ◌≢◌, ◌≤◌, ◌++◌, [], IfOk, OnOk};
 ghost use Rattle.std.specs.Fmt.{decimal};
 ghost use Rattle.command_words.specs.Commands.{HasBounds};
 ghost use Rattle.check_faults.specs.declared.fault.CheckFault.TheVariants.{Memory};
 ghost use Rattle.fault_texts.specs.Texts.{fault_line, status_of};
 ghost use Rattle.outside.specs.Faults.{Rose};
-ghost use Rattle.signoff_call.specs.Run.{AnswersTexts, counted, first_traced, refusal, report_bytes, stores, summary, summary_line, which_of};
+ghost use Rattle.signoff_call.specs.Run.{AnswersTexts, HasSame, counted, first_traced, refusal, report_bytes, stores, summary, summary_line, which_of};
 ghost use Rattle.reports.specs.Reports.{last_line};
 ghost use Rattle.asked_lines.specs.Settled.{AddsProofsOf};
+ghost use Rattle.proof_store.specs.Provers.{asked_by, kept_by};
 ghost use Rattle.desk_core.specs.Checks.{AreObsOfTexts};
 ghost use Rattle.demo_gen.specs.Texts.{module_text, set_text};
 ghost use Rattle.reports.specs.declared.which.Which.TheVariants as w;
@@ -16,12 +17,12 @@ use crate::answer::{Answer, refused, reported};
 use check_faults::CheckFault;
 use command_words::{Asked, Job};
 use demo_gen::{module_text, set_text};
-use desk_core::check;
+use desk_core::Checker;
 use helper_box::Helper;
 use outside::{Gate, Keeper, Text};
 use proof_store::Settings;
 use replay::trace_text;
-use reports::{Book, Line, Report, Verdict, Which};
+use reports::{Line, Report, Verdict, Which};
 use std::alloc::{AllocError, Global};
 use std::thread::Threads;
 
@@ -78,42 +79,29 @@ fn turned_down(alloc: Global, fault: CheckFault) -> Result<Answer, AllocError>
 
 /// The answer to two texts.
 pub fn judged<R: Threads + Sync, K: Keeper, H: Helper, G: Gate + Sync>(
-    rt: &R,
-    alloc: Global,
+    checker: &mut Checker<'_, '_, '_, '_, R, K, H, G>,
     job: &Job,
     module: &Text,
     set: &Text,
-    keeper: &mut K,
-    helpers: &mut Vec<H>,
-    gate: &G,
-    book: &mut Book,
 ) -> Result<Answer, AllocError>
     requires bounds { HasBounds job.now }
-    requires empty { book.old.lines.items ≡ [] }
-    ensures answer { IfOk result (AnswersTexts «module».now set.now (which_of job.now.asked) job.now.budget job.now.workers (report_bytes job.now.asked book.new.lines.items) book.new
-        (stores (K.tables keeper.old) (K.tables keeper.new) (map H.asked helpers.old.items))) }
-    ensures left { AddsProofsOf (AreObsOfTexts «module».now set.now (which_of job.now.asked)) (K.tables keeper.old) (K.tables keeper.new) }
-    ensures keeper { IfOk result (λ a. a.status ≡ 8 → Rose (K.faults keeper.old) (K.faults keeper.new)) }
+    requires empty { checker.old.book.now.lines.items ≡ [] }
+    ensures answer { IfOk result (AnswersTexts «module».now set.now (which_of job.now.asked) job.now.budget job.now.workers
+        (report_bytes job.now.asked checker.new.book.now.lines.items) checker.new.book.now
+        (stores (kept_by K.tables checker.old.prover) (kept_by K.tables checker.new.prover) (asked_by H.asked checker.old.prover))) }
+    ensures left { AddsProofsOf (AreObsOfTexts «module».now set.now (which_of job.now.asked)) (kept_by K.tables checker.old.prover) (kept_by K.tables checker.new.prover) }
+    ensures keeper { IfOk result (λ a. a.status ≡ 8 → Rose (K.faults checker.old.prover.keeper.now) (K.faults checker.new.prover.keeper.now)) }
+    ensures same { HasSame checker.old checker.new }
 {
+    let alloc = checker.prover.alloc;
     let which = which_of(alloc, &job.asked)?;
-    let settings = Settings {
+    checker.prover.settings = Settings {
         budget: job.budget,
         workers: job.workers,
     };
-    match check(
-        rt,
-        alloc,
-        module.bytes(),
-        set.bytes(),
-        &which,
-        &settings,
-        keeper,
-        helpers,
-        gate,
-        book,
-    ) {
+    match checker.check(module.bytes(), set.bytes(), &which) {
         Ok(report) => {
-            let bytes = report_bytes(alloc, &job.asked, &book.lines, &report)?;
+            let bytes = report_bytes(alloc, &job.asked, &checker.book.lines, &report)?;
             Ok(reported(&report.verdicts, bytes))
         }
         Err(fault) => turned_down(alloc, fault),
@@ -193,39 +181,25 @@ fn summary(alloc: Global, stages: u32, report: &Report) -> Result<Text, AllocErr
 
 /// The answer to the generated texts of so many stages.
 pub fn demonstrated<R: Threads + Sync, K: Keeper, H: Helper, G: Gate + Sync>(
-    rt: &R,
-    alloc: Global,
+    checker: &mut Checker<'_, '_, '_, '_, R, K, H, G>,
     stages: u32,
-    keeper: &mut K,
-    helpers: &mut Vec<H>,
-    gate: &G,
-    book: &mut Book,
 ) -> Result<Answer, AllocError>
     requires stages { (1 ≤ stages) × (stages ≤ 64) }
-    requires empty { book.old.lines.items ≡ [] }
-    ensures answer { IfOk result (AnswersTexts (module_text stages) (set_text stages) w.All 20000 4 (summary stages) book.new
-        (stores (K.tables keeper.old) (K.tables keeper.new) (map H.asked helpers.old.items))) }
-    ensures left { AddsProofsOf (AreObsOfTexts (module_text stages) (set_text stages) w.All) (K.tables keeper.old) (K.tables keeper.new) }
-    ensures keeper { IfOk result (λ a. a.status ≡ 8 → Rose (K.faults keeper.old) (K.faults keeper.new)) }
+    requires empty { checker.old.book.now.lines.items ≡ [] }
+    ensures answer { IfOk result (AnswersTexts (module_text stages) (set_text stages) w.All 20000 4 (summary stages) checker.new.book.now
+        (stores (kept_by K.tables checker.old.prover) (kept_by K.tables checker.new.prover) (asked_by H.asked checker.old.prover))) }
+    ensures left { AddsProofsOf (AreObsOfTexts (module_text stages) (set_text stages) w.All) (kept_by K.tables checker.old.prover) (kept_by K.tables checker.new.prover) }
+    ensures keeper { IfOk result (λ a. a.status ≡ 8 → Rose (K.faults checker.old.prover.keeper.now) (K.faults checker.new.prover.keeper.now)) }
+    ensures same { HasSame checker.old checker.new }
 {
+    let alloc = checker.prover.alloc;
     let module = module_text(alloc, stages)?;
     let set = set_text(alloc, stages)?;
-    let settings = Settings {
+    checker.prover.settings = Settings {
         budget: 20_000,
         workers: 4,
     };
-    match check(
-        rt,
-        alloc,
-        module.bytes(),
-        set.bytes(),
-        &Which::All,
-        &settings,
-        keeper,
-        helpers,
-        gate,
-        book,
-    ) {
+    match checker.check(module.bytes(), set.bytes(), &Which::All) {
         Ok(report) => {
             let text = summary(alloc, stages, &report)?;
             Ok(reported(&report.verdicts, text))

@@ -13,7 +13,7 @@ pub returns-in-Ok-clause-answer : goal.returns-in-Ok-clause-answer
 returns-in-Ok-clause-answer g c =
     let r = c.in-Ok.report in
     let n = c.args.stages in
-    let lines = c.check.new.book.lines.items in
+    let lines = c.check.new.self.book.now.lines.items in
     let first = subst (λ (m : List ℕ). IsReport m c.bytes-2.result.now w.All 20000 lines r) (c.bytes.ensures ∙ c.in_ok-module.ensures) c.in-Ok.ensures.report in
     let is = subst (λ (s : List ℕ). IsReport (module_text n) s w.All 20000 lines r) (c.bytes-2.ensures ∙ c.in_ok-set.ensures) first in
     inr (record {
@@ -31,16 +31,16 @@ pub returns-clause-answer : goal.returns-clause-answer
 returns-clause-answer g c =
     let n = c.args.stages in
     let fault = c.in-Err.fault in
-    let before = g.K.Keeper.tables c.args.keeper.now in
-    let after = g.K.Keeper.tables c.check.new.keeper in
+    let before = g.K.Keeper.tables c.args.checker.now.prover.keeper.now in
+    let after = g.K.Keeper.tables c.check.new.self.prover.keeper.now in
     let first = subst (λ (m : List ℕ). Refuses m c.bytes-2.result.now w.All fault) (c.bytes.ensures ∙ c.in_ok-module.ensures) c.in-Err.ensures.refuses in
     let refuses = subst (λ (s : List ℕ). Refuses (module_text n) s w.All fault) (c.bytes-2.ensures ∙ c.in_ok-set.ensures) first in
     let left_first = subst (λ (m : List ℕ). AddsProofsOf (AreObsOfTexts m c.bytes-2.result.now w.All) before after) (c.bytes.ensures ∙ c.in_ok-module.ensures) c.check.ensures.left in
     let left = subst (λ (s : List ℕ). AddsProofsOf (AreObsOfTexts (module_text n) s w.All) before after) (c.bytes-2.ensures ∙ c.in_ok-set.ensures) left_first in
-    turned_answered c.turned_down.result (module_text n) (set_text n) w.All 20000 4 (summary n) c.check.new.book _ fault refuses c.in-Err.ensures.empty left c.turned_down.ensures.memory c.turned_down.ensures.line
+    turned_answered c.turned_down.result (module_text n) (set_text n) w.All 20000 4 (summary n) c.check.new.self.book.now _ fault refuses c.in-Err.ensures.empty left c.turned_down.ensures.memory c.turned_down.ensures.line
 
 pub returns-clause-keeper : goal.returns-clause-keeper
-returns-clause-keeper g c = turned_keeper c.turned_down.result c.in-Err.fault _ (λ is. c.check.ensures.keeper (subst (λ (z : CheckFault). c.check.result ≡ Err z) is c.in-Err.is)) c.turned_down.ensures.line
+returns-clause-keeper g c = turned_keeper c.turned_down.result c.in-Err.fault _ (λ is. c.check.ensures.proceeds.keeper.rose (subst (λ (z : CheckFault). c.check.result ≡ Err z) is c.in-Err.is)) c.turned_down.ensures.line
 
 pub returns-in-Ok-clause-left : goal.returns-in-Ok-clause-left
 returns-in-Ok-clause-left g c = left_of c.bytes.result.now (module_text c.args.stages) c.bytes-2.result.now (set_text c.args.stages) w.All w.All _ _ (c.bytes.ensures ∙ c.in_ok-module.ensures) (c.bytes-2.ensures ∙ c.in_ok-set.ensures) refl c.check.ensures.left

@@ -13,7 +13,7 @@ pub returns-in-Ok-clause-answer : goal.returns-in-Ok-clause-answer
 returns-in-Ok-clause-answer g c =
     let r = c.in-Ok.report in
     let j = c.args.job.now in
-    let lines = c.check.new.book.lines.items in
+    let lines = c.check.new.self.book.now.lines.items in
     let asked = subst (λ (w : Which). IsReport c.bytes.result.now c.bytes-2.result.now w j.budget lines r) c.in_ok-which.ensures c.in-Ok.ensures.report in
     let first = subst (λ (m : List ℕ). IsReport m c.bytes-2.result.now (which_of j.asked) j.budget lines r) c.bytes.ensures asked in
     let is = subst (λ (s : List ℕ). IsReport c.args.module.now s (which_of j.asked) j.budget lines r) c.bytes-2.ensures first in
@@ -33,18 +33,18 @@ pub returns-clause-answer : goal.returns-clause-answer
 returns-clause-answer g c =
     let j = c.args.job.now in
     let fault = c.in-Err.fault in
-    let before = g.K.Keeper.tables c.args.keeper.now in
-    let after = g.K.Keeper.tables c.check.new.keeper in
+    let before = g.K.Keeper.tables c.args.checker.now.prover.keeper.now in
+    let after = g.K.Keeper.tables c.check.new.self.prover.keeper.now in
     let asked = subst (λ (w : Which). Refuses c.bytes.result.now c.bytes-2.result.now w fault) c.in_ok-which.ensures c.in-Err.ensures.refuses in
     let first = subst (λ (m : List ℕ). Refuses m c.bytes-2.result.now (which_of j.asked) fault) c.bytes.ensures asked in
     let refuses = subst (λ (s : List ℕ). Refuses c.args.module.now s (which_of j.asked) fault) c.bytes-2.ensures first in
     let left_asked = subst (λ (w : Which). AddsProofsOf (AreObsOfTexts c.bytes.result.now c.bytes-2.result.now w) before after) c.in_ok-which.ensures c.check.ensures.left in
     let left_first = subst (λ (m : List ℕ). AddsProofsOf (AreObsOfTexts m c.bytes-2.result.now (which_of j.asked)) before after) c.bytes.ensures left_asked in
     let left = subst (λ (s : List ℕ). AddsProofsOf (AreObsOfTexts c.args.module.now s (which_of j.asked)) before after) c.bytes-2.ensures left_first in
-    turned_answered c.turned_down.result c.args.module.now c.args.set.now (which_of j.asked) j.budget j.workers _ c.check.new.book _ fault refuses c.in-Err.ensures.empty left c.turned_down.ensures.memory c.turned_down.ensures.line
+    turned_answered c.turned_down.result c.args.module.now c.args.set.now (which_of j.asked) j.budget j.workers _ c.check.new.self.book.now _ fault refuses c.in-Err.ensures.empty left c.turned_down.ensures.memory c.turned_down.ensures.line
 
 pub returns-clause-keeper : goal.returns-clause-keeper
-returns-clause-keeper g c = turned_keeper c.turned_down.result c.in-Err.fault _ (λ is. c.check.ensures.keeper (subst (λ (z : CheckFault). c.check.result ≡ Err z) is c.in-Err.is)) c.turned_down.ensures.line
+returns-clause-keeper g c = turned_keeper c.turned_down.result c.in-Err.fault _ (λ is. c.check.ensures.proceeds.keeper.rose (subst (λ (z : CheckFault). c.check.result ≡ Err z) is c.in-Err.is)) c.turned_down.ensures.line
 
 pub returns-in-Ok-clause-left : goal.returns-in-Ok-clause-left
 returns-in-Ok-clause-left g c = left_of c.bytes.result.now c.args.module.now c.bytes-2.result.now c.args.set.now _ (which_of c.args.job.now.asked) _ _ c.bytes.ensures c.bytes-2.ensures c.in_ok-which.ensures c.check.ensures.left
