@@ -1,5 +1,4 @@
-use cdcl::End;
-use job_pool::{Tickets, run_jobs};
+use job_pool::{Evidence, Tickets, run_jobs};
 use outside::{Gate, QuietGate};
 use std::alloc::{AllocError, Global};
 use std::sync::atomic::Ordering::SeqCst;
@@ -107,9 +106,9 @@ fn ends_stand_in_the_order_of_the_jobs(rt: HostRuntime) -> Result<(), Fail> {
         assert_eq!(rt; ran.ends.len(), 5);
         for (one, end) in ones.iter().zip(&ran.ends) {
             match end {
-                End::Unsat(_) => assert!(rt; !*one),
-                End::Sat(_) => assert!(rt; *one),
-                End::Spent(_) => panic!(rt; "nothing is spent"),
+                Evidence::Derivation(_) => assert!(rt; !*one),
+                Evidence::Values(_) => assert!(rt; *one),
+                Evidence::Chain(_) => panic!(rt; "nothing is spent"),
             }
         }
     }

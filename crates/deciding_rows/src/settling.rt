@@ -1,16 +1,17 @@
-// Obligations settled over a keeper, and rows of kept proofs moved.
+// Goals settled by a prover, and rows of kept proofs moved.
 use crate::helpers::{Liar, zero};
 use helper_box::{Helper, Table};
+use job_pool::Evidence;
 use outside::{Keeper, MemKeeper, QuietGate, Text};
-use proof_store::{Settings, Settled, StoreFault, migrate, settle};
+use proof_store::{Goal, Prover, Settings, Settled, StoreFault, migrate};
+use set_tree::Line;
 use std::alloc::{AllocError, Global};
 use std::process::Abort;
 use std::test::Fail;
 use std::thread::Threads;
 use step_records::{fits_version_1, read_steps, write_steps_1};
-use verdicts::Evidence;
 use word_core::Word;
-use word_dag::{Named, Node, Ob, Op, text};
+use word_dag::{Node, Ob, Op, text};
 
 // A word is less than another and also greater.
 fn between(alloc: Global) -> Result<Ob, AllocError> {
@@ -67,13 +68,6 @@ fn five(alloc: Global) -> Result<Ob, AllocError> {
     Ok(Ob::new(nodes, 2))
 }
 
-fn named(alloc: Global, name: &[u8], ob: Ob) -> Result<Named, AllocError> {
-    Ok(Named {
-        name: Text::copy(alloc, name)?,
-        ob,
-    })
-}
-
 // What an obligation's end is shown by.
 #[derive(Clone, Copy, Debug, PartialEq, Eq)]
 enum End {
@@ -115,29 +109,37 @@ const SETTINGS: Settings = Settings {
     workers: 2,
 };
 
-// Settles at most three obligations.
+// Settles at most three goals.
 fn settled(
     rt: &(impl Threads + Sync + Abort + AllocGlobal),
-    obs: &[Named],
+    goals: Vec<Goal>,
     keeper: &mut MemKeeper,
     helpers: &mut Vec<Box<dyn Helper>>,
 ) -> Result<Settled, StoreFault> {
-    assert!(rt; obs.len() <= 3);
-    settle(rt, rt.alloc(), obs, keeper, helpers, &SETTINGS, &QuietGate)
+    assert!(rt; goals.len() <= 3);
+    let mut prover = Prover {
+        rt,
+        alloc: rt.alloc(),
+        settings: SETTINGS,
+        keeper,
+        helpers,
+        gate: &QuietGate,
+    };
+    prover.settle(goals)
 }
 
 // How many are kept, helped and solved, how many numbers are drawn, and the ends.
 type Want<'a> = ((u64, u64, u64, usize), &'a [End]);
 
-// Settles obligations, and wants what comes of them.
+// Settles goals, and wants what comes of them.
 fn settles(
     rt: &(impl Threads + Sync + Abort + AllocGlobal),
-    obs: &[Named],
+    goals: Vec<Goal>,
     keeper: &mut MemKeeper,
     helpers: &mut Vec<Box<dyn Helper>>,
     want: Want<'_>,
 ) -> Result<(), Fail> {
-    let settled = settled(rt, obs, keeper, helpers)?;
+    let settled = settled(rt, goals, keeper, helpers)?;
     assert_eq!(rt; counts(&settled), want.0);
     assert!(rt; end_so(&settled, want.1));
     Ok(())
@@ -147,18 +149,28 @@ const ENDS: &[End] = &[End::Derivation, End::Derivation, End::Values];
 
 const TWO_ENDS: &[End] = &[End::Derivation, End::Derivation];
 
-// Two obligations whose root is never 1, and one whose root is 1 at one value.
-fn add_three(alloc: Global, all: &mut Vec<Named>) -> Result<(), AllocError> {
-    all.push(named(alloc, b"zero", zero(alloc)?)?)?;
-    all.push(named(alloc, b"between", between(alloc)?)?)?;
-    all.push(named(alloc, b"five", five(alloc)?)?)?;
-    Ok(())
+// Two goals whose root is never 1.
+fn two(alloc: Global) -> Result<Vec<Goal>, AllocError> {
+    let mut goals = Vec::new(alloc);
+    goals.push(Goal {
+        line: Line::Reset,
+        ob: zero(alloc)?,
+    })?;
+    goals.push(Goal {
+        line: Line::Operation(1),
+        ob: between(alloc)?,
+    })?;
+    Ok(goals)
 }
 
-fn three(alloc: Global) -> Result<Vec<Named>, AllocError> {
-    let mut all = Vec::new(alloc);
-    add_three(alloc, &mut all)?;
-    Ok(all)
+// The same, and one whose root is 1 at one value.
+fn three(alloc: Global) -> Result<Vec<Goal>, AllocError> {
+    let mut goals = two(alloc)?;
+    goals.push(Goal {
+        line: Line::Operation(2),
+        ob: five(alloc)?,
+    })?;
+    Ok(goals)
 }
 
 // The row of an obligation gets another first byte.
@@ -175,36 +187,32 @@ fn spoil(alloc: Global, keeper: &mut MemKeeper, ob: &Ob) -> Result<(), Fail> {
 // The second row is damaged before the third turn.
 fn settled_again(
     rt: &(impl Threads + Sync + Abort + AllocGlobal),
-    obs: &[Named],
     keeper: &mut MemKeeper,
     helpers: &mut Vec<Box<dyn Helper>>,
 ) -> Result<(), Fail> {
-    settles(rt, obs, keeper, helpers, ((0, 0, 3, 5), ENDS))?;
-    settles(rt, obs, keeper, helpers, ((2, 0, 1, 3), ENDS))?;
-    assert!(rt; obs.len() == 3);
-    spoil(rt.alloc(), keeper, &obs[1].ob)?;
-    settles(rt, obs, keeper, helpers, ((1, 0, 2, 4), ENDS))?;
-    settles(rt, obs, keeper, helpers, ((2, 0, 1, 3), ENDS))
+    let alloc: Global = rt.alloc();
+    settles(rt, three(alloc)?, keeper, helpers, ((0, 0, 3, 5), ENDS))?;
+    settles(rt, three(alloc)?, keeper, helpers, ((2, 0, 1, 3), ENDS))?;
+    spoil(alloc, keeper, &between(alloc)?)?;
+    settles(rt, three(alloc)?, keeper, helpers, ((1, 0, 2, 4), ENDS))?;
+    settles(rt, three(alloc)?, keeper, helpers, ((2, 0, 1, 3), ENDS))
 }
 
 #[test]
 fn proofs_are_kept_and_checked_again(rt: HostRuntime) -> Result<(), Fail> {
     let alloc: Global = rt.alloc();
-    let obs = three(alloc)?;
     let mut keeper = MemKeeper::new(alloc, Vec::new(alloc));
-    settled_again(&rt, &obs, &mut keeper, &mut Vec::new(alloc))
+    settled_again(&rt, &mut keeper, &mut Vec::new(alloc))
 }
 
 #[test]
 fn with_all_kept_no_number_is_drawn(rt: HostRuntime) -> Result<(), Fail> {
     let alloc: Global = rt.alloc();
-    let mut obs = three(alloc)?;
-    obs.truncate(2);
     let mut keeper = MemKeeper::new(alloc, Vec::new(alloc));
     for want in [(0, 0, 2, 4), (2, 0, 0, 0)] {
         settles(
             &rt,
-            &obs,
+            two(alloc)?,
             &mut keeper,
             &mut Vec::new(alloc),
             (want, TWO_ENDS),
@@ -213,16 +221,16 @@ fn with_all_kept_no_number_is_drawn(rt: HostRuntime) -> Result<(), Fail> {
     Ok(())
 }
 
-// Settles obligations over an empty keeper, and wants what comes of them and how often the liar was asked by then.
+// Settles three goals over an empty keeper, and wants what comes of them and how often the liar was asked by then.
 fn helped(
     rt: &(impl Threads + Sync + Abort + AllocGlobal),
-    obs: &[Named],
     helpers: &mut Vec<Box<dyn Helper>>,
     want: Want<'_>,
     asked: u64,
 ) -> Result<(), Fail> {
-    let mut keeper = MemKeeper::new(rt.alloc(), Vec::new(rt.alloc()));
-    settles(rt, obs, &mut keeper, helpers, want)?;
+    let alloc: Global = rt.alloc();
+    let mut keeper = MemKeeper::new(alloc, Vec::new(alloc));
+    settles(rt, three(alloc)?, &mut keeper, helpers, want)?;
     let so_often = helpers
         .first()
         .is_some_and(|helper| helper.offers() == asked);
@@ -232,14 +240,13 @@ fn helped(
 
 fn helped_by_a_table(
     rt: &(impl Threads + Sync + Abort + AllocGlobal),
-    obs: &[Named],
     helpers: &mut Vec<Box<dyn Helper>>,
 ) -> Result<(), Fail> {
     let alloc: Global = rt.alloc();
     helpers.push(Box::new(alloc, Liar { offers: 0 })?)?;
-    helped(rt, obs, helpers, ((0, 0, 3, 5), ENDS), 3)?;
+    helped(rt, helpers, ((0, 0, 3, 5), ENDS), 3)?;
     helpers.push(Box::new(alloc, Table::new())?)?;
-    helped(rt, obs, helpers, ((0, 1, 2, 4), ENDS), 6)?;
+    helped(rt, helpers, ((0, 1, 2, 4), ENDS), 6)?;
     let last = helpers.last().is_some_and(|helper| helper.offers() == 3);
     assert!(rt; last);
     Ok(())
@@ -247,19 +254,14 @@ fn helped_by_a_table(
 
 #[test]
 fn claims_that_pass_count(rt: HostRuntime) -> Result<(), Fail> {
-    let alloc: Global = rt.alloc();
-    helped_by_a_table(&rt, &three(alloc)?, &mut Vec::new(alloc))
+    helped_by_a_table(&rt, &mut Vec::new(rt.alloc()))
 }
 
 // Whether the keeper fails where this call of it does.
-fn fails(
-    rt: &(impl Threads + Sync + Abort + AllocGlobal),
-    obs: &[Named],
-    call: u64,
-) -> Result<bool, Fail> {
+fn fails(rt: &(impl Threads + Sync + Abort + AllocGlobal), call: u64) -> Result<bool, Fail> {
     let alloc: Global = rt.alloc();
     let mut keeper = MemKeeper::new(alloc, [call].as_slice().to_vec(alloc)?);
-    match settled(rt, obs, &mut keeper, &mut Vec::new(alloc)) {
+    match settled(rt, three(alloc)?, &mut keeper, &mut Vec::new(alloc)) {
         Ok(_) => Ok(false),
         Err(StoreFault::Keeper) => Ok(true),
         Err(StoreFault::Memory) => Err(AllocError)?,
@@ -269,9 +271,8 @@ fn fails(
 // Each of the calls that the keeper gets fails in turn; the first is answered without a fault where no call fails.
 #[test]
 fn a_keeper_that_fails_is_told(rt: HostRuntime) -> Result<(), Fail> {
-    let obs = three(rt.alloc())?;
     for call in 1..7u64 {
-        let failed = fails(&rt, &obs, call)?;
+        let failed = fails(&rt, call)?;
         assert!(rt; failed == (call < 6));
     }
     Ok(())
@@ -305,24 +306,22 @@ fn moves(rt: &(impl Abort + AllocGlobal), keeper: &mut MemKeeper) -> Result<(), 
     Ok(())
 }
 
-// Settles three obligations, moves their rows from the first version, and settles them again.
+// Settles three goals, moves their rows from the first version, and settles them again.
 fn settled_and_moved(
     rt: &(impl Threads + Sync + Abort + AllocGlobal),
-    obs: &[Named],
     keeper: &mut MemKeeper,
 ) -> Result<(), Fail> {
     let alloc: Global = rt.alloc();
-    settles(rt, obs, keeper, &mut Vec::new(alloc), ((0, 0, 3, 5), ENDS))?;
-    assert!(rt; obs.len() == 3);
-    put_first(alloc, keeper, &obs[0].ob)?;
-    put_first(alloc, keeper, &obs[1].ob)?;
+    let helpers = &mut Vec::new(alloc);
+    settles(rt, three(alloc)?, keeper, helpers, ((0, 0, 3, 5), ENDS))?;
+    put_first(alloc, keeper, &zero(alloc)?)?;
+    put_first(alloc, keeper, &between(alloc)?)?;
     moves(rt, keeper)?;
-    settles(rt, obs, keeper, &mut Vec::new(alloc), ((2, 0, 1, 3), ENDS))
+    settles(rt, three(alloc)?, keeper, helpers, ((2, 0, 1, 3), ENDS))
 }
 
 #[test]
 fn rows_are_moved(rt: HostRuntime) -> Result<(), Fail> {
     let alloc: Global = rt.alloc();
-    let obs = three(alloc)?;
-    settled_and_moved(&rt, &obs, &mut MemKeeper::new(alloc, Vec::new(alloc)))
+    settled_and_moved(&rt, &mut MemKeeper::new(alloc, Vec::new(alloc)))
 }

@@ -1,10 +1,9 @@
 // How often a helper is asked.
 use crate::examples::{COUNTER, STEP_ALONE};
 use clause_check::{Clause, Cnf, Step};
-use desk_core::check;
+use desk_core::{Checker, Prover, Settings};
 use helper_box::{Claim, Helper};
 use outside::{MemKeeper, QuietGate};
-use proof_store::Settings;
 use reports::{Book, Which};
 use std::alloc::{AllocError, Global};
 use std::process::Abort;
@@ -42,22 +41,22 @@ fn is_checked(
     helpers: &mut Vec<Box<dyn Helper>>,
 ) -> bool {
     let alloc = rt.alloc();
-    let settings = Settings {
-        budget: 20_000,
-        workers: 4,
-    };
-    let ended = check(
+    let prover = Prover {
         rt,
         alloc,
-        COUNTER,
-        STEP_ALONE,
-        &Which::All,
-        &settings,
-        &mut MemKeeper::new(alloc, Vec::new(alloc)),
+        settings: Settings {
+            budget: 20_000,
+            workers: 4,
+        },
+        keeper: &mut MemKeeper::new(alloc, Vec::new(alloc)),
         helpers,
-        &QuietGate,
-        &mut Book::new(alloc),
-    );
+        gate: &QuietGate,
+    };
+    let mut checker = Checker {
+        prover,
+        book: &mut Book::new(alloc),
+    };
+    let ended = checker.check(COUNTER, STEP_ALONE, &Which::All);
     ended.is_ok()
 }
 

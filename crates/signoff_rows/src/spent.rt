@@ -3,7 +3,7 @@ use crate::examples::{MUL, MUL_SET};
 use crate::running::run;
 use outside::QuietGate;
 use std::test::Fail;
-use verdicts::Evidence;
+use job_pool::Evidence;
 
 // Its evidence is a chain of as many steps as the budget has.
 #[test]
