@@ -18,5 +18,5 @@ returns c =
     let resets : c.resets_of-resets.result ≡ resets_of b.set line = c.resets_of-resets.ensures.resets ∙ ap (λ (z : Set). resets_of z line) c.set-set.ensures in
     let last : c.last_cycle-last.result ≡ last_cycle b.set line = c.last_cycle-last.ensures.last ∙ ap (λ (z : Set). last_cycle z line) c.set-set.ensures in
     let told : ShowsNamed b.design b.set e (resets_of b.set line) (last_cycle b.set line) shown =
-      subst (λ k. ShowsNamed b.design b.set e k (last_cycle b.set line) shown) resets (subst (λ n. ShowsNamed b.design b.set e c.resets_of-resets.result n shown) last c.in_ok-shown.ensures) in
+    subst (λ k. ShowsNamed b.design b.set e k (last_cycle b.set line) shown) resets (subst (λ n. ShowsNamed b.design b.set e c.resets_of-resets.result n shown) last c.in_ok-shown.ensures) in
     shows_segment b.design design b.set c.design-design.ensures.fits e (meaning_of b.set) shown line violates told

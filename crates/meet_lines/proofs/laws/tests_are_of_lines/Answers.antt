@@ -1,0 +1,5 @@
+use Rattle.meet_lines.proofs.Testing.{tests_are_of_lines}
+use Rattle.meet_lines.proofs.laws.tests_are_of_lines.Goals as goal
+
+pub returns : goal.returns
+returns c = tests_are_of_lines

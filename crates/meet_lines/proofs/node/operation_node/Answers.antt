@@ -1,0 +1,17 @@
+use Rattle.std.specs.Prelude.{◌&&◌}
+use Rattle.line_laws.specs.Tests.{meets_constraints}
+use Rattle.set_tree.specs.Formulas.{meaning_of}
+use Rattle.set_tree.specs.Parts.{assumed}
+use Rattle.segment_laws.specs.Tests.{meets_invariants}
+use Rattle.twin_tests.proofs.Standing.{leaves_later}
+use Rattle.unroll.proofs.Joining.{joined}
+use Rattle.meet_lines.proofs.node.operation_node.Goals as goal
+
+pub assumed_node-requires-clause-leaves : goal.assumed_node-requires-clause-leaves
+assumed_node-requires-clause-leaves c = leaves_later c.args.dag.now c.begins_node.new.dag c.args.set.now.names c.args.rows.now c.in_ok-begins.ensures.keeps c.requires.leaves
+
+pub returns-clause-node : goal.returns-clause-node
+returns-clause-node c =
+    let set = c.args.set.now in
+    let m = meaning_of set in
+    joined set.names c.args.dag.now c.begins_node.new.dag c.assumed_node.new.dag c.both.new.dag c.args.rows.now c.in_ok-begins.begins c.in_ok-assumed.assumed c.in_ok-node.node (λ r. meets_constraints m set r && meets_invariants m set r) (λ r. assumed m set c.args.at r) c.in_ok-begins.ensures.keeps c.in_ok-assumed.ensures.keeps c.in_ok-begins.ensures.node c.in_ok-assumed.ensures.node c.in_ok-node.ensures.node

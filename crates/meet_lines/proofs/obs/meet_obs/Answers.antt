@@ -1,0 +1,45 @@
+use Rattle.std.proofs.Common.{◌≡◌, ◌<◌, List, get_or, length, ap, sym, ◌∙◌, subst, arith}
+use Rattle.std.specs.List.{All}
+use Rattle.set_tree.specs.declared.set.Set.{Set}
+use Rattle.binding.specs.Binding.{Fits}
+use Rattle.twin_tests.proofs.Handing.{get_again}
+use Rattle.unroll.proofs.Rowing.{design_is}
+use Rattle.meet_lines.specs.declared.line.MeetLine.{MeetLine}
+use Rattle.meet_lines.specs.declared.line.MeetLine.TheVariants.{Reset}
+use Rattle.meet_lines.specs.Lines.{SpeaksOf, meet_lines}
+use Rattle.meet_lines.specs.Named.{IsNamedOf}
+use Rattle.meet_lines.specs.Segments.{AreSegments}
+use Rattle.meet_lines.proofs.Listing.{lines_speak}
+use Rattle.meet_lines.proofs.Obtaining.{obs_begin, obs_step}
+use Rattle.meet_lines.proofs.obs.meet_obs.Goals as goal
+
+pub named_ob-requires-clause-line : goal.named_ob-requires-clause-line
+named_ob-requires-clause-line c =
+    let set = c.set-set.result.now in
+    let items = c.deref-line-items.result.now in
+    let lt : c.loop-line.line-index < length items = omega arith in
+    let same = c.set-set.ensures.value ∙ c.set.ensures in
+    let listed : items ≡ meet_lines set = c.deref-line-items.ensures.value ∙ (c.in_ok-lines.ensures ∙ ap (λ (z : Set). meet_lines z) (c.set-2.ensures ∙ sym same)) in
+    let all : All (SpeaksOf set) items = subst (λ (ls : List MeetLine). All (SpeaksOf set) ls) (sym listed) (lines_speak set) in
+    all c.loop-line.line-index Reset lt
+
+pub loop-line-init : goal.loop-line-init
+loop-line-init c =
+    let b = c.args.bound.now in
+    let design = design_is b.design c.design.result.now c.design.ensures.value c.dag-fit.ensures.design in
+    obs_begin b.design b.set _ c.segments_of.new.dag c.in_ok-segments.segments _ design c.new-dag.ensures c.in_ok-segments.ensures.frees c.in_ok-segments.ensures.segments c.in_ok-obs.ensures.items
+
+pub loop-line-preserved : goal.loop-line-preserved
+loop-line-preserved c =
+    let b = c.args.bound.now in
+    let same = c.set-set.ensures.value ∙ c.set.ensures in
+    let items = c.deref-line-items.result.now in
+    let i = c.loop-line.line-index in
+    let lt : i < length items = omega arith in
+    let line = get_or items i Reset in
+    let design = design_is b.design c.design.result.now c.design.ensures.value c.dag-fit.ensures.design in
+    let segments = c.in_ok-segments.segments in
+    let fits = subst (λ (z : Set). Fits b.design z) (sym same) c.design.ensures.fits in
+    let are = subst (λ (z : Set). AreSegments b.design z c.loop-line.dag segments) (sym same) c.loop-line.invariant.held in
+    let here = subst (λ (z : Set). IsNamedOf b.design z line c.in_ok-named.named) same (c.in_ok-named.ensures.named b.design design fits are) in
+    obs_step b.design b.set c.loop-line.dag c.named_ob.new.dag segments items c.loop-line.obs.items c.push.new.self.items i line c.in_ok-named.named c.in_ok-named.ensures.keeps lt (get_again items i Reset lt) c.in_ok-push.ensures.items here c.loop-line.invariant
