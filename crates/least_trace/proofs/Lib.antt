@@ -1,0 +1,5 @@
+pub mod Steps
+pub mod Reading
+pub mod Agreeing
+pub mod Carried
+pub mod Fixing
