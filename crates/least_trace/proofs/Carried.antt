@@ -26,11 +26,11 @@ use Rattle.least_trace.proofs.Reading.{values_read, reads_many, unit_of, signed,
 use Rattle.least_trace.proofs.Agreeing.{Agree, before_push, before_same, units_same, below_same, below_are, ones_same, ones_push}
 
 -- the first clauses of a formula, and the ones after them
-All-left : {X : Type 0} (P : X → Type 0) (xs ys : List X) → All P (xs ++ ys) → All P xs
+pub All-left : {X : Type 0} (P : X → Type 0) (xs ys : List X) → All P (xs ++ ys) → All P xs
 All-left P [] ys h = All-nil P
 All-left P (x ∷ xs) ys h = All-cons P x xs (All-head P x (xs ++ ys) h) (All-left P xs ys (All-tail P x (xs ++ ys) h))
 
-All-right : {X : Type 0} (P : X → Type 0) (xs ys : List X) → All P (xs ++ ys) → All P ys
+pub All-right : {X : Type 0} (P : X → Type 0) (xs ys : List X) → All P (xs ++ ys) → All P ys
 All-right P [] ys h = h
 All-right P (x ∷ xs) ys h = All-right P xs ys (All-tail P x (xs ++ ys) h)
 

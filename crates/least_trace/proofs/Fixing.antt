@@ -1,15 +1,17 @@
 -- One more bit is decided.
-use Rattle.std.proofs.Common.{◌≡◌, ℕ, ◌+◌, ◌<◌, ◌≤◌, ◌==◌, if◌then◌else◌, List, [], ◌∷◌, ◌++◌, length, map, take, get_or, refl, sym, ap, ap₂, ◌∙◌, subst, arith, inl, inr, append_assoc, append-nil, length-take-le}
+use Rattle.std.proofs.Common.{◌≡◌, ℕ, ◌+◌, ◌<◌, ◌≤◌, ◌==◌, Bool, if◌then◌else◌, List, [], ◌∷◌, ◌++◌, length, map, take, get_or, refl, sym, ap, ap₂, ◌∙◌, subst, arith, inl, inr, append_assoc, append-nil, length-take-le}
 use Rattle.std.specs.List.{All}
 use Rattle.std.proofs.lemmas.List.{take_more, map_push}
-use Rattle.std.proofs.lemmas.List.Elements.{All-push, All-take, All-weaker}
+use Rattle.std.proofs.lemmas.List.Elements.{All-push, All-take, All-weaker, All-head}
 use Rattle.clause_check.specs.declared.literal.Lit.{Lit}
 use Rattle.clause_check.specs.declared.formula.Cnf.{Cnf}
-use Rattle.clause_check.specs.Derivations.{IsRefutation, Satisfies}
+use Rattle.clause_check.specs.Derivations.{IsRefutation, Satisfies, Holds}
 use Rattle.clause_check.proofs.Sound.{refuted}
 use Rattle.bit_circuits.specs.Literals.{plus}
 use Rattle.word_dag.specs.Nodes.{Parts}
-use Rattle.cnf_build.specs.Lower.{ob_clauses}
+use Rattle.cnf_build.specs.Lower.{ob_clauses, ob_bits}
+use Rattle.cnf_build.specs.Meaning.{read_words}
+use Rattle.cnf_build.specs.Built.{at}
 use Rattle.least_trace.specs.declared.bits.Bit.{Bit}
 use Rattle.least_trace.specs.declared.ends.Excluded.{Excluded}
 use Rattle.least_trace.specs.Bits.{bit_in, Before}
@@ -17,7 +19,7 @@ use Rattle.least_trace.specs.Least.{AreWitness, as_in, is_zero, units_below, Exc
 use Rattle.least_trace.specs.Walks.{IsBit, IsCarried, IsFixed}
 use Rattle.least_trace.proofs.Reading.{unit_of}
 use Rattle.least_trace.proofs.Agreeing.{Agree, before_push, before_same, units_same, below_same, below_are, ones_same, ones_push}
-use Rattle.least_trace.proofs.Carried.{held, all_hold, unit_holds}
+use Rattle.least_trace.proofs.Carried.{held, all_hold, unit_holds, units_hold, are_witness, bits_agree, is_off_there, All-left, All-right}
 
 -- b is bit i
 module _ (ob : Parts) (bits : List Bit) (i : ℕ) (b d : Bit) (lt : i < length bits) (is : b ≡ get_or bits i d) where
@@ -80,6 +82,22 @@ module _ (ob : Parts) (bits : List Bit) (i : ℕ) (b d : Bit) (lt : i < length b
     before = later excluded f.before;
     each = each_same us vs excluded f.before f.each agree;
   }
+
+  -- a bit that is 0 in the values of an assignment that holds
+  pub found_zero : IsCarried ob → All (IsBit ob.nodes) bits → (us vs : List ℕ) (cnf next : Cnf) (excluded : List Excluded) (a : List Bool) → IsFixed ob bits i cnf us excluded → next.vars ≡ cnf.vars → next.clauses.items ≡ cnf.clauses.items ++ is_zero ob.nodes b ∷ [] → Holds next a → vs ≡ read_words (at a) (ob_bits ob.nodes) → IsFixed ob bits (i + 1) next vs excluded
+  found_zero carried known us vs cnf next excluded a f ev ec holds ew =
+      let below = is_below us cnf next excluded f ev ec in
+      let units = units_below ob.nodes us bits i in
+      let earlier = map (as_in ob.nodes us) (take i bits) in
+      let last = is_zero ob.nodes b ∷ [] in
+      let one : IsBit ob.nodes b = subst (IsBit ob.nodes) (sym is) (known i d lt) in
+      let satisfied : All (Satisfies a) (earlier ++ last) = subst (λ cs. All (Satisfies a) cs) (units_are us) (units_hold ob carried next units below.vars below.clauses a holds) in
+      let agree = bits_agree ob a us (take i bits) (All-take (IsBit ob.nodes) i bits known) (All-left (Satisfies a) earlier last satisfied) in
+      let zero = is_off_there ob a b one (All-head (Satisfies a) (is_zero ob.nodes b) [] (All-right (Satisfies a) earlier last satisfied)) in
+      fixed_zero us vs cnf next excluded f
+      (subst (AreWitness ob) (sym ew) (are_witness ob carried next units below.vars below.clauses a holds))
+      (subst (λ ws. Agree (take i bits) us ws) (sym ew) agree)
+      (ap (λ ws. bit_in ws b) ew ∙ zero) ev ec
 
   -- no values come before by a bit that is refuted to be 0
   module _ (carried : IsCarried ob) (known : All (IsBit ob.nodes) bits) (us : List ℕ) (cnf : Cnf) (below : IsBelow ob bits us i cnf) (e : Excluded) (refutes : IsRefutation cnf e.steps.items) where

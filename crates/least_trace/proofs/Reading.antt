@@ -62,6 +62,13 @@ reads_many s n t (Sext w x ∷ nodes) =
 reads_many s n t (Mux w c x y ∷ nodes) =
     let m = node_made n t (Mux w c x y) in reads_many s (n + length m.gates) (t ++ m.lits ∷ []) nodes
 
+length-read : (s : ℕ → Bool) (fs : List (List ℕ)) → length (read_words s fs) ≡ length fs
+length-read s [] = refl
+length-read s (f ∷ fs) = ap suc (length-read s fs)
+
+pub bits_many : (nodes : List Node) → length (ob_bits nodes) ≡ free_count nodes
+bits_many nodes = sym (length-read (λ v. false) (ob_bits nodes)) ∙ reads_many (λ v. false) 1 [] nodes
+
 -- the unit clause of a variable, by the value of its bit
 abbrev pub unit_of : ℕ → ℕ → List Lit
 unit_of v u = (if u == 1 then plus v else minus v) ∷ []
