@@ -1,8 +1,7 @@
 -- Values that agree in some bits, and those that come before others by them.
-use Rattle.std.proofs.Common.{◌≡◌, ℕ, zero, suc, ◌+◌, ◌<◌, ◌≤◌, ◌==◌, Bool, true, false, if◌then◌else◌, List, [], ◌∷◌, ◌++◌, length, map, take, get_or, refl, sym, ap, ap₂, ◌∙◌, subst, arith, inl, inr, ◌⊎◌, append_assoc}
+use Rattle.std.proofs.Common.{◌≡◌, ℕ, zero, suc, ◌+◌, ◌<◌, ◌==◌, Bool, true, false, if◌then◌else◌, List, [], ◌∷◌, ◌++◌, length, map, take, get_or, refl, sym, ap, ap₂, ◌∙◌, arith, inl, inr, ◌⊎◌, append_assoc}
 use Rattle.std.specs.List.{All}
 use Rattle.std.proofs.lemmas.List.Elements.{All-head, All-tail, All-cons, All-nil}
-use Rattle.clause_check.specs.declared.literal.Lit.{Lit}
 use Rattle.word_dag.specs.declared.node.Node.{Node}
 use Rattle.least_trace.specs.declared.bits.Bit.{Bit}
 use Rattle.least_trace.specs.Bits.{bit_in, Before}

@@ -1,29 +1,21 @@
 -- Assignments and values, where unit clauses of bits follow the clauses of an obligation.
-use Rattle.std.proofs.Common.{◌≡◌, ◌≢◌, ℕ, zero, suc, ◌+◌, ◌<◌, ◌≤◌, ◌==◌, Bool, true, false, if◌then◌else◌, List, [], ◌∷◌, ◌++◌, length, map, take, get_or, slice_index, refl, sym, ap, ap₂, ◌∙◌, subst, arith, inl, inr, ◌⊎◌, append_assoc, IsSomeAnd, zero-add}
+use Rattle.std.proofs.Common.{◌≡◌, ℕ, ◌<◌, Bool, List, [], ◌∷◌, ◌++◌, length, map, slice_index, sym, ap, ◌∙◌, subst, arith}
 use Rattle.std.specs.List.{All}
-use Rattle.std.proofs.lemmas.List.{take_more, map-append, map_push}
 use Rattle.std.proofs.lemmas.Nat.Bits.{bit_at-lt}
-use Rattle.std.proofs.lemmas.Option.{slice_get-get_or}
-use Rattle.std.proofs.lemmas.List.Elements.{All-head, All-tail, All-append, All-map, All-push, All-take, All-weaker, All-get_or, All-nil, All-cons}
+use Rattle.std.proofs.lemmas.List.Elements.{All-head, All-tail, All-append, All-nil, All-cons}
 use Rattle.clause_check.specs.declared.literal.Lit.{Lit}
 use Rattle.clause_check.specs.declared.formula.Cnf.{Cnf}
-use Rattle.clause_check.specs.declared.formula.Step.{Step}
-use Rattle.clause_check.specs.Derivations.{IsRefutation, Holds, Satisfies}
-use Rattle.clause_check.proofs.Sound.{refuted}
-use Rattle.bit_circuits.specs.Literals.{plus, minus}
-use Rattle.bit_circuits.specs.Circuits.{bit}
+use Rattle.clause_check.specs.Derivations.{Holds, Satisfies}
 use Rattle.word_dag.specs.Nodes.{Parts}
 use Rattle.cnf_build.specs.Lower.{netlist, ob_clauses, ob_bits}
 use Rattle.cnf_build.specs.Meaning.{read_words}
 use Rattle.cnf_build.specs.Built.{at}
-use Rattle.cdcl.specs.Closed.{IsHonest}
 use Rattle.least_trace.specs.declared.bits.Bit.{Bit}
-use Rattle.least_trace.specs.declared.ends.Excluded.{Excluded}
-use Rattle.least_trace.specs.Bits.{bit_in, Before}
-use Rattle.least_trace.specs.Least.{AreWitness, NoneBefore, as_in, is_zero, units_below, Excludes, IsBelow, IsSpent, ones_from, number_of, var_of}
-use Rattle.least_trace.specs.Walks.{IsBit, IsCarried, IsFixed}
+use Rattle.least_trace.specs.Bits.{bit_in}
+use Rattle.least_trace.specs.Least.{Satisfy, as_in, is_zero, var_of}
+use Rattle.least_trace.specs.Walks.{IsBit, IsCarried}
 use Rattle.least_trace.proofs.Reading.{values_read, reads_many, unit_of, signed, satisfied}
-use Rattle.least_trace.proofs.Agreeing.{Agree, before_push, before_same, units_same, below_same, below_are, ones_same, ones_push}
+use Rattle.least_trace.proofs.Agreeing.{Agree}
 
 -- the first clauses of a formula, and the ones after them
 pub All-left : {X : Type 0} (P : X → Type 0) (xs ys : List X) → All P (xs ++ ys) → All P xs
@@ -52,7 +44,7 @@ module _ (ob : Parts) (carried : IsCarried ob) (cnf : Cnf) (units : List (List L
       each = subst (λ cs. All (Satisfies a) cs) (sym carried.clauses) (All-left (Satisfies a) (ob_clauses ob.nodes ob.root) units each_of);
     }
 
-    pub are_witness : AreWitness ob (read_words (at a) (ob_bits ob.nodes))
+    pub are_witness : Satisfy ob (read_words (at a) (ob_bits ob.nodes))
     are_witness = record {
       many = reads_many (at a) 1 [] ob.nodes;
       fit = carried.carries.values_fit a;
@@ -63,7 +55,7 @@ module _ (ob : Parts) (carried : IsCarried ob) (cnf : Cnf) (units : List (List L
     units_hold = All-right (Satisfies a) (ob_clauses ob.nodes ob.root) units each_of
 
   -- values at which the root is 1 give an assignment, and where that satisfies the units it holds
-  pub held : (vs : List ℕ) → AreWitness ob vs → ((a : List Bool) → length a ≡ length (netlist ob.nodes) → read_words (at a) (ob_bits ob.nodes) ≡ vs → All (Satisfies a) units) → (a : List Bool) × Holds cnf a
+  pub held : (vs : List ℕ) → Satisfy ob vs → ((a : List Bool) → length a ≡ length (netlist ob.nodes) → read_words (at a) (ob_bits ob.nodes) ≡ vs → All (Satisfies a) units) → (a : List Bool) × Holds cnf a
   held vs witness more =
       let found = carried.carries.from_values vs witness.root in
       let a = found.0 in

@@ -1,9 +1,8 @@
 -- One more bit is decided.
-use Rattle.std.proofs.Common.{◌≡◌, ℕ, ◌+◌, ◌<◌, ◌≤◌, ◌==◌, Bool, if◌then◌else◌, List, [], ◌∷◌, ◌++◌, length, map, take, get_or, refl, sym, ap, ap₂, ◌∙◌, subst, arith, inl, inr, append_assoc, append-nil, length-take-le}
+use Rattle.std.proofs.Common.{◌≡◌, ℕ, ◌+◌, ◌<◌, ◌==◌, Bool, if◌then◌else◌, List, [], ◌∷◌, ◌++◌, length, map, take, get_or, refl, sym, ap, ◌∙◌, subst, arith, inl, inr, append_assoc, append-nil, length-take-le}
 use Rattle.std.specs.List.{All}
 use Rattle.std.proofs.lemmas.List.{take_more, map_push}
 use Rattle.std.proofs.lemmas.List.Elements.{All-push, All-take, All-weaker, All-head}
-use Rattle.clause_check.specs.declared.literal.Lit.{Lit}
 use Rattle.clause_check.specs.declared.formula.Cnf.{Cnf}
 use Rattle.clause_check.specs.Derivations.{IsRefutation, Satisfies, Holds}
 use Rattle.clause_check.proofs.Sound.{refuted}
@@ -15,7 +14,7 @@ use Rattle.cnf_build.specs.Built.{at}
 use Rattle.least_trace.specs.declared.bits.Bit.{Bit}
 use Rattle.least_trace.specs.declared.ends.Excluded.{Excluded}
 use Rattle.least_trace.specs.Bits.{bit_in, Before}
-use Rattle.least_trace.specs.Least.{AreWitness, as_in, is_zero, units_below, Excludes, IsBelow, ones_from, number_of, var_of}
+use Rattle.least_trace.specs.Least.{Satisfy, as_in, is_zero, units_below, Excludes, IsBelow, ones_from, number_of, var_of}
 use Rattle.least_trace.specs.Walks.{IsBit, IsCarried, IsFixed}
 use Rattle.least_trace.proofs.Reading.{unit_of}
 use Rattle.least_trace.proofs.Agreeing.{Agree, before_push, before_same, units_same, below_same, below_are, ones_same, ones_push}
@@ -35,8 +34,8 @@ module _ (ob : Parts) (bits : List Bit) (i : ℕ) (b d : Bit) (lt : i < length b
   is_below us cnf next excluded f ev ec = record {
     vars = ev ∙ f.vars;
     clauses = ec ∙ ap (λ cs. cs ++ is_zero ob.nodes b ∷ []) f.clauses
-    ∙ append_assoc (ob_clauses ob.nodes ob.root) (map (as_in ob.nodes us) (take i bits)) (is_zero ob.nodes b ∷ [])
-    ∙ ap (λ r. ob_clauses ob.nodes ob.root ++ r) (sym (units_are us));
+        ∙ append_assoc (ob_clauses ob.nodes ob.root) (map (as_in ob.nodes us) (take i bits)) (is_zero ob.nodes b ∷ [])
+        ∙ ap (λ r. ob_clauses ob.nodes ob.root ++ r) (sym (units_are us));
   }
 
   -- the unit clauses with one more, over values that are the same in the earlier bits
@@ -69,7 +68,7 @@ module _ (ob : Parts) (bits : List Bit) (i : ℕ) (b d : Bit) (lt : i < length b
   later excluded before = All-weaker (λ (e : Excluded). e.bit < i) (λ (e : Excluded). e.bit < i + 1) (λ e l. omega arith) excluded before
 
   -- a bit that is 0 in values that are the same in the earlier bits
-  pub fixed_zero : (us vs : List ℕ) (cnf next : Cnf) (excluded : List Excluded) → IsFixed ob bits i cnf us excluded → AreWitness ob vs → Agree (take i bits) us vs → bit_in vs b ≡ 0 → next.vars ≡ cnf.vars → next.clauses.items ≡ cnf.clauses.items ++ is_zero ob.nodes b ∷ [] → IsFixed ob bits (i + 1) next vs excluded
+  pub fixed_zero : (us vs : List ℕ) (cnf next : Cnf) (excluded : List Excluded) → IsFixed ob bits i cnf us excluded → Satisfy ob vs → Agree (take i bits) us vs → bit_in vs b ≡ 0 → next.vars ≡ cnf.vars → next.clauses.items ≡ cnf.clauses.items ++ is_zero ob.nodes b ∷ [] → IsFixed ob bits (i + 1) next vs excluded
   fixed_zero us vs cnf next excluded f witness agree zero ev ec = record {
     vars = ev ∙ f.vars;
     clauses = clauses_more us vs 0 cnf next excluded f agree zero ec;
@@ -95,20 +94,20 @@ module _ (ob : Parts) (bits : List Bit) (i : ℕ) (b d : Bit) (lt : i < length b
       let agree = bits_agree ob a us (take i bits) (All-take (IsBit ob.nodes) i bits known) (All-left (Satisfies a) earlier last satisfied) in
       let zero = is_off_there ob a b one (All-head (Satisfies a) (is_zero ob.nodes b) [] (All-right (Satisfies a) earlier last satisfied)) in
       fixed_zero us vs cnf next excluded f
-      (subst (AreWitness ob) (sym ew) (are_witness ob carried next units below.vars below.clauses a holds))
+      (subst (Satisfy ob) (sym ew) (are_witness ob carried next units below.vars below.clauses a holds))
       (subst (λ ws. Agree (take i bits) us ws) (sym ew) agree)
       (ap (λ ws. bit_in ws b) ew ∙ zero) ev ec
 
   -- no values come before by a bit that is refuted to be 0
   module _ (carried : IsCarried ob) (known : All (IsBit ob.nodes) bits) (us : List ℕ) (cnf : Cnf) (below : IsBelow ob bits us i cnf) (e : Excluded) (refutes : IsRefutation cnf e.steps.items) where
-    none_here : (ws : List ℕ) → AreWitness ob ws → Agree (take i bits) ws us → bit_in ws b ≡ 0 → ⊥
+    none_here : (ws : List ℕ) → Satisfy ob ws → Agree (take i bits) ws us → bit_in ws b ≡ 0 → ⊥
     none_here ws witness agree zero =
         let one : IsBit ob.nodes b = subst (IsBit ob.nodes) (sym is) (known i d lt) in
         let earlier = All-take (IsBit ob.nodes) i bits known in
         let found = held ob carried cnf (units_below ob.nodes us bits i) below.vars below.clauses ws witness
         (λ a whole reads. subst (λ cs. All (Satisfies a) cs) (sym (units_are us))
-            (All-push (Satisfies a) (map (as_in ob.nodes us) (take i bits)) (is_zero ob.nodes b)
-                (all_hold ob a carried ws whole reads us (take i bits) earlier agree) (unit_holds ob a carried ws whole reads b 0 (omega arith) one zero)))
+        (All-push (Satisfies a) (map (as_in ob.nodes us) (take i bits)) (is_zero ob.nodes b)
+        (all_hold ob a carried ws whole reads us (take i bits) earlier agree) (unit_holds ob a carried ws whole reads b 0 (omega arith) one zero)))
         in
         refuted cnf e.steps.items refutes found.0 found.1
 
@@ -126,8 +125,8 @@ module _ (ob : Parts) (bits : List Bit) (i : ℕ) (b d : Bit) (lt : i < length b
             | inr x ↦ none_here ws theirs x.0 x.1
           ];
           entries = ap (map number_of) ea ∙ map_push number_of excluded e ∙ ap (λ ns. ns ++ e.bit ∷ []) f.entries
-          ∙ sym (ones_more us 1 one ∙ ap (λ k. ones_from 0 us (take i bits) ++ k ∷ []) place);
+              ∙ sym (ones_more us 1 one ∙ ap (λ k. ones_from 0 us (take i bits) ++ k ∷ []) place);
           before = subst (λ es. All (λ (x : Excluded). x.bit < i + 1) es) (sym ea) (All-push (λ (x : Excluded). x.bit < i + 1) excluded e (later excluded f.before) (omega (arith, number)));
           each = subst (λ es. All (Excludes ob bits us) es) (sym ea)
-          (All-push (Excludes ob bits us) excluded e f.each (record { formula = cnf; below = subst (λ k. IsBelow ob bits us k cnf) (sym number) below; refuted = refutes }));
+              (All-push (Excludes ob bits us) excluded e f.each (record { formula = cnf; below = subst (λ k. IsBelow ob bits us k cnf) (sym number) below; refuted = refutes }));
         }

@@ -3,3 +3,4 @@ pub mod Reading
 pub mod Agreeing
 pub mod Carried
 pub mod Fixing
+pub mod Starting

@@ -18,14 +18,14 @@ use Rattle.least_trace.specs.declared.ends.LeastEnd.TheVariants.{Found, Stopped}
 use Rattle.least_trace.specs.Bits.{InOrder, bit_in, Before}
 
 -- one value for each free node in number order, each within its width, at which the root is 1
-pub record AreWitness (ob : Parts) (us : List ℕ) : Type 0 where
+pub record Satisfy (ob : Parts) (us : List ℕ) : Type 0 where
   pub many : length us ≡ free_count ob.nodes
   pub fit : AllFit us ob.nodes
   pub root : RootIs1 ob.nodes ob.root us
 
 -- no values at which the root is 1 come before these by these bits
 abbrev pub NoneBefore : Parts → List Bit → List ℕ → Type 0
-NoneBefore ob bits us = (vs : List ℕ) → AreWitness ob vs → Before bits vs us → ⊥
+NoneBefore ob bits us = (vs : List ℕ) → Satisfy ob vs → Before bits vs us → ⊥
 
 -- the variable of a bit
 abbrev pub var_of : List Node → Bit → ℕ
@@ -68,7 +68,7 @@ number_of e = e.bit
 pub record IsFound (ob : Parts) (us : List ℕ) (excluded : List Excluded) : Type 0 where
   pub bits : List Bit
   pub order : InOrder ob.nodes bits
-  pub witness : AreWitness ob us
+  pub witness : Satisfy ob us
   pub least : NoneBefore ob bits us
   pub entries : map number_of excluded ≡ ones_from 0 us bits
   pub each : All (Excludes ob bits us) excluded
@@ -84,7 +84,7 @@ pub record IsSpent (budget : ℕ) (ob : Parts) (bits : List Bit) (us : List ℕ)
 pub record IsStopped (budget : ℕ) (ob : Parts) (us : List ℕ) (i : ℕ) (chain : List Step) : Type 0 where
   pub bits : List Bit
   pub order : InOrder ob.nodes bits
-  pub witness : AreWitness ob us
+  pub witness : Satisfy ob us
   pub one : IsSomeAnd (slice_get bits i) (λ b. bit_in us b ≡ 1)
   pub none_before : NoneBefore ob (take i bits) us
   pub spent : IsSpent budget ob bits us i chain

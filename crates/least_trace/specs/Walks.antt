@@ -11,7 +11,7 @@ use Rattle.least_trace.specs.declared.ends.Excluded.{Excluded}
 use Rattle.least_trace.specs.declared.walk.Walk.{Walk}
 use Rattle.clause_check.specs.declared.formula.Step.{Step}
 use Rattle.least_trace.specs.Bits.{bit_in}
-use Rattle.least_trace.specs.Least.{IsSpent, AreWitness, NoneBefore, as_in, Excludes, ones_from, number_of}
+use Rattle.least_trace.specs.Least.{IsSpent, Satisfy, NoneBefore, as_in, Excludes, ones_from, number_of}
 
 -- so many values, those that are missing being 0
 abbrev pub padded : ℕ → List ℕ → List ℕ
@@ -35,7 +35,7 @@ pub record IsCarried (ob : Parts) : Type 0 where
 pub record IsFixed (ob : Parts) (bits : List Bit) (i : ℕ) (cnf : Cnf) (us : List ℕ) (excluded : List Excluded) : Type 0 where
   pub vars : cnf.vars ≡ length (netlist ob.nodes)
   pub clauses : cnf.clauses.items ≡ ob_clauses ob.nodes ob.root ++ map (as_in ob.nodes us) (take i bits)
-  pub witness : AreWitness ob us
+  pub witness : Satisfy ob us
   pub none_before : NoneBefore ob (take i bits) us
   pub entries : map number_of excluded ≡ ones_from 0 us (take i bits)
   pub before : All (λ e. e.bit < i) excluded
@@ -50,7 +50,7 @@ pub record IsWalk (ob : Parts) (bits : List Bit) (i : ℕ) (w : Walk) : Type 0 w
 
 -- the bit is 1 in the values of the walk, which no values come before at an earlier bit, and the chain is spent on it
 pub record IsSpentWalk (budget : ℕ) (ob : Parts) (bits : List Bit) (i : ℕ) (w : Walk) (chain : List Step) : Type 0 where
-  pub witness : AreWitness ob w.values.items
+  pub witness : Satisfy ob w.values.items
   pub one : IsSomeAnd (slice_get bits i) (λ b. bit_in w.values.items b ≡ 1)
   pub none_before : NoneBefore ob (take i bits) w.values.items
   pub spent : IsSpent budget ob bits w.values.items i chain

@@ -32,12 +32,7 @@ fn padded(alloc: Global, values: &[u64], count: usize) -> Result<Vec<u64>, Alloc
 /// Each bit in turn is tried at 0, the bits before it being as they were found, and for each bit that is 1 in the end there are
 /// steps that `accept` accepts. A bit that is 0 in the values at hand takes no solving. Where a bit takes more than `budget`
 /// steps, the search stops there with an honest chain of just so many. It is refused for want of memory alone.
-pub fn least(
-    alloc: Global,
-    ob: &Ob,
-    values: &[u64],
-    budget: u64,
-) -> Result<LeastEnd, AllocError>
+pub fn least(alloc: Global, ob: &Ob, values: &[u64], budget: u64) -> Result<LeastEnd, AllocError>
     requires fit { AllFit values.now ob.now.nodes }
     requires root { RootIs1 ob.now.nodes ob.now.root values.now }
     requires budget { 1 ≤ budget }

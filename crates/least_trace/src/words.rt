@@ -58,7 +58,11 @@ fn free_words(alloc: Global, nodes: &[Node]) -> Result<Vec<Word>, AllocError>
 fn compare(a: &Word, b: &Word) -> Ordering
     ensures { result ≡ word_cmp a.now b.now }
 {
-    a.cycle.cmp(&b.cycle).then(a.side.cmp(&b.side)).then(a.name.bytes().cmp(b.name.bytes())).then(a.place.cmp(&b.place))
+    a.cycle
+        .cmp(&b.cycle)
+        .then(a.side.cmp(&b.side))
+        .then(a.name.bytes().cmp(b.name.bytes()))
+        .then(a.place.cmp(&b.place))
 }
 
 /// The free words by cycle, then side, then name, then node.

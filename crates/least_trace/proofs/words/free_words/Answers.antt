@@ -1,4 +1,3 @@
-use Rattle.std.proofs.Common.{length}
 use Rattle.least_trace.proofs.Steps.{words_step}
 use Rattle.least_trace.proofs.words.free_words.Goals as goal
 

@@ -1,11 +1,10 @@
-use Rattle.std.proofs.Common.{◌≡◌, ℕ, ◌+◌, ◌-◌, ◌<◌, ◌≤◌, List, [], ◌∷◌, ◌++◌, length, take, get_or, slice_index, slice_index_or, slice_get, IsSomeAnd, refl, sym, ap, ◌∙◌, subst, arith, Bool, true, false, true≢false, IsTrue, ◌↔◌, ◌⊎◌, inl, inr, suc, zero, length-append}
+use Rattle.std.proofs.Common.{◌≡◌, ℕ, ◌+◌, ◌-◌, ◌<◌, List, [], ◌∷◌, ◌++◌, length, take, get_or, slice_index, slice_index_or, IsSomeAnd, refl, sym, ap, ◌∙◌, subst, arith, Bool, true, false, true≢false, IsTrue, ◌↔◌, ◌⊎◌, inl, inr, suc, zero, length-append}
 use Rattle.std.specs.List.{All}
 use Rattle.std.proofs.lemmas.Nat.Bits.{bit_at-lt}
 use Rattle.std.proofs.lemmas.Option.{slice_get-get_or}
 use Rattle.bit_circuits.specs.Literals.{plus, minus}
 use Rattle.std.proofs.Math.Seq.{take-append_seam}
 use Rattle.clause_check.specs.declared.literal.Lit.{Lit}
-use Rattle.clause_check.specs.declared.formula.Cnf.{Cnf}
 use Rattle.cdcl.specs.declared.solver.End.{End}
 use Rattle.cnf_build.specs.Lower.{ob_bits}
 use Rattle.cnf_build.specs.Built.{IsBits, at}
@@ -15,7 +14,6 @@ use Rattle.cdcl.specs.Ends.{IsEnd}
 use Rattle.least_trace.specs.declared.bits.Bit.{Bit}
 use Rattle.least_trace.specs.Bits.{bit_in}
 use Rattle.least_trace.specs.Least.{var_of, is_zero}
-use Rattle.least_trace.specs.Walks.{IsWalk, IsBit}
 use Rattle.least_trace.proofs.Reading.{bits_many}
 use Rattle.least_trace.proofs.Fixing.{is_below, fixed_zero, found_zero, fixed_one}
 use Rattle.least_trace.proofs.walk.Walk.decide.Goals as goal
@@ -114,8 +112,8 @@ returns-in_ok-push-in-Unsat c = λ ob w.
       known = w.known;
       vars_are = w.vars_are;
       fixed = fixed_one ob bits i b z c.requires.number refl w.carried w.known us c.add_unit.new.cnf below
-      (record { bit = i; steps = c.in-Unsat.steps }) refutes base c.turn_last.new.cnf c.args.self.now.excluded.items c.push.new.self.items
-      w.fixed one refl (c.in_ok-turn_last-in-Unsat.ensures.vars ∙ c.in_ok-add_unit.ensures.vars) next c.in_ok-push-in-Unsat.ensures.items;
+          (record { bit = i; steps = c.in-Unsat.steps }) refutes base c.turn_last.new.cnf c.args.self.now.excluded.items c.push.new.self.items
+          w.fixed one refl (c.in_ok-turn_last-in-Unsat.ensures.vars ∙ c.in_ok-add_unit.ensures.vars) next c.in_ok-push-in-Unsat.ensures.items;
     }
 
 pub returns-in-Spent : goal.returns-in-Spent
