@@ -4,6 +4,8 @@
 mod bits;
 mod ends;
 mod finding;
+#[cfg(test)]
+mod tests;
 mod walk;
 mod words;
 
