@@ -8,7 +8,7 @@ use Rattle.least_trace.specs.Bits.{bit_in, Before}
 use Rattle.least_trace.specs.Least.{as_in, is_zero, units_below, ones_from, var_of}
 use Rattle.least_trace.proofs.Reading.{unit_of}
 
-abbrev Same : List ℕ → List ℕ → Bit → Type 0
+abbrev pub Same : List ℕ → List ℕ → Bit → Type 0
 Same us vs b = bit_in us b ≡ bit_in vs b
 
 -- the values are the same in these bits

@@ -4,3 +4,4 @@ pub mod Agreeing
 pub mod Carried
 pub mod Fixing
 pub mod Starting
+pub mod Uniqueness

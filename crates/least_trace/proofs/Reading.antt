@@ -1,5 +1,5 @@
 -- Bits of values as variables of an assignment.
-use Rattle.std.proofs.Common.{◌≡◌, ℕ, zero, suc, ◌+◌, ◌*◌, ◌/◌, ◌%◌, ◌<◌, ◌==◌, Bool, true, false, not, if◌then◌else◌, List, [], ◌∷◌, ◌++◌, length, slice_get, slice_index, slice_index_or, Some, refl, sym, ap, ◌∙◌, subst, arith}
+use Rattle.std.proofs.Common.{◌≡◌, ℕ, zero, suc, ◌+◌, ◌*◌, ◌/◌, ◌%◌, ◌<◌, ◌==◌, Bool, true, false, not, if◌then◌else◌, List, [], ◌∷◌, ◌++◌, length, slice_get, slice_index, slice_index_or, Some, refl, sym, ap, ◌∙◌, subst, arith, ◌⊎◌, inl, inr}
 use Rattle.std.specs.Int.{bit_at}
 use Rattle.std.proofs.lemmas.Nat.Bits.{bit_at_lowest, bit_at-suc}
 use Rattle.std.proofs.lemmas.Option.{slice_get-get_or, get_or_from_slice_get}
@@ -41,6 +41,12 @@ word_read s (f ∷ fs) (suc k) lt = word_read s fs k (omega arith)
 pub values_read : (nodes : List Node) (s : ℕ → Bool) (b : Bit) → IsBit nodes b → bit_in (read_words s (ob_bits nodes)) b ≡ bit (s (var_of nodes b))
 values_read nodes s b is =
     ap (λ n. bit_at n b.height) (word_read s (ob_bits nodes) b.place is.place) ∙ bit_read s (slice_index_or (ob_bits nodes) b.place []) b.height is.height
+
+-- a bit is 0 or 1
+pub two_cases : (u : ℕ) → u < 2 → (u ≡ 0) ⊎ (u ≡ 1)
+two_cases zero lt = inl refl
+two_cases (suc zero) lt = inr refl
+two_cases (suc (suc u)) lt = absurd (omega arith)
 
 -- as many values as there are free nodes
 pub reads_many : (s : ℕ → Bool) (n : ℕ) (t : List (List Lit)) (nodes : List Node) → length (read_words s (lower n t nodes).frees) ≡ free_count nodes

@@ -4,6 +4,7 @@
 mod bits;
 mod ends;
 mod finding;
+mod laws;
 #[cfg(test)]
 mod tests;
 mod walk;
@@ -11,3 +12,4 @@ mod words;
 
 pub use ends::{Excluded, LeastEnd};
 pub use finding::least;
+pub use laws::least_is_one;

@@ -1,4 +1,4 @@
-use Rattle.std.proofs.Common.{◌≡◌, ℕ, ◌+◌, ◌-◌, ◌<◌, List, [], ◌∷◌, ◌++◌, length, take, get_or, slice_index, slice_index_or, IsSomeAnd, refl, sym, ap, ◌∙◌, subst, arith, Bool, true, false, true≢false, IsTrue, ◌↔◌, ◌⊎◌, inl, inr, suc, zero, length-append}
+use Rattle.std.proofs.Common.{◌≡◌, ℕ, ◌+◌, ◌-◌, List, [], ◌∷◌, ◌++◌, length, take, get_or, slice_index, slice_index_or, IsSomeAnd, refl, sym, ap, ◌∙◌, subst, arith, Bool, true, false, true≢false, IsTrue, ◌↔◌, inl, inr, length-append}
 use Rattle.std.specs.List.{All}
 use Rattle.std.proofs.lemmas.Nat.Bits.{bit_at-lt}
 use Rattle.std.proofs.lemmas.Option.{slice_get-get_or}
@@ -14,7 +14,7 @@ use Rattle.cdcl.specs.Ends.{IsEnd}
 use Rattle.least_trace.specs.declared.bits.Bit.{Bit}
 use Rattle.least_trace.specs.Bits.{bit_in}
 use Rattle.least_trace.specs.Least.{var_of, is_zero}
-use Rattle.least_trace.proofs.Reading.{bits_many}
+use Rattle.least_trace.proofs.Reading.{bits_many, two_cases}
 use Rattle.least_trace.proofs.Fixing.{is_below, fixed_zero, found_zero, fixed_one}
 use Rattle.least_trace.proofs.walk.Walk.decide.Goals as goal
 
@@ -34,11 +34,6 @@ is_one-requires-clause-place c =
 -- the literal of the bit
 lit_is : (ob : Parts) (b : Bit) (vs : List (List ℕ)) (v : ℕ) (l : Lit) → vs ≡ ob_bits ob.nodes → v ≡ slice_index (slice_index_or vs b.place []) b.height → l ≡ minus v → l ≡ minus (var_of ob.nodes b)
 lit_is ob b vs v l es ev el = el ∙ ap minus (ev ∙ ap (λ fs. slice_index (slice_index_or fs b.place []) b.height) es)
-
-two_cases : (u : ℕ) → u < 2 → (u ≡ 0) ⊎ (u ≡ 1)
-two_cases zero lt = inl refl
-two_cases (suc zero) lt = inr refl
-two_cases (suc (suc u)) lt = absurd (omega arith)
 
 -- what the test of the bit tells
 is_off : (us vs : List ℕ) (b : Bit) (r : Bool) → vs ≡ us → IsTrue r ↔ (bit_in vs b ≡ 1) → r ≡ false → bit_in us b ≡ 0
