@@ -1,5 +1,5 @@
 -- The segment that is shown of a refuted line is one of the modules whose runs the design has.
-use Rattle.std.proofs.Common.{◌≡◌, Bool, true, false, List, [], ◌∷◌, ◌++◌, Option, Some, None, drop, map, refl, sym, ap, ◌∙◌, subst}
+use Rattle.std.proofs.Common.{◌≡◌, true, false, List, [], ◌∷◌, ◌++◌, Option, Some, None, drop, map, refl, sym, ap, ◌∙◌, subst}
 use Rattle.std.specs.Prelude.{IfSome}
 use Rattle.vlog_tree.specs.declared.module.Module.{Module}
 use Rattle.vlog_runs.specs.declared.flat.Flat.{Flat}
@@ -14,7 +14,7 @@ use Rattle.set_tree.specs.Runs.{Design, trace_of}
 use Rattle.set_designs.specs.Designs.{CycleFrom, design_from}
 use Rattle.word_dag.specs.Nodes.{Naming, Parts as ObParts}
 use Rattle.word_names.specs.Names.{naming_from}
-use Rattle.word_design.specs.Designs.{HasRunsOf, Parts}
+use Rattle.word_design.specs.Designs.{HasRunsOf}
 use Rattle.word_design.specs.Laws.{DesignCycle, word_design}
 use Rattle.binding.specs.Binding.{Pair}
 use Rattle.line_designs.proofs.Carried.{map_append, reset_segment, segment, size, steps_to_modules, to_modules, trace}

@@ -1,7 +1,7 @@
 -- One after another.
-use Rattle.std.proofs.Common.{◌≡◌, ℕ, zero, suc, ◌<◌, List, [], ◌∷◌, ◌++◌, length, map, get_or, refl, sym, ap, ◌∙◌, subst, arith, append_assoc, append-nil, length-append}
+use Rattle.std.proofs.Common.{◌≡◌, ℕ, suc, ◌<◌, List, [], ◌∷◌, ◌++◌, length, map, get_or, refl, sym, ap, ◌∙◌, subst, arith, append_assoc, append-nil, length-append}
 use Rattle.std.specs.List.{All, AllZip}
-use Rattle.std.proofs.lemmas.List.Elements.{All-append, All-head, All-nil, All-push, All-tail}
+use Rattle.std.proofs.lemmas.List.Elements.{All-head, All-nil, All-push, All-tail}
 use Rattle.std.proofs.lemmas.Slice.Zip.{all_zipped_more}
 use Rattle.set_tree.specs.declared.line.Line.{Line}
 use Rattle.word_dag.specs.declared.ob.Named.{Named}
@@ -11,7 +11,7 @@ use Rattle.proof_store.specs.Goals.{Ended, ended}
 use Rattle.proof_store.specs.declared.goal.Decided.{Decided}
 use Rattle.proof_store.specs.declared.goal.Goal.{Goal}
 use Rattle.reports.specs.declared.book.Line.{Line as Told}
-use Rattle.asked_lines.specs.Asked.{AreGoalsOf, IsGoalDecided, IsGoalOf, line_of, named_of}
+use Rattle.asked_lines.specs.Asked.{AreGoalsOf, IsGoalDecided, IsGoalOf, line_of}
 use Rattle.asked_lines.specs.Decided.{Tells}
 use Rattle.asked_lines.specs.Settled.{ended_of}
 

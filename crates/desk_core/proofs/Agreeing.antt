@@ -1,5 +1,5 @@
 -- Reports of the same two texts agree.
-use Rattle.std.proofs.Common.{◌≡◌, ℕ, suc, ◌<◌, Bool, true, false, List, [], ◌∷◌, ◌++◌, refl, sym, ap, ap₂, ◌∙◌, subst, arith}
+use Rattle.std.proofs.Common.{◌≡◌, ℕ, Bool, false, List, [], ◌∷◌, ◌++◌, refl, sym, ap, ap₂, ◌∙◌, subst}
 use Rattle.std.specs.Prelude.{◌≢◌, ◌&&◌, All}
 use Rattle.std.specs.List.{AllZip, flat_map}
 use Rattle.std.proofs.lemmas.List.Elements.{All-head, All-tail}
@@ -11,13 +11,11 @@ use Rattle.vlog_spell.proofs.Modules.{one_file}
 use Rattle.vlog_read.specs.Texts.{SpellsModules}
 use Rattle.set_tree.specs.declared.line.Line.{Line}
 use Rattle.set_tree.specs.declared.set.Set.{Set}
-use Rattle.set_tree.specs.Report.{design_lines}
 use Rattle.set_read.specs.Read.{Spells}
 use Rattle.set_spell.proofs.Texts.{means_one_set}
 use Rattle.line_laws.specs.Names.{line_name}
 use Rattle.line_names.proofs.Known.{lines_have_names}
 use Rattle.line_designs.specs.Promises.{IsRefutable}
-use Rattle.line_obs.specs.Obligations.{all_lines}
 use Rattle.binding.specs.Binding.{Pair}
 use Rattle.reports.specs.declared.book.Line.{Line as Told}
 use Rattle.reports.specs.declared.book.Verdict.{Verdict}
@@ -27,8 +25,7 @@ use Rattle.reports.specs.declared.which.Which.TheVariants as w
 use Rattle.reports.specs.Lines.{all_proved, is_proved}
 use Rattle.reports.specs.Reports.{last_line, line_text, report_text, verdict_word}
 use Rattle.asked_lines.specs.Decided.{AreAsked, IsLineOf, Says}
-use Rattle.desk_core.specs.Agreed.{Agree, AreAgreed, IsUnspent, ReportsAgree}
-use Rattle.desk_core.specs.Checks.{IsReport}
+use Rattle.desk_core.specs.Agreed.{Agree, IsUnspent, ReportsAgree}
 
 one_modules : (bytes : List ℕ) (ms ns : List Module) → SpellsModules bytes ms → SpellsModules bytes ns → ms ≡ ns
 one_modules bytes ms ns (ts, lexed, p) (us, lexed', q) = one_file us ms ns (subst (λ (z : List Token). SpellsFile z ms) (one_list false bytes ts us lexed lexed') p) q

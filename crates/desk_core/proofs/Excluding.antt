@@ -1,5 +1,5 @@
 -- A text that spells modules, or a set, isn't refused.
-use Rattle.std.proofs.Common.{◌≡◌, ℕ, ◌<◌, ◌≤◌, List, length, false, refl, sym, subst, arith}
+use Rattle.std.proofs.Common.{◌≡◌, ℕ, ◌<◌, ◌≤◌, List, false, refl, subst, arith}
 use Rattle.vlog_tree.specs.declared.module.Module.{Module}
 use Rattle.vlog_tree.specs.declared.token.Token.{Token}
 use Rattle.vlog_tree.specs.Modules.{SpellsFile, file_height}

@@ -1,7 +1,7 @@
 -- A desk without tables, a text that is put again, and a block that is signed again.
-use Rattle.std.proofs.Common.{◌≡◌, ℕ, ◌+◌, List, [], ◌∷◌, ◌++◌, length, Bool, true, false, cond, ◌&&◌, inl, inr, ⊎_elim, Option, Some, None, refl, sym, ap, subst, ◌∙◌, option_map, if◌then◌else◌}
-use Rattle.std.specs.Prelude.{All, find, unwrap_or}
-use Rattle.std.specs.Ordering.{eq_by_cmp, nat_cmp}
+use Rattle.std.proofs.Common.{◌≡◌, ℕ, ◌+◌, List, [], ◌∷◌, ◌++◌, length, Bool, true, false, cond, ⊎_elim, Option, Some, None, refl, sym, ap, subst, ◌∙◌, if◌then◌else◌}
+use Rattle.std.specs.Prelude.{find, unwrap_or}
+use Rattle.std.specs.Ordering.{nat_cmp}
 use Rattle.std.specs.Cmp.Lexicographic.{slice_cmp}
 use Rattle.std.specs.FinMap.{get, get-empty, get-insert, insert}
 use Rattle.std.specs.Str.{bytes_eq}
@@ -11,12 +11,11 @@ use Rattle.std.proofs.lemmas.Slice.Eq.{bytes_eq-Decides}
 use Rattle.outside.specs.declared.rows.Block.{Block}
 use Rattle.outside.specs.declared.rows.Sign.{Sign}
 use Rattle.outside.specs.Tables.{ByBytes, Tables, sign_number, with_block, with_sign}
-use Rattle.desk_commands.specs.declared.command.Answer.{Answer}
 use Rattle.desk_commands.specs.declared.command.Answer.TheVariants as a
 use Rattle.desk_core.specs.Again.{EmptyIsDesk, ModuleIsStoredAgain, SetIsStoredAgain, SignedAgain}
 use Rattle.desk_core.specs.Blocks.{block_at, is_text, unreported, with_module, with_set}
 use Rattle.desk_core.specs.States.{IsSoundSign}
-use Rattle.desk_core.specs.Steps.{CanSign, Desk, HasTexts, IsSigned, PutsModule, PutsSet, SignsBlock}
+use Rattle.desk_core.specs.Steps.{CanSign, IsSigned}
 use Rattle.desk_core.proofs.Excluding.{modules_not_refused, set_not_refused}
 use Rattle.desk_core.proofs.Standing.{is_of, number_of, passed}
 

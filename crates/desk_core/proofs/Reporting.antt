@@ -2,7 +2,6 @@
 use Rattle.std.proofs.Common.{◌≡◌, ℕ, List, map, sym, ◌∙◌, Option, inl, inr, ⊎_elim}
 use Rattle.std.specs.Prelude.{Result, Ok, Err, IfOk, IfErr}
 use Rattle.outside.specs.Tables.{Tables}
-use Rattle.set_tree.specs.declared.set.Set.{Set}
 use Rattle.binding.specs.Binding.{Pair}
 use Rattle.check_faults.specs.declared.fault.CheckFault.{CheckFault}
 use Rattle.check_faults.specs.declared.fault.CheckFault.TheVariants as f

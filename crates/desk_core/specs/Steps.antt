@@ -1,8 +1,6 @@
 -- What a command does at the desk, and what it answers.
 use Rattle.std.specs.Prelude.{◌≡◌, ◌⊎◌, ℕ, ◌+◌, true, List, [], length, Some, None}
 use Rattle.std.specs.FinMap.{get, keys}
-use Rattle.vlog_tree.specs.declared.module.Module.{Module}
-use Rattle.set_tree.specs.declared.set.Set.{Set}
 use Rattle.outside.specs.declared.rows.Block.{Block}
 use Rattle.outside.specs.Tables.{Tables, sign_number, with_block, with_sign}
 use Rattle.word_dag.specs.Nodes.{Parts}

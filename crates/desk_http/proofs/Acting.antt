@@ -1,7 +1,6 @@
 -- What a command comes to, by the clauses of the call that carries it out.
-use Rattle.std.proofs.Common.{◌≡◌, ◌≤◌, ℕ, refl}
+use Rattle.std.proofs.Common.{◌≡◌, ◌≤◌, refl}
 use Rattle.std.specs.Prelude.{Result, Ok, Err, IfOk, IfSome, OnErr}
-use Rattle.outside.specs.Faults.{Rose}
 use Rattle.desk_commands.specs.declared.command.Answer.{Answer}
 use Rattle.desk_commands.specs.declared.command.Command.{Command}
 use Rattle.desk_commands.specs.declared.fault.DeskFault.{DeskFault}

@@ -1,5 +1,5 @@
 -- What the solver finds over the clauses of an obligation shows how the obligation ended.
-use Rattle.std.proofs.Common.{◌≡◌, ℕ, Bool, List, Vec, length, sym, subst}
+use Rattle.std.proofs.Common.{◌≡◌, ℕ, Bool, List, length, sym, subst}
 use Rattle.word_dag.specs.Given.{AllFit}
 use Rattle.word_dag.specs.Nodes.{Parts}
 use Rattle.clause_check.specs.declared.formula.Cnf.{Cnf}

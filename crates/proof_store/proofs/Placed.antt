@@ -1,5 +1,5 @@
 -- Places of goals, and what becomes of them.
-use Rattle.std.proofs.Common.{◌≡◌, ℕ, zero, suc, ◌+◌, ◌<◌, ◌≤◌, List, [], ◌∷◌, ◌++◌, Bool, true, false, cond, Option, Some, None, length, map, refl, sym, ap, ap₂, ◌∙◌, subst, arith, append_assoc, append-nil}
+use Rattle.std.proofs.Common.{◌≡◌, ℕ, suc, ◌+◌, ◌<◌, ◌≤◌, List, [], ◌∷◌, ◌++◌, Bool, true, cond, Option, Some, None, length, map, refl, sym, ap, ap₂, ◌∙◌, subst, arith, append_assoc, append-nil}
 use Rattle.std.specs.Prelude.{All, IfSome, IsTrue, ◌↔◌, Vec, filter, sum_by, count_by}
 use Rattle.std.specs.List.{AllZip}
 use Rattle.std.specs.declared.alloc.Global.{Global}
@@ -15,7 +15,7 @@ use Rattle.job_pool.specs.declared.evidence.Evidence.TheVariants.{Derivation}
 use Rattle.job_pool.proofs.Sparing.{decides}
 use Rattle.proof_store.specs.Goals.{Ended, IsDecided, IsDecidedIfAmple, ended, from_helper, from_keeper, from_worker, is_helped, is_kept, is_solved, ob_of}
 use Rattle.proof_store.specs.Kept.{CountsKept, IsKept, IsProof}
-use Rattle.proof_store.specs.Places.{IsPlaced, Shows, Takes, TellsKept, asked_for, asked_of, filled, is_open, open_of, solved}
+use Rattle.proof_store.specs.Places.{IsPlaced, Takes, TellsKept, asked_for, asked_of, filled, is_open, open_of, solved}
 use Rattle.proof_store.specs.Rows.{HasProofs}
 use Rattle.proof_store.specs.Stored.{ended_ob}
 use Rattle.proof_store.specs.declared.goal.Decided.{Decided}

@@ -1,5 +1,5 @@
 -- Goals placed one after another.
-use Rattle.std.proofs.Common.{◌≡◌, ℕ, ◌+◌, List, [], ◌∷◌, ◌++◌, Option, length, refl, sym, ap, ap₂, ◌∙◌, subst, arith, append_assoc, append-nil}
+use Rattle.std.proofs.Common.{◌≡◌, ℕ, ◌+◌, List, [], ◌∷◌, ◌++◌, Option, length, refl, sym, ap, ◌∙◌, subst, arith, append_assoc, append-nil}
 use Rattle.std.specs.Prelude.{sum_by}
 use Rattle.std.specs.List.{AllZip}
 use Rattle.std.proofs.lemmas.List.Sums.{sum_by_push}
@@ -8,7 +8,7 @@ use Rattle.outside.specs.Tables.{Tables}
 use Rattle.word_dag.specs.Nodes.{Parts}
 use Rattle.proof_store.specs.Counts.{FirstRose}
 use Rattle.proof_store.specs.Places.{IsPlaced, asked_for, open_of, opened}
-use Rattle.proof_store.specs.Provers.{Counts, Proceeds, Rises}
+use Rattle.proof_store.specs.Provers.{Counts, Proceeds}
 use Rattle.proof_store.specs.declared.goal.Goal.{Goal}
 use Rattle.proof_store.specs.declared.placing.Place.{Place}
 use Rattle.proof_store.specs.declared.placing.Place.TheVariants.{Done, Open}

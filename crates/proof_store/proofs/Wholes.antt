@@ -6,7 +6,7 @@ use Rattle.outside.specs.Tables.{Tables}
 use Rattle.word_dag.specs.Nodes.{Parts}
 use Rattle.job_pool.specs.Shown.{IsShown}
 use Rattle.job_pool.specs.declared.evidence.Evidence.{Evidence}
-use Rattle.proof_store.specs.Counts.{FirstRose, draws_of}
+use Rattle.proof_store.specs.Counts.{FirstRose}
 use Rattle.proof_store.specs.Goals.{IsDecided, IsDecidedIfAmple, ended, is_helped, is_kept, is_solved, ob_of}
 use Rattle.proof_store.specs.Kept.{CountsKept, IsKept}
 use Rattle.proof_store.specs.Places.{IsPlaced, asked_for, filled, is_open, open_of}

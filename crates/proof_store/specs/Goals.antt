@@ -1,6 +1,5 @@
 -- Goals that are decided.
-use Rattle.std.specs.Prelude.{◌≡◌, ℕ, Bool, true, false, List, Option, IfSome, IsTrue, ◌↔◌, count_by}
-use Rattle.outside.specs.Tables.{Tables}
+use Rattle.std.specs.Prelude.{◌≡◌, ℕ, Bool, true, false}
 use Rattle.word_dag.specs.Nodes.{Parts}
 use Rattle.job_pool.specs.Ample.{DecidesIfAmple}
 use Rattle.job_pool.specs.Shown.{IsShown}

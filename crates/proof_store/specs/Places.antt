@@ -8,7 +8,7 @@ use Rattle.helper_box.specs.declared.claim.Claim.TheVariants as claim
 use Rattle.job_pool.specs.Shown.{IsShown}
 use Rattle.job_pool.specs.declared.evidence.Evidence.{Evidence}
 use Rattle.job_pool.specs.declared.evidence.Evidence.TheVariants.{Derivation, Values}
-use Rattle.proof_store.specs.Goals.{IsDecided, from_keeper, is_kept, is_solved}
+use Rattle.proof_store.specs.Goals.{IsDecided, from_keeper, is_kept}
 use Rattle.proof_store.specs.Kept.{IsKept}
 use Rattle.proof_store.specs.declared.goal.Decided.{Decided}
 use Rattle.proof_store.specs.declared.goal.Goal.{Goal}

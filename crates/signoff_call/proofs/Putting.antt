@@ -1,12 +1,9 @@
 -- Bytes that go out one part after another.
-use Rattle.std.proofs.Common.{◌≡◌, ◌≤◌, ◌<◌, ◌+◌, ◌-◌, ◌++◌, ℕ, List, [], ◌∷◌, take, drop, length, Option, Some, None, Ok, Err, OnOk, OnErr, sym, ap, ◌∙◌, subst, refl, append_assoc, append-nil, arith}
+use Rattle.std.proofs.Common.{◌≡◌, ◌≤◌, ◌+◌, ◌-◌, ◌++◌, ℕ, List, [], take, drop, Option, Some, None, Ok, Err, OnErr, sym, ap, ◌∙◌, subst, append_assoc, append-nil, arith}
 use Rattle.std.specs.Prelude.{Result, min}
 use Rattle.std.proofs.lemmas.Grind.{common_steps}
 use Rattle.std.proofs.lemmas.List.{drop-take, take-append-drop, take-take}
-use Prim.Native.Nat.{zero, suc}
 use Rattle.std.specs.Io.KnownBytes.{Appends}
-use Rattle.outside.specs.Faults.{HasCause}
-use Rattle.outside.specs.declared.fault.OutFault.{OutFault}
 use Rattle.signoff_call.specs.Run.{AppendsPrefix}
 
 pub appends_none : (o : Option (List ℕ)) → Appends o o []

@@ -1,4 +1,4 @@
-use Rattle.std.proofs.Common.{map, sym, ap, rules}
+use Rattle.std.proofs.Common.{map, rules}
 use Rattle.asked_lines.specs.Asked.{line_of}
 use Rattle.asked_lines.proofs.Deciding.{goals_decided, lines_decided}
 use Rattle.asked_lines.proofs.Finding.{no_keeper}

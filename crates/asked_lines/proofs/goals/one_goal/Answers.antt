@@ -1,6 +1,4 @@
-use Rattle.std.proofs.Common.{◌≡◌, ◌∙◌, Bool, true, false, List, ℕ, arith, ap, sym}
-use Rattle.set_tree.specs.declared.set.Set.{Set}
-use Rattle.asked_lines.specs.Asked.{has_name}
+use Rattle.std.proofs.Common.{◌∙◌, true, false, arith}
 use Rattle.asked_lines.proofs.Finding.{find_more, found, named_so, none_found}
 use Rattle.asked_lines.proofs.goals.one_goal.Goals as goal
 

@@ -1,4 +1,3 @@
-use Rattle.std.proofs.Common.{◌≡◌, Option, sym, subst}
 use Rattle.proof_store.proofs.Asking.{rose_one}
 use Rattle.proof_store.proofs.Proving.{claim_shown_ever}
 use Rattle.proof_store.proofs.placing.offered.Goals as goal

@@ -1,7 +1,4 @@
-use Rattle.std.proofs.Common.{rules, ◌∙◌, refl, arith, ◌≡◌, ◌≤◌, length, OnOk, OnErr, ℕ, ◌+◌, ◌-◌, ◌*◌, ◌<◌, ◌/◌, ◌%◌, Bool, true, false, nat_eq, nat_lt, List, [], ◌∷◌, ◌++◌, slice_index_or, slice_set, bit_and, bit_or, Fits, w8, w32, w64, Bor, MutBor}
-use Rattle.std.specs.Io.KnownBytes.{Appends}
-use Rattle.outside.specs.Faults.{HasCause}
-use Rattle.signoff_call.specs.Run.{AppendsPrefix}
+use Rattle.std.proofs.Common.{◌∙◌, refl, arith, ◌+◌, ◌-◌}
 use Rattle.signoff_call.proofs.Putting.{appends_none, part_out, part_failed}
 use Rattle.signoff_call.proofs.lines.put_lines.Goals as goal
 

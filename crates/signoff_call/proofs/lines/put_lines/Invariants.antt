@@ -1,7 +1,5 @@
-use Rattle.std.proofs.Common.{take, length, ◌-◌, ◌≡◌, ◌≤◌, OnOk, OnErr, ℕ, ◌+◌, ◌*◌, ◌<◌}
+use Rattle.std.proofs.Common.{take, length, ◌-◌, ◌≡◌, ◌≤◌}
 use Rattle.std.specs.Io.KnownBytes.{Appends}
-use Rattle.outside.specs.Faults.{HasCause}
-use Rattle.signoff_call.specs.Run.{AppendsPrefix}
 use Rattle.signoff_call.proofs.lines.put_lines.Given as goal
 
 abbrev pub invariant-loop-from : goal.invariant-loop-from

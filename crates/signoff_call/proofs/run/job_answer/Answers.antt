@@ -1,5 +1,4 @@
-use Rattle.std.proofs.Common.{◌≡◌, refl, arith}
-use Rattle.signoff_call.proofs.Answering.{both_answered, both_left, no_module_answered, no_set_answered, read_none, refusal_other}
+use Rattle.signoff_call.proofs.Answering.{both_answered, both_left}
 use Rattle.signoff_call.proofs.run.job_answer.Goals as goal
 
 pub returns-in-Both-clause-answer : goal.returns-in-Both-clause-answer

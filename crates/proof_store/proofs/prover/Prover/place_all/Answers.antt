@@ -1,5 +1,5 @@
-use Rattle.std.proofs.Common.{◌≡◌, ◌∙◌, refl, arith, rules}
-use Rattle.proof_store.proofs.Turns.{all_placed, place_more, place_start, proceeds_on, proceeds_same, rose_more, rose_start}
+use Rattle.std.proofs.Common.{◌∙◌, refl, rules}
+use Rattle.proof_store.proofs.Turns.{place_more, place_start, proceeds_on, proceeds_same, rose_more, rose_start}
 use Rattle.proof_store.proofs.prover.Prover.place_all.Goals as goal
 
 pub loop-goal-init : goal.loop-goal-init

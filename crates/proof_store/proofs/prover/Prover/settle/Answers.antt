@@ -1,4 +1,4 @@
-use Rattle.std.proofs.Common.{◌≡◌, ◌+◌, ◌∙◌, ℕ, List, map, ap, sym, subst, arith, length}
+use Rattle.std.proofs.Common.{◌∙◌, ℕ, map, ap, sym, subst, arith, length}
 use Rattle.std.specs.List.{AllZip}
 use Rattle.std.specs.Prelude.{IfSome}
 use Rattle.job_pool.specs.Shown.{IsShown}
