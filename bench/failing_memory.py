@@ -11,8 +11,9 @@ failing_memory.py program [--program P] [--every K] M S   runs `P check M S` wit
                                                           what it writes where nothing fails
 
 A test passes where the allocation that failed is none of the calls', or where its call took the want of memory into an answer that the test expects. It is
-refused where it ended with an error that tells want of memory. Where an assertion of its own stopped it, a call gave another answer than it gives with ample
-memory: a reply 507, say. All else, as a fault or a hang, is 'other'. Both are told below the table. Which tests make which calls:
+refused where it ended with an error that tells want of memory, or an assertion met that answer. Where another assertion of its own stopped it, a call gave
+another answer than with ample memory: a reply 507, say. All else, as a fault or a hang, is 'other'. Both are told below the table. Which tests make which
+calls:
 
     read_modules                  verilog_rows:modules
     read_set                      property_rows:sets, property_rows:lines, property_rows:windows
@@ -35,7 +36,7 @@ CALLS = ["verilog_rows:modules", "property_rows:sets", "deciding_rows:records", 
 OUTCOME = re.compile(r"^test (\S+) \.\.\. (ok|FAILED)$")
 HOWS = ("refused", "passed", "another answer", "other")
 SAYINGS = {
-    "refused": re.compile(r"^error: .*(AllocError|AllocFailed|Memory)", re.M),
+    "refused": re.compile(r"^error: .*(AllocError|AllocFailed|Memory)|^ *left: \"Memory\"$", re.M),
     "another answer": re.compile(r"^test stopped at src/\S+:\d+:\d+$", re.M),
 }
 FAILING = r"""
@@ -104,7 +105,7 @@ class Ends:
         for name, counts in sorted(self.counts.items()):
             print(f"| {name} | {' | '.join(str(counts[it]) for it in HOWS)} |")
         for (name, said), numbers in sorted(self.others.items()):
-            print(f"\n{name}, where allocation {stretches(numbers)} fails:\n{said}")
+            print(f"\n{name}, where allocation {stretches(numbers)} fails:\n" + "\n".join(it[:120] for it in said.splitlines()))
 
 
 def tests(crates, first, last):
