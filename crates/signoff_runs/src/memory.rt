@@ -110,19 +110,6 @@ fn files_of(rt: &HostRuntime, words: &[String]) -> io::Result<Vec<File>> {
     Ok(files)
 }
 
-fn helpers_of(alloc: Global, aides: &[Aide]) -> Result<Vec<Box<dyn Helper>>, AllocError> {
-    let mut helpers: Vec<Box<dyn Helper>> = Vec::new(alloc);
-    for aide in aides {
-        match *aide {
-            Aide::Sampler => helpers.push(Box::new(alloc, Sampler::new(1, 1_000))?)?,
-            Aide::Table => helpers.push(Box::new(alloc, Table::new())?)?,
-            Aide::Units => helpers.push(Box::new(alloc, Units::new())?)?,
-            Aide::Lies(lie) => helpers.push(Box::new(alloc, Liar { lie, offers: 0 })?)?,
-        }
-    }
-    Ok(helpers)
-}
-
 /// The objects of a run but its keeper.
 #[derive(Drop)]
 struct Objects {
@@ -149,7 +136,7 @@ fn objects_of(rt: &HostRuntime, words: &[String], given: Given) -> io::Result<Ob
     })
 }
 
-/// The status of the top call, and the book.
+/// Makes the helpers, and calls the top call: its status, and the book.
 fn called<R: Threads + Sync>(
     threads: &R,
     alloc: Global,
@@ -157,7 +144,15 @@ fn called<R: Threads + Sync>(
     objects: &mut Objects,
     keeper: &mut MemKeeper,
 ) -> Result<(u8, Book), AllocError> {
-    let helpers = helpers_of(alloc, &objects.aides)?;
+    let mut helpers: Vec<Box<dyn Helper>> = Vec::new(alloc);
+    for aide in &objects.aides {
+        match *aide {
+            Aide::Sampler => helpers.push(Box::new(alloc, Sampler::new(1, 1_000))?)?,
+            Aide::Table => helpers.push(Box::new(alloc, Table::new())?)?,
+            Aide::Units => helpers.push(Box::new(alloc, Units::new())?)?,
+            Aide::Lies(lie) => helpers.push(Box::new(alloc, Liar { lie, offers: 0 })?)?,
+        }
+    }
     let mut book = Book::new(alloc);
     let status = signoff(
         threads,
