@@ -1,4 +1,4 @@
-// Changes of what a keeper has for a line.
+// What a keeper has for the lines of a run, and changes of it.
 use crate::memory::Key;
 use outside::{Keeper, MemKeeper, OutFault};
 use std::alloc::Global;
@@ -18,66 +18,98 @@ pub fn given<T: Drop>(res: Result<T, OutFault>) -> io::Result<T> {
     }
 }
 
-/// How a kept proof is changed.
+/// What becomes of the proof of a line.
 #[derive(Clone, Copy)]
-pub enum Change {
+pub enum Damage {
     Emptied,
     Halved,
+    /// That of the next line, the first one's for the last, stands in its place.
+    Neighbour,
     /// The byte at this place has its lowest bit turned.
     Turned(usize),
 }
 
-/// The place of a line among keys.
-pub fn place_of(keys: &[Key], name: &str) -> io::Result<usize> {
-    match keys
-        .iter()
-        .position(|key| key.name.bytes() == name.as_bytes())
-    {
-        Some(at) => Ok(at),
-        None => Err(wrong()),
-    }
+/// A keeper, and the lines of the last run over it that had some.
+#[derive(Drop)]
+pub struct Kept {
+    pub keeper: MemKeeper,
+    pub keys: Vec<Key>,
 }
 
-/// The proof that is kept for the line at a place.
-pub fn proof_at(
-    alloc: Global,
-    keeper: &mut MemKeeper,
-    keys: &[Key],
-    at: usize,
-) -> io::Result<Vec<u8>> {
-    match keys.get(at) {
-        Some(key) => given(keeper.proof(alloc, &key.key))?.ok_or(wrong()),
-        None => Err(wrong()),
+impl Kept {
+    /// A keeper without rows, and no lines.
+    pub fn new(alloc: Global) -> Kept {
+        Kept {
+            keeper: MemKeeper::new(alloc, Vec::new(alloc)),
+            keys: Vec::new(alloc),
+        }
     }
-}
 
-/// Puts bytes in the place of the proof of the line at a place.
-pub fn put_at(
-    alloc: Global,
-    keeper: &mut MemKeeper,
-    keys: &[Key],
-    at: usize,
-    bytes: &[u8],
-) -> io::Result<()> {
-    match keys.get(at) {
-        Some(key) => given(keeper.put_proof(alloc, &key.key, bytes)),
-        None => Err(wrong()),
+    /// The place of a line.
+    pub fn place(&self, name: &str) -> io::Result<usize> {
+        self.keys
+            .iter()
+            .position(|key| key.name.bytes() == name.as_bytes())
+            .ok_or(wrong())
     }
-}
 
-/// A changed copy of bytes.
-pub fn changed(alloc: Global, bytes: &[u8], change: Change) -> io::Result<Vec<u8>> {
-    let mut all = bytes.to_vec(alloc)?;
-    match change {
-        Change::Emptied => all.clear(),
-        Change::Halved => all.truncate(bytes.len() / 2),
-        Change::Turned(at) => {
-            if let Some(byte) = all.get_mut(at) {
-                *byte ^= 1;
+    /// The place of the next line, the first one's for the last.
+    fn neighbour(&self, at: usize) -> usize {
+        let next = at.saturating_add(1);
+        if next == self.keys.len() { 0 } else { next }
+    }
+
+    /// The proof that is kept for the line at a place.
+    pub fn proof(&mut self, alloc: Global, at: usize) -> io::Result<Vec<u8>> {
+        match self.keys.get(at) {
+            Some(key) => given(self.keeper.proof(alloc, &key.key))?.ok_or(wrong()),
+            None => Err(wrong()),
+        }
+    }
+
+    /// Puts bytes in the place of the proof of the line at a place.
+    pub fn put(&mut self, alloc: Global, at: usize, bytes: &[u8]) -> io::Result<()> {
+        match self.keys.get(at) {
+            Some(key) => given(self.keeper.put_proof(alloc, &key.key, bytes)),
+            None => Err(wrong()),
+        }
+    }
+
+    /// What stands in the place of the proof of the line at a place once it is damaged.
+    pub fn damaged(&mut self, alloc: Global, at: usize, damage: Damage) -> io::Result<Vec<u8>> {
+        match damage {
+            Damage::Emptied => Ok(Vec::new(alloc)),
+            Damage::Halved => Ok(halved(self.proof(alloc, at)?)),
+            Damage::Turned(byte) => Ok(turned(self.proof(alloc, at)?, byte)),
+            Damage::Neighbour => {
+                let next = self.neighbour(at);
+                self.proof(alloc, next)
             }
         }
     }
-    Ok(all)
+
+    /// Puts the records of the lines again as records of version 1, where that holds them.
+    pub fn put_first(&mut self, alloc: Global) -> io::Result<()> {
+        for key in &self.keys {
+            put_first(alloc, &mut self.keeper, &key.key)?;
+        }
+        Ok(())
+    }
+}
+
+fn halved(bytes: Vec<u8>) -> Vec<u8> {
+    let mut bytes = bytes;
+    bytes.truncate(bytes.len() / 2);
+    bytes
+}
+
+/// The bytes, of which the one at a place has its lowest bit turned.
+fn turned(bytes: Vec<u8>, at: usize) -> Vec<u8> {
+    let mut bytes = bytes;
+    if let Some(byte) = bytes.get_mut(at) {
+        *byte ^= 1;
+    }
+    bytes
 }
 
 /// Puts the record under a key again as one of version 1, where that holds it.
@@ -87,14 +119,6 @@ fn put_first(alloc: Global, keeper: &mut MemKeeper, key: &[u8]) -> io::Result<()
     if fits_version_1(&steps) {
         let first = write_steps_1(alloc, &steps)?;
         given(keeper.put_proof(alloc, key, &first))?;
-    }
-    Ok(())
-}
-
-/// Puts the records of these lines again as records of version 1.
-pub fn put_all_first(alloc: Global, keeper: &mut MemKeeper, keys: &[Key]) -> io::Result<()> {
-    for key in keys {
-        put_first(alloc, keeper, &key.key)?;
     }
     Ok(())
 }

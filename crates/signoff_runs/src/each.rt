@@ -1,14 +1,64 @@
 // Runs that are repeated with one thing changed. Runs in a row that come to the same are told by one line.
-use crate::damage::{Change, changed, place_of, proof_at, put_at, wrong};
-use crate::memory::{
-    Given, Key, Ran, failing_port, failing_put, keeper, one, run, with_peer, with_peers,
-};
+use crate::damage::{Damage, Kept, given, wrong};
+use crate::memory::{Given, failing_port, failing_put, run};
 use crate::script::{World, number, request};
-use crate::shown::parts;
+use crate::told::{Asked, Tell, told, told_anew, told_twice};
 use outside::{Keeper, MemKeeper, Text};
-use std::alloc::{AllocError, Global};
+use std::alloc::Global;
 use std::io;
+use std::ops::Range;
 use std::thread::Threads;
+
+/// What is changed from run to run.
+#[derive(Clone, Copy)]
+pub enum Each {
+    /// `COUNT WORDS`: the put of each number up to COUNT fails.
+    Put,
+    /// `COUNT WORDS`: the call of the port of each number up to COUNT fails.
+    Port,
+    /// `COUNT WORDS`: the call of the keeper of each number up to COUNT fails, and none in the run after it.
+    Keeper,
+    /// The same, told by the replies.
+    Served,
+    /// `LINE | FILE`: this request ends after each number of its bytes, all of them at last.
+    Cut,
+    /// `NAME | WORDS`: each byte of what is kept for a line has its lowest bit turned.
+    Byte,
+    /// `WORDS`: what is kept for each line of the last run is damaged, one line at a time.
+    Line(Damage),
+}
+
+/// Runs of a command line, each with one thing changed.
+#[derive(Clone, Copy)]
+struct Series<'a> {
+    each: Each,
+    line: &'a str,
+    /// What a run puts where nothing is changed.
+    all: &'a [u8],
+    /// The request that is cut.
+    sent: &'a [u8],
+    /// The place of the line of whose proof bytes are turned.
+    place: usize,
+}
+
+impl<'a> Series<'a> {
+    fn new(each: Each, line: &'a str) -> Series<'a> {
+        Series {
+            each,
+            line,
+            all: &[],
+            sent: &[],
+            place: 0,
+        }
+    }
+
+    fn asked(&self, tell: Tell<'a>) -> Asked<'a> {
+        Asked {
+            line: self.line,
+            tell,
+        }
+    }
+}
 
 /// Numbers in a row that come to the same.
 #[derive(Drop)]
@@ -47,418 +97,191 @@ impl Stretch {
     }
 }
 
-/// A number and the rest of a line.
-fn counted(line: &str) -> io::Result<(usize, &str)> {
-    let (count, rest) = line.split_once(' ').ok_or(wrong())?;
-    Ok((number(count)?, rest))
+/// What a run comes to that meets a damaged proof; then the proof is as before.
+fn told_damaged<R: Threads + Sync>(
+    threads: &R,
+    rt: &HostRuntime,
+    kept: &mut Kept,
+    series: &Series<'_>,
+    (place, damage): (usize, Damage),
+) -> io::Result<String> {
+    let alloc = rt.alloc();
+    let bytes = kept.proof(alloc, place)?;
+    let other = kept.damaged(alloc, place, damage)?;
+    kept.put(alloc, place, &other)?;
+    let asked = series.asked(Tell::Decided(series.all));
+    let text = told(threads, rt, &mut kept.keeper, Given::nothing(alloc), asked)?;
+    kept.put(alloc, place, &bytes)?;
+    Ok(text)
 }
 
-/// How many lines bytes have, each ended by a line feed.
-fn line_count(bytes: &[u8]) -> usize {
-    bytes.iter().filter(|byte| **byte == b'\n').count()
+/// What a run comes to whose peer sends the first bytes of the request alone, and how many blocks the desk has then.
+fn told_cut<R: Threads + Sync>(
+    threads: &R,
+    rt: &HostRuntime,
+    series: &Series<'_>,
+    at: usize,
+) -> io::Result<String> {
+    let alloc = rt.alloc();
+    let mut keeper = MemKeeper::new(alloc, Vec::new(alloc));
+    let sent = Given::peer(alloc, series.sent.get(..at).unwrap_or(series.sent))?;
+    let replies = told(threads, rt, &mut keeper, sent, series.asked(Tell::Replies))?;
+    let blocks = given(keeper.names(alloc))?.len();
+    Ok(format!(in alloc; "{replies}, blocks {blocks}")?)
+}
+
+/// What the run of a number comes to.
+fn told_at<R: Threads + Sync>(
+    threads: &R,
+    rt: &HostRuntime,
+    world: &mut World,
+    series: &Series<'_>,
+    at: usize,
+) -> io::Result<String> {
+    let alloc = rt.alloc();
+    let peers = &world.given.peers;
+    match series.each {
+        Each::Put => {
+            let given = failing_put(alloc, peers, at)?;
+            told_anew(threads, rt, given, series.asked(Tell::First(series.all)))
+        }
+        Each::Port => {
+            let given = failing_port(alloc, peers, at)?;
+            told_anew(threads, rt, given, series.asked(Tell::Replies))
+        }
+        Each::Keeper => {
+            let asked = (
+                series.asked(Tell::Begin),
+                series.asked(Tell::Same(series.all)),
+            );
+            told_twice(threads, rt, peers, at, asked)
+        }
+        Each::Served => {
+            let asked = (series.asked(Tell::Replies), series.asked(Tell::Replies));
+            told_twice(threads, rt, peers, at, asked)
+        }
+        Each::Cut => told_cut(threads, rt, series, at),
+        Each::Byte => {
+            let damage = (series.place, Damage::Turned(at));
+            told_damaged(threads, rt, &mut world.kept, series, damage)
+        }
+        Each::Line(damage) => told_damaged(threads, rt, &mut world.kept, series, (at, damage)),
+    }
+}
+
+/// Prints what the runs of these numbers come to.
+fn put_series<R: Threads + Sync>(
+    threads: &R,
+    rt: &HostRuntime,
+    world: &mut World,
+    series: &Series<'_>,
+    numbers: Range<usize>,
+) -> io::Result<()> {
+    let mut stretch = Stretch::begun(rt.alloc());
+    for at in numbers {
+        let text = told_at(threads, rt, world, series, at)?;
+        stretch.add(rt, at, text)?;
+    }
+    stretch.put(rt)
 }
 
 /// What a command line puts over a new keeper, where nothing fails.
-fn whole<R: Threads + Sync>(threads: &R, rt: &HostRuntime, line: &str) -> io::Result<Vec<u8>> {
-    let alloc = rt.alloc();
-    let mut fresh = keeper(alloc, Vec::new(alloc));
-    let ran = run(threads, rt, line, &mut fresh, Given::nothing(alloc))?;
-    let bytes = ran.out.bytes().to_vec(alloc);
-    drop(ran);
-    Ok(bytes?)
-}
-
-/// What a run with a failing put came to, beside what it puts where none fails.
-fn put_told(alloc: Global, ran: &Ran, all: &[u8]) -> Result<String, AllocError> {
-    let status = ran.status;
-    let out = ran.out.bytes();
-    let lines = line_count(out);
-    let begins = all.starts_with(out) && (out.is_empty() || out.ends_with(b"\n"));
-    let what = if begins { "first" } else { "wrong" };
-    format!(in alloc; "status {status}, the {what} {lines} lines")
-}
-
-fn put_case<R: Threads + Sync>(
-    threads: &R,
-    rt: &HostRuntime,
-    line: &str,
-    all: &[u8],
-    at: usize,
-) -> io::Result<String> {
-    let alloc = rt.alloc();
-    let given = failing_put(alloc, at)?;
-    let mut fresh = keeper(alloc, Vec::new(alloc));
-    let ran = run(threads, rt, line, &mut fresh, given)?;
-    let told = put_told(alloc, &ran, all);
-    drop(ran);
-    Ok(told?)
-}
-
-/// `COUNT WORDS`: the put of each number up to COUNT fails.
-pub fn each_put<R: Threads + Sync>(threads: &R, rt: &HostRuntime, rest: &str) -> io::Result<()> {
-    let (count, line) = counted(rest)?;
-    let all = whole(threads, rt, line)?;
-    let mut stretch = Stretch::begun(rt.alloc());
-    for at in 1..=count {
-        let told = put_case(threads, rt, line, &all, at)?;
-        stretch.add(rt, at, told)?;
-    }
-    stretch.put(rt)
-}
-
-/// What a run came to: its status, its first line, and how many lines stand in its book.
-fn call_told(alloc: Global, ran: &Ran) -> Result<String, AllocError> {
-    let status = ran.status;
-    let text = str::from_utf8(ran.out.bytes()).unwrap_or("");
-    let first = text.lines().next().unwrap_or("");
-    let lines = ran.book.lines.len();
-    format!(in alloc; "status {status}, {first}, {lines} lines in the book")
-}
-
-/// Whether a run puts these bytes, and its status.
-fn next_told(alloc: Global, ran: &Ran, all: &[u8]) -> Result<String, AllocError> {
-    let status = ran.status;
-    let same = ran.out.bytes() == all;
-    format!(in alloc; "status {status}, same {same}")
-}
-
-fn call_text<R: Threads + Sync>(
-    threads: &R,
-    rt: &HostRuntime,
-    line: &str,
-    keeper: &mut MemKeeper,
-) -> io::Result<String> {
-    let alloc = rt.alloc();
-    let ran = run(threads, rt, line, keeper, Given::nothing(alloc))?;
-    let told = call_told(alloc, &ran);
-    drop(ran);
-    Ok(told?)
-}
-
-fn next_text<R: Threads + Sync>(
-    threads: &R,
-    rt: &HostRuntime,
-    line: &str,
-    keeper: &mut MemKeeper,
-    all: &[u8],
-) -> io::Result<String> {
-    let alloc = rt.alloc();
-    let ran = run(threads, rt, line, keeper, Given::nothing(alloc))?;
-    let told = next_told(alloc, &ran, all);
-    drop(ran);
-    Ok(told?)
-}
-
-fn call_case<R: Threads + Sync>(
-    threads: &R,
-    rt: &HostRuntime,
-    line: &str,
-    all: &[u8],
-    at: usize,
-) -> io::Result<String> {
-    let alloc = rt.alloc();
-    let mut failing = keeper(alloc, one(alloc, at)?);
-    let first = call_text(threads, rt, line, &mut failing)?;
-    failing.set_fails(Vec::new(alloc));
-    let next = next_text(threads, rt, line, &mut failing, all)?;
-    Ok(format!(in alloc; "{first}; then {next}")?)
-}
-
-/// `COUNT WORDS`: the call of the keeper of each number up to COUNT fails, and none in the run after it.
-pub fn each_call<R: Threads + Sync>(threads: &R, rt: &HostRuntime, rest: &str) -> io::Result<()> {
-    let (count, line) = counted(rest)?;
-    let all = whole(threads, rt, line)?;
-    let mut stretch = Stretch::begun(rt.alloc());
-    for at in 1..=count {
-        let told = call_case(threads, rt, line, &all, at)?;
-        stretch.add(rt, at, told)?;
-    }
-    stretch.put(rt)
-}
-
-/// The statuses of the replies of a run, and its own.
-fn statuses(alloc: Global, ran: &Ran, peers: usize) -> Result<String, AllocError> {
-    let mut all = String::new(alloc);
-    for at in 0..peers {
-        match parts(ran.port.reply(at)) {
-            Some((status, _)) => all.push_str(status)?,
-            None => all.push_str("none")?,
-        }
-        all.push(' ')?;
-    }
-    let status = ran.status;
-    let own = format!(in alloc; "status {status}")?;
-    all.push_str(own.as_str())?;
-    Ok(all)
-}
-
-fn served_text<R: Threads + Sync>(
-    threads: &R,
-    rt: &HostRuntime,
-    line: &str,
-    keeper: &mut MemKeeper,
-    given: Given,
-) -> io::Result<String> {
-    let peers = given.peers.len();
-    let ran = run(threads, rt, line, keeper, given)?;
-    let told = statuses(rt.alloc(), &ran, peers);
-    drop(ran);
-    Ok(told?)
-}
-
-fn served_case<R: Threads + Sync>(
-    threads: &R,
-    rt: &HostRuntime,
-    line: &str,
-    peers: &[Text],
-    at: usize,
-) -> io::Result<String> {
-    let alloc = rt.alloc();
-    let mut failing = keeper(alloc, one(alloc, at)?);
-    let first = served_text(threads, rt, line, &mut failing, with_peers(alloc, peers)?)?;
-    failing.set_fails(Vec::new(alloc));
-    let next = served_text(threads, rt, line, &mut failing, with_peers(alloc, peers)?)?;
-    Ok(format!(in alloc; "{first}; then {next}")?)
-}
-
-/// `COUNT WORDS`: the call of the keeper of each number up to COUNT fails, and none in the run after it, with the same connections.
-pub fn each_served<R: Threads + Sync>(
+fn whole<R: Threads + Sync>(
     threads: &R,
     rt: &HostRuntime,
     peers: &[Text],
+    line: &str,
+) -> io::Result<Vec<u8>> {
+    let alloc = rt.alloc();
+    let mut keeper = MemKeeper::new(alloc, Vec::new(alloc));
+    let ran = run(threads, rt, line, &mut keeper, Given::peers(alloc, peers)?)?;
+    Ok(ran.out)
+}
+
+/// `COUNT WORDS`
+fn each_number<R: Threads + Sync>(
+    threads: &R,
+    rt: &HostRuntime,
+    world: &mut World,
+    each: Each,
     rest: &str,
 ) -> io::Result<()> {
-    let (count, line) = counted(rest)?;
-    let mut stretch = Stretch::begun(rt.alloc());
-    for at in 1..=count {
-        let told = served_case(threads, rt, line, peers, at)?;
-        stretch.add(rt, at, told)?;
-    }
-    stretch.put(rt)
+    let (count, line) = rest.split_once(' ').ok_or(wrong())?;
+    let numbers = 1..number(count)?.saturating_add(1);
+    let all = whole(threads, rt, &world.given.peers, line)?;
+    let series = Series {
+        all: &all,
+        ..Series::new(each, line)
+    };
+    put_series(threads, rt, world, &series, numbers)
 }
 
-fn port_case<R: Threads + Sync>(
+/// `LINE | FILE`
+fn each_cut<R: Threads + Sync>(
     threads: &R,
     rt: &HostRuntime,
-    line: &str,
-    peers: &[Text],
-    at: usize,
-) -> io::Result<String> {
-    let alloc = rt.alloc();
-    let mut fresh = keeper(alloc, Vec::new(alloc));
-    served_text(
-        threads,
-        rt,
-        line,
-        &mut fresh,
-        failing_port(alloc, peers, at)?,
-    )
-}
-
-/// `COUNT WORDS`: the call of the port of each number up to COUNT fails.
-pub fn each_port<R: Threads + Sync>(
-    threads: &R,
-    rt: &HostRuntime,
-    peers: &[Text],
+    world: &mut World,
     rest: &str,
 ) -> io::Result<()> {
-    let (count, line) = counted(rest)?;
-    let mut stretch = Stretch::begun(rt.alloc());
-    for at in 1..=count {
-        let told = port_case(threads, rt, line, peers, at)?;
-        stretch.add(rt, at, told)?;
-    }
-    stretch.put(rt)
-}
-
-/// How many blocks a keeper has.
-fn blocks(alloc: Global, keeper: &mut MemKeeper) -> io::Result<usize> {
-    match keeper.names(alloc) {
-        Ok(names) => Ok(names.len()),
-        Err(_) => Err(wrong()),
-    }
-}
-
-fn cut_case<R: Threads + Sync>(threads: &R, rt: &HostRuntime, sent: &[u8]) -> io::Result<String> {
-    let alloc = rt.alloc();
-    let mut fresh = keeper(alloc, Vec::new(alloc));
-    let given = with_peer(alloc, sent)?;
-    let replies = served_text(threads, rt, "serve 8080 1 desk.db", &mut fresh, given)?;
-    let count = blocks(alloc, &mut fresh)?;
-    Ok(format!(in alloc; "{replies}, blocks {count}")?)
-}
-
-/// `LINE | FILE`: this request ends after each number of its bytes, all of them at last.
-pub fn each_cut<R: Threads + Sync>(threads: &R, rt: &HostRuntime, rest: &str) -> io::Result<()> {
     let sent = request(rt, rest)?;
-    let mut stretch = Stretch::begun(rt.alloc());
-    for at in 0..=sent.bytes().len() {
-        let (first, _) = sent.bytes().split_at(at);
-        let told = cut_case(threads, rt, first)?;
-        stretch.add(rt, at, told)?;
-    }
-    stretch.put(rt)
+    let sent = sent.bytes();
+    let series = Series {
+        sent,
+        ..Series::new(Each::Cut, "serve 8080 1 desk.db")
+    };
+    put_series(threads, rt, world, &series, 0..sent.len().saturating_add(1))
 }
 
-/// What a run over a keeper with a changed row came to.
-fn damage_told(alloc: Global, ran: &Ran, all: &[u8]) -> Result<String, AllocError> {
-    let status = ran.status;
-    let same = ran.out.bytes() == all;
-    let (kept, solved) = (ran.book.kept, ran.book.solved);
-    format!(in alloc; "status {status}, same {same}, kept {kept}, solved {solved}")
-}
-
-fn damage_text<R: Threads + Sync>(
-    threads: &R,
-    rt: &HostRuntime,
-    line: &str,
-    keeper: &mut MemKeeper,
-    all: &[u8],
-) -> io::Result<String> {
-    let alloc = rt.alloc();
-    let ran = run(threads, rt, line, keeper, Given::nothing(alloc))?;
-    let told = damage_told(alloc, &ran, all);
-    drop(ran);
-    Ok(told?)
-}
-
-/// A row of a keeper that is changed, and the command line that meets it.
-#[derive(Clone, Copy)]
-struct Row<'a> {
-    place: usize,
-    bytes: &'a [u8],
-    line: &'a str,
-    all: &'a [u8],
-}
-
-/// A run over the keeper with the row changed in this way; then the row is as before.
-fn row_case<R: Threads + Sync>(
-    threads: &R,
-    rt: &HostRuntime,
-    world: &mut World,
-    row: Row<'_>,
-    other: &[u8],
-) -> io::Result<String> {
-    let alloc = rt.alloc();
-    put_at(alloc, &mut world.keeper, &world.keys, row.place, other)?;
-    let told = damage_text(threads, rt, row.line, &mut world.keeper, row.all)?;
-    put_at(alloc, &mut world.keeper, &world.keys, row.place, row.bytes)?;
-    Ok(told)
-}
-
-/// Each byte of a row has its lowest bit turned.
-fn each_byte_of<R: Threads + Sync>(
-    threads: &R,
-    rt: &HostRuntime,
-    world: &mut World,
-    row: Row<'_>,
-) -> io::Result<()> {
-    let mut stretch = Stretch::begun(rt.alloc());
-    for at in 0..row.bytes.len() {
-        let other = changed(rt.alloc(), row.bytes, Change::Turned(at))?;
-        let told = row_case(threads, rt, world, row, &other)?;
-        stretch.add(rt, at, told)?;
-    }
-    stretch.put(rt)
-}
-
-/// `NAME | WORDS`: each byte of what is kept for a line has its lowest bit turned.
-pub fn each_byte<R: Threads + Sync>(
+/// `NAME | WORDS`
+fn each_byte<R: Threads + Sync>(
     threads: &R,
     rt: &HostRuntime,
     world: &mut World,
     rest: &str,
 ) -> io::Result<()> {
     let (name, line) = rest.split_once(" | ").ok_or(wrong())?;
-    let place = place_of(&world.keys, name)?;
-    let bytes = proof_at(rt.alloc(), &mut world.keeper, &world.keys, place)?;
-    let all = whole(threads, rt, line)?;
-    let row = Row {
-        place,
-        bytes: &bytes,
-        line,
+    let place = world.kept.place(name)?;
+    let bytes = world.kept.proof(rt.alloc(), place)?.len();
+    let all = whole(threads, rt, &[], line)?;
+    let series = Series {
         all: &all,
+        place,
+        ..Series::new(Each::Byte, line)
     };
-    each_byte_of(threads, rt, world, row)
+    put_series(threads, rt, world, &series, 0..bytes)
 }
 
-/// What becomes of the proof of a line.
-#[derive(Clone, Copy)]
-pub enum Damage {
-    Emptied,
-    Halved,
-    /// That of the next line, the first one's for the last, stands in its place.
-    Neighbour,
-}
-
-fn damaged(
-    alloc: Global,
-    keeper: &mut MemKeeper,
-    keys: &[Key],
-    at: usize,
-    damage: Damage,
-) -> io::Result<Vec<u8>> {
-    match damage {
-        Damage::Emptied => Ok(Vec::new(alloc)),
-        Damage::Halved => changed(alloc, &proof_at(alloc, keeper, keys, at)?, Change::Halved),
-        Damage::Neighbour => {
-            let next = at.saturating_add(1);
-            proof_at(
-                alloc,
-                keeper,
-                keys,
-                if next == keys.len() { 0 } else { next },
-            )
-        }
-    }
-}
-
-/// A row and how it is damaged, and the command line that meets it.
-#[derive(Clone, Copy)]
-struct Damaging<'a> {
-    place: usize,
-    damage: Damage,
-    line: &'a str,
-    all: &'a [u8],
-}
-
-fn damage_case<R: Threads + Sync>(
+/// `WORDS`
+fn each_line<R: Threads + Sync>(
     threads: &R,
     rt: &HostRuntime,
     world: &mut World,
-    now: Damaging<'_>,
-) -> io::Result<String> {
-    let alloc = rt.alloc();
-    let bytes = proof_at(alloc, &mut world.keeper, &world.keys, now.place)?;
-    let other = damaged(alloc, &mut world.keeper, &world.keys, now.place, now.damage)?;
-    let row = Row {
-        place: now.place,
-        bytes: &bytes,
-        line: now.line,
-        all: now.all,
-    };
-    row_case(threads, rt, world, row, &other)
-}
-
-/// `WORDS`: what is kept for each line of the last run is damaged, one line at a time.
-pub fn each_line<R: Threads + Sync>(
-    threads: &R,
-    rt: &HostRuntime,
-    world: &mut World,
-    damage: Damage,
+    each: Each,
     line: &str,
 ) -> io::Result<()> {
-    let all = whole(threads, rt, line)?;
-    let mut stretch = Stretch::begun(rt.alloc());
-    for place in 0..world.keys.len() {
-        let now = Damaging {
-            place,
-            damage,
-            line,
-            all: &all,
-        };
-        let told = damage_case(threads, rt, world, now)?;
-        stretch.add(rt, place, told)?;
+    let lines = world.kept.keys.len();
+    let all = whole(threads, rt, &[], line)?;
+    let series = Series {
+        all: &all,
+        ..Series::new(each, line)
+    };
+    put_series(threads, rt, world, &series, 0..lines)
+}
+
+/// Repeats runs as the rest of a line says, and prints what they come to.
+pub fn repeat<R: Threads + Sync>(
+    threads: &R,
+    rt: &HostRuntime,
+    world: &mut World,
+    each: Each,
+    rest: &str,
+) -> io::Result<()> {
+    match each {
+        Each::Put | Each::Port | Each::Keeper | Each::Served => {
+            each_number(threads, rt, world, each, rest)
+        }
+        Each::Cut => each_cut(threads, rt, world, rest),
+        Each::Byte => each_byte(threads, rt, world, rest),
+        Each::Line(_) => each_line(threads, rt, world, each, rest),
     }
-    stretch.put(rt)
 }

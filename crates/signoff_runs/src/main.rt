@@ -11,6 +11,7 @@ mod memory;
 mod obligations;
 mod script;
 mod shown;
+mod told;
 mod values;
 
 use std::{fs, io};

@@ -1,5 +1,5 @@
 // Runs of the top call over objects in memory.
-ghost use Rattle.std.specs.Prelude.{◌≡◌};
+ghost use Rattle.std.specs.Prelude.{◌≡◌, []};
 
 use crate::aides::Aide;
 use crate::files::words_of;
@@ -37,74 +37,62 @@ impl Given {
             aides: Vec::new(alloc),
         }
     }
+
+    /// These peers connect.
+    pub fn peers(alloc: Global, peers: &[Text]) -> Result<Given, AllocError> {
+        let mut given = Given::nothing(alloc);
+        for peer in peers {
+            given.peers.push(Text::copy(alloc, peer.bytes())?)?;
+        }
+        Ok(given)
+    }
+
+    /// A peer that sends these bytes connects.
+    pub fn peer(alloc: Global, bytes: &[u8]) -> Result<Given, AllocError> {
+        let mut given = Given::nothing(alloc);
+        given.peers.push(Text::copy(alloc, bytes)?)?;
+        Ok(given)
+    }
 }
 
-/// The put of this number fails.
-pub fn failing_put(alloc: Global, at: usize) -> Result<Given, AllocError> {
-    let sink = one(alloc, at)?;
-    Ok(Given {
-        sink,
-        ..Given::nothing(alloc)
-    })
-}
-
-/// These peers connect.
-pub fn with_peers(alloc: Global, peers: &[Text]) -> Result<Given, AllocError> {
-    let peers = copies(alloc, peers)?;
-    Ok(Given {
-        peers,
-        ..Given::nothing(alloc)
-    })
-}
-
-/// A peer that sends these bytes connects.
-pub fn with_peer(alloc: Global, bytes: &[u8]) -> Result<Given, AllocError> {
-    let mut peers = Vec::new(alloc);
-    peers.push(Text::copy(alloc, bytes)?)?;
-    Ok(Given {
-        peers,
-        ..Given::nothing(alloc)
-    })
+/// These peers connect, and the put of this number fails.
+pub fn failing_put(alloc: Global, peers: &[Text], at: usize) -> Result<Given, AllocError> {
+    let mut given = Given::peers(alloc, peers)?;
+    given.sink.push(at as u64)?;
+    Ok(given)
 }
 
 /// These peers connect, and the call of the port of this number fails.
 pub fn failing_port(alloc: Global, peers: &[Text], at: usize) -> Result<Given, AllocError> {
-    let port = one(alloc, at)?;
-    let peers = copies(alloc, peers)?;
-    Ok(Given {
-        port,
-        peers,
-        ..Given::nothing(alloc)
-    })
+    let mut given = Given::peers(alloc, peers)?;
+    given.port.push(at as u64)?;
+    Ok(given)
 }
 
-/// A number alone.
-pub fn one(alloc: Global, at: usize) -> Result<Vec<u64>, AllocError> {
-    let mut all = Vec::new(alloc);
-    all.push(at as u64)?;
-    Ok(all)
+/// A line of a report by its name, and the key of its proof, which is the text of its obligation.
+#[derive(Drop)]
+pub struct Key {
+    pub name: Text,
+    pub key: Vec<u8>,
 }
 
-fn copies(alloc: Global, peers: &[Text]) -> Result<Vec<Text>, AllocError> {
-    let mut all = Vec::new(alloc);
-    for peer in peers {
-        all.push(Text::copy(alloc, peer.bytes())?)?;
-    }
-    Ok(all)
+/// Where the lines of a run were decided: how many at the keeper, by a helper and by the workers, and how many numbers these drew.
+#[derive(Clone, Copy)]
+pub struct Counts {
+    pub kept: u64,
+    pub helped: u64,
+    pub solved: u64,
+    pub draws: usize,
 }
 
-/// What a run came to: its status, what it put, its book, and its port with the replies.
+/// What a run came to: its status, what it put, the replies to its peers, its lines, and where they were decided.
 #[derive(Drop)]
 pub struct Ran {
     pub status: u8,
-    pub out: MemSink,
-    pub book: Book,
-    pub port: MemPort,
-}
-
-/// A keeper without rows, whose calls of these numbers fail.
-pub fn keeper(alloc: Global, fails: Vec<u64>) -> MemKeeper {
-    MemKeeper::new(alloc, fails)
+    pub out: Vec<u8>,
+    pub replies: Vec<Text>,
+    pub keys: Vec<Key>,
+    pub counts: Counts,
 }
 
 /// The files that these words name.
@@ -131,22 +119,33 @@ struct Objects {
     aides: Vec<Aide>,
 }
 
-/// Makes the helpers, and calls the top call.
+fn objects_of(rt: &HostRuntime, words: &[String], given: Given) -> io::Result<Objects> {
+    let alloc = rt.alloc();
+    let Given {
+        shelf,
+        sink,
+        port,
+        peers,
+        aides,
+    } = given;
+    Ok(Objects {
+        shelf: MemShelf::new(files_of(rt, words)?, shelf),
+        out: MemSink::new(alloc, sink),
+        port: MemPort::new(alloc, peers, ROOM, port)?,
+        aides,
+    })
+}
+
+/// Makes the helpers, and calls the top call: its status, and the book.
 fn called<R: Threads + Sync>(
     threads: &R,
     alloc: Global,
     words: &[String],
-    objects: Objects,
+    objects: &mut Objects,
     keeper: &mut MemKeeper,
-) -> Result<Ran, AllocError> {
-    let Objects {
-        mut shelf,
-        mut out,
-        mut port,
-        aides,
-    } = objects;
+) -> Result<(u8, Book), AllocError> {
     let mut helpers: Vec<Box<dyn Helper>> = Vec::new(alloc);
-    for aide in &aides {
+    for aide in &objects.aides {
         match *aide {
             Aide::Sampler => helpers.push(Box::new(alloc, Sampler::new(1, 1_000))?)?,
             Aide::Table => helpers.push(Box::new(alloc, Table::new())?)?,
@@ -156,14 +155,59 @@ fn called<R: Threads + Sync>(
     }
     let mut book = Book::new(alloc);
     let status = signoff(
-        threads, alloc, words, &mut shelf, &mut out, keeper, &mut port, &QuietGate, helpers,
+        threads,
+        alloc,
+        words,
+        &mut objects.shelf,
+        &mut objects.out,
+        keeper,
+        &mut objects.port,
+        &QuietGate,
+        helpers,
         &mut book,
     );
+    Ok((status, book))
+}
+
+fn keys_of(alloc: Global, book: &Book) -> Result<Vec<Key>, AllocError> {
+    let mut keys = Vec::new(alloc);
+    for line in &book.lines {
+        keys.push(Key {
+            name: Text::copy(alloc, line.name.bytes())?,
+            key: text(alloc, &line.ob)?,
+        })?;
+    }
+    Ok(keys)
+}
+
+fn replies_of(alloc: Global, port: &MemPort, peers: usize) -> Result<Vec<Text>, AllocError> {
+    let mut replies = Vec::new(alloc);
+    for at in 0..peers {
+        replies.push(Text::copy(alloc, port.reply(at))?)?;
+    }
+    Ok(replies)
+}
+
+/// What a call with this status and this book came to.
+fn ran_of(
+    alloc: Global,
+    status: u8,
+    book: &Book,
+    objects: &Objects,
+    peers: usize,
+) -> Result<Ran, AllocError> {
+    let counts = Counts {
+        kept: book.kept,
+        helped: book.helped,
+        solved: book.solved,
+        draws: book.draws.len(),
+    };
     Ok(Ran {
         status,
-        out,
-        book,
-        port,
+        out: objects.out.bytes().to_vec(alloc)?,
+        replies: replies_of(alloc, &objects.port, peers)?,
+        keys: keys_of(alloc, book)?,
+        counts,
     })
 }
 
@@ -177,37 +221,12 @@ pub fn run<R: Threads + Sync>(
 ) -> io::Result<Ran> {
     let alloc = rt.alloc();
     let words = words_of(rt, line)?;
-    let Given {
-        shelf,
-        sink,
-        port,
-        peers,
-        aides,
-    } = given;
-    let objects = Objects {
-        shelf: MemShelf::new(files_of(rt, &words)?, shelf),
-        out: MemSink::new(alloc, sink),
-        port: MemPort::new(alloc, peers, ROOM, port)?,
-        aides,
-    };
-    Ok(called(threads, alloc, &words, objects, keeper)?)
-}
-
-/// A line of a report by its name, and the key of its proof, which is the text of its obligation.
-#[derive(Drop)]
-pub struct Key {
-    pub name: Text,
-    pub key: Vec<u8>,
-}
-
-/// The keys of the lines of a book.
-pub fn keys_of(alloc: Global, book: &Book) -> Result<Vec<Key>, AllocError> {
-    let mut keys = Vec::new(alloc);
-    for line in &book.lines {
-        keys.push(Key {
-            name: Text::copy(alloc, line.name.bytes())?,
-            key: text(alloc, &line.ob)?,
-        })?;
-    }
-    Ok(keys)
+    let peers = given.peers.len();
+    let mut objects = objects_of(rt, &words, given)?;
+    let (status, book) = called(threads, alloc, &words, &mut objects, keeper)?;
+    let ran = ran_of(alloc, status, &book, &objects, peers);
+    // calls, since a proof would write out these drops where the next line fails
+    drop(book);
+    drop(objects);
+    Ok(ran?)
 }

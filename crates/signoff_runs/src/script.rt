@@ -1,10 +1,8 @@
 // The script of runs over objects in memory.
 use crate::aides::aide_of;
-use crate::damage::{Change, changed, given, place_of, proof_at, put_all_first, put_at, wrong};
-use crate::each::{
-    Damage, each_byte, each_call, each_cut, each_line, each_port, each_put, each_served,
-};
-use crate::memory::{Given, Key, keeper, keys_of, run};
+use crate::damage::{Damage, Kept, given, wrong};
+use crate::each::{Each, repeat};
+use crate::memory::{Given, Key, run};
 use crate::obligations::put_obligations;
 use crate::shown::put_run;
 use outside::{Keeper, MemKeeper, Text};
@@ -13,12 +11,11 @@ use std::alloc::Global;
 use std::thread::Threads;
 use std::{fs, io};
 
-/// What a script has made so far: the keeper, what the next run is given, and the lines of the last one.
+/// What a script has made so far: the keeper with the lines of the last run, and what the next run is given.
 #[derive(Drop)]
 pub struct World {
-    pub keeper: MemKeeper,
+    pub kept: Kept,
     pub given: Given,
-    pub keys: Vec<Key>,
 }
 
 /// What the first word of a line asks for.
@@ -38,20 +35,6 @@ enum Verb {
     Missing,
     Obligations,
     Each(Each),
-}
-
-/// Runs that are repeated with one thing changed.
-#[derive(Clone, Copy)]
-enum Each {
-    Put,
-    Keeper,
-    Served,
-    Port,
-    Cut,
-    Byte,
-    Emptied,
-    Halved,
-    Neighbour,
 }
 
 const VERBS: &[(&str, Verb)] = &[
@@ -74,9 +57,9 @@ const VERBS: &[(&str, Verb)] = &[
     ("each-port", Verb::Each(Each::Port)),
     ("each-cut", Verb::Each(Each::Cut)),
     ("each-byte", Verb::Each(Each::Byte)),
-    ("each-emptied", Verb::Each(Each::Emptied)),
-    ("each-halved", Verb::Each(Each::Halved)),
-    ("each-neighbour", Verb::Each(Each::Neighbour)),
+    ("each-emptied", Verb::Each(Each::Line(Damage::Emptied))),
+    ("each-halved", Verb::Each(Each::Line(Damage::Halved))),
+    ("each-neighbour", Verb::Each(Each::Line(Damage::Neighbour))),
 ];
 
 fn verb_of(word: &str) -> io::Result<Verb> {
@@ -123,26 +106,25 @@ pub fn request(rt: &HostRuntime, line: &str) -> io::Result<Text> {
 fn set(rt: &HostRuntime, world: &mut World, verb: Verb, rest: &str) -> io::Result<bool> {
     let alloc = rt.alloc();
     match verb {
-        Verb::New => world.keeper = keeper(alloc, Vec::new(alloc)),
-        Verb::Keeper => world.keeper.set_fails(numbers(alloc, rest)?),
+        Verb::New => world.kept.keeper = MemKeeper::new(alloc, Vec::new(alloc)),
+        Verb::Keeper => world.kept.keeper.set_fails(numbers(alloc, rest)?),
         Verb::Shelf => world.given.shelf = numbers(alloc, rest)?,
         Verb::Put => world.given.sink = numbers(alloc, rest)?,
         Verb::Port => world.given.port = numbers(alloc, rest)?,
         Verb::Helper => world.given.aides.push(aide_of(rest)?)?,
         Verb::Peer => world.given.peers.push(request(rt, rest)?)?,
-        Verb::First => put_all_first(alloc, &mut world.keeper, &world.keys)?,
-        Verb::Turn => turn(alloc, world, rest)?,
+        Verb::First => world.kept.put_first(alloc)?,
+        Verb::Turn => turn(alloc, &mut world.kept, rest)?,
         _ => return Ok(false),
     }
     Ok(true)
 }
 
 /// Turns the lowest bit of the first byte that is kept for a line.
-fn turn(alloc: Global, world: &mut World, name: &str) -> io::Result<()> {
-    let at = place_of(&world.keys, name)?;
-    let bytes = proof_at(alloc, &mut world.keeper, &world.keys, at)?;
-    let bytes = changed(alloc, &bytes, Change::Turned(0))?;
-    put_at(alloc, &mut world.keeper, &world.keys, at, &bytes)
+fn turn(alloc: Global, kept: &mut Kept, name: &str) -> io::Result<()> {
+    let at = kept.place(name)?;
+    let bytes = kept.damaged(alloc, at, Damage::Turned(0))?;
+    kept.put(alloc, at, &bytes)
 }
 
 /// Takes what the next run is given, so that the one after it is given nothing.
@@ -158,11 +140,10 @@ fn run_shown<R: Threads + Sync>(
     line: &str,
 ) -> io::Result<()> {
     let given = take_given(rt.alloc(), world);
-    let peers = given.peers.len();
-    let ran = run(threads, rt, line, &mut world.keeper, given)?;
-    put_run(rt, line, &ran, peers)?;
-    if !ran.book.lines.is_empty() {
-        world.keys = keys_of(rt.alloc(), &ran.book)?;
+    let ran = run(threads, rt, line, &mut world.kept.keeper, given)?;
+    put_run(rt, line, &ran)?;
+    if !ran.keys.is_empty() {
+        world.kept.keys = ran.keys;
     }
     Ok(())
 }
@@ -175,10 +156,10 @@ fn put_missing<R: Threads + Sync>(
     line: &str,
 ) -> io::Result<()> {
     let alloc = rt.alloc();
-    let mut other = keeper(alloc, Vec::new(alloc));
+    let mut other = MemKeeper::new(alloc, Vec::new(alloc));
     let ran = run(threads, rt, line, &mut other, Given::nothing(alloc))?;
-    for key in &keys_of(alloc, &ran.book)? {
-        if given(world.keeper.proof(alloc, &key.key))?.is_none() {
+    for key in &ran.keys {
+        if given(world.kept.keeper.proof(alloc, &key.key))?.is_none() {
             put_missing_line(rt, key)?;
         }
     }
@@ -192,33 +173,12 @@ fn put_missing_line(rt: &HostRuntime, key: &Key) -> io::Result<()> {
 
 /// Moves so many rows at most, and prints what it came to.
 fn put_moved(rt: &HostRuntime, world: &mut World, most: usize) -> io::Result<()> {
-    match migrate(rt.alloc(), &mut world.keeper, (most as u64).max(1)) {
+    match migrate(rt.alloc(), &mut world.kept.keeper, (most as u64).max(1)) {
         Ok(now) => {
             let (moved, left, more) = (now.moved, now.left, now.more);
             println!(rt; "moved {moved}, left {left}, more {more}")
         }
         Err(_) => Err(wrong()),
-    }
-}
-
-/// Repeats runs with one thing changed.
-fn repeat<R: Threads + Sync>(
-    threads: &R,
-    rt: &HostRuntime,
-    world: &mut World,
-    each: Each,
-    rest: &str,
-) -> io::Result<()> {
-    match each {
-        Each::Put => each_put(threads, rt, rest),
-        Each::Keeper => each_call(threads, rt, rest),
-        Each::Served => each_served(threads, rt, &world.given.peers, rest),
-        Each::Port => each_port(threads, rt, &world.given.peers, rest),
-        Each::Cut => each_cut(threads, rt, rest),
-        Each::Byte => each_byte(threads, rt, world, rest),
-        Each::Emptied => each_line(threads, rt, world, Damage::Emptied, rest),
-        Each::Halved => each_line(threads, rt, world, Damage::Halved, rest),
-        Each::Neighbour => each_line(threads, rt, world, Damage::Neighbour, rest),
     }
 }
 
@@ -237,7 +197,7 @@ fn step<R: Threads + Sync>(
     match verb {
         Verb::Missing => put_missing(threads, rt, world, rest),
         Verb::Move => put_moved(rt, world, number(rest)?),
-        Verb::Obligations => put_obligations(rt, &world.keys, rest),
+        Verb::Obligations => put_obligations(rt, &world.kept.keys, rest),
         Verb::Each(each) => {
             println!(rt; "{line}")?;
             repeat(threads, rt, world, each, rest)
@@ -250,9 +210,8 @@ fn step<R: Threads + Sync>(
 pub fn play<R: Threads + Sync>(threads: &R, rt: &HostRuntime, script: &str) -> io::Result<()> {
     let alloc = rt.alloc();
     let mut world = World {
-        keeper: keeper(alloc, Vec::new(alloc)),
+        kept: Kept::new(alloc),
         given: Given::nothing(alloc),
-        keys: Vec::new(alloc),
     };
     for line in script.lines() {
         if !line.is_empty() && !line.starts_with('#') {

@@ -1,5 +1,5 @@
 // What is printed of runs over objects in memory.
-use crate::memory::Ran;
+use crate::memory::{Counts, Ran};
 use std::io;
 use std::io::Write;
 
@@ -29,14 +29,18 @@ fn put_reply(rt: &HostRuntime, reply: &[u8]) -> io::Result<()> {
 }
 
 /// Prints what a run put, its replies, its status, and where its lines were decided.
-pub fn put_run(rt: &HostRuntime, line: &str, ran: &Ran, peers: usize) -> io::Result<()> {
+pub fn put_run(rt: &HostRuntime, line: &str, ran: &Ran) -> io::Result<()> {
     println!(rt; "> {line}")?;
-    for at in 0..peers {
-        put_reply(rt, ran.port.reply(at))?;
+    for reply in &ran.replies {
+        put_reply(rt, reply.bytes())?;
     }
-    put(rt, ran.out.bytes())?;
+    put(rt, &ran.out)?;
     let status = ran.status;
-    let (kept, helped, solved) = (ran.book.kept, ran.book.helped, ran.book.solved);
-    let draws = ran.book.draws.len();
+    let Counts {
+        kept,
+        helped,
+        solved,
+        draws,
+    } = ran.counts;
     println!(rt; "status {status}, kept {kept}, helped {helped}, solved {solved}, draws {draws}")
 }

@@ -1,0 +1,224 @@
+#!/usr/bin/env python3
+"""What calls answer where one allocation fails.
+
+failing_memory.py tests [--from N] [--to N] [CRATE..]     runs `rt try --test --fail-alloc N` in these crates of rows for each N in turn, and counts how
+                                                          each test ended. It needs no proof, and builds the tests anew for each N: a minute for a
+                                                          small crate, several for one that stands on much. It stops where every test passes
+failing_memory.py built [--every K] [CRATE[:WORD]..]      the same over the tests that `rt ci` or `rt test` left in crates/CRATE/out, or those of them
+                                                          whose names begin with WORD. They are built once: malloc is replaced by one whose Nth
+                                                          call fails, for each N (or each Kth) until a test makes no Nth call
+failing_memory.py program [--program P] [--every K] M S   runs `P check M S` with that malloc for each N in turn, and compares what it writes with
+                                                          what it writes where nothing fails
+
+A test passes where the allocation that failed is none of the calls', or where its call took the want of memory into an answer that the test expects. It is
+refused where it ended with an error that tells want of memory, or an assertion met that answer. Where another assertion of its own stopped it, a call gave
+another answer than with ample memory: a reply 507, say. All else, as a fault or a hang, is 'other'. Both are told below the table. Which tests make which
+calls:
+
+    read_modules                  verilog_rows:modules
+    read_set                      property_rows:sets, property_rows:lines, property_rows:windows
+    read_steps                    deciding_rows:records
+    settle                        deciding_rows:settling
+    check                         signoff_rows:asked
+    act, serve_one                none; desk_rows:connections has those of the connection below them, and `signoff_runs` runs both
+"""
+import argparse
+import collections
+import itertools
+import os
+import re
+import subprocess
+import tempfile
+
+TOP = os.path.dirname(os.path.dirname(os.path.abspath(__file__)))
+CRATES = ["verilog_rows", "property_rows", "deciding_rows", "signoff_rows", "desk_rows"]
+CALLS = ["verilog_rows:modules", "property_rows:sets", "deciding_rows:records", "deciding_rows:settling", "signoff_rows:asked", "desk_rows:connections"]
+OUTCOME = re.compile(r"^test (\S+) \.\.\. (ok|FAILED)$")
+HOWS = ("refused", "passed", "another answer", "other")
+SAYINGS = {
+    "refused": re.compile(r"^error: .*(AllocError|AllocFailed|Memory)|^ *left: \"Memory\"$", re.M),
+    "another answer": re.compile(r"^test stopped at src/\S+:\d+:\d+$", re.M),
+}
+FAILING = r"""
+#define _GNU_SOURCE
+#include <errno.h>
+#include <fcntl.h>
+#include <stdlib.h>
+#include <unistd.h>
+extern void *__libc_malloc(size_t);
+extern void *__libc_calloc(size_t, size_t);
+extern void *__libc_realloc(void *, size_t);
+static unsigned long calls, nth;
+static int fails(void) {
+    if (!nth) { const char *text = getenv("FAIL_ALLOC"); nth = text ? strtoul(text, 0, 10) : ~0ul; }
+    if (__atomic_add_fetch(&calls, 1, __ATOMIC_RELAXED) != nth) return 0;
+    const char *file = getenv("FAILED_FILE");
+    if (file) close(open(file, O_CREAT | O_WRONLY, 0600));
+    errno = ENOMEM;
+    return 1;
+}
+void *malloc(size_t n) { return fails() ? 0 : __libc_malloc(n); }
+void *calloc(size_t n, size_t m) { return fails() ? 0 : __libc_calloc(n, m); }
+void *realloc(void *p, size_t n) { return fails() ? 0 : __libc_realloc(p, n); }
+"""
+
+
+def outcomes(text):
+    """Of what `rt try --test` writes: each test, whether it passed, and what was said of it."""
+    found, name = {}, None
+    for line in text.splitlines():
+        outcome = OUTCOME.match(line)
+        if outcome:
+            name = outcome[1]
+            found[name] = [outcome[2] == "ok", []]
+        elif name and line.startswith("    "):
+            found[name][1].append(line.strip())
+    return {name: (passed, "\n".join(said)) for name, (passed, said) in found.items()}
+
+
+def stretches(numbers):
+    """Ascending numbers as text, those in a row as one stretch."""
+    rows = []
+    for n in numbers:
+        if rows and rows[-1][1] == n - 1:
+            rows[-1][1] = n
+        else:
+            rows.append([n, n])
+    return ", ".join(str(first) if first == last else f"{first} to {last}" for first, last in rows)
+
+
+class Ends:
+    """How tests ended, and what was said where one neither passed nor was refused."""
+
+    def __init__(self):
+        self.counts = collections.defaultdict(collections.Counter)
+        self.others = collections.defaultdict(list)
+
+    def add(self, name, n, passed, said):
+        how = "passed" if passed else next((it for it, words in SAYINGS.items() if words.search(said)), "other")
+        self.counts[name][how] += 1
+        if how in HOWS[2:]:
+            self.others[name, said].append(n)
+
+    def put(self):
+        print(f"| test | {' | '.join(HOWS)} |\n|---|---|---|---|---|")
+        for name, counts in sorted(self.counts.items()):
+            print(f"| {name} | {' | '.join(str(counts[it]) for it in HOWS)} |")
+        for (name, said), numbers in sorted(self.others.items()):
+            print(f"\n{name}, where allocation {stretches(numbers)} fails:\n" + "\n".join(it[:120] for it in said.splitlines()))
+
+
+def tests(crates, first, last):
+    ends = Ends()
+    for crate in crates:
+        for n in range(first, last + 1):
+            words = ["rt", "try", "--test", "--fail-alloc", str(n)]
+            run = subprocess.run(words, cwd=f"{TOP}/crates/{crate}", capture_output=True, text=True, errors="replace", check=False)
+            found = outcomes(run.stdout + run.stderr)
+            if not found:
+                print(f"{crate}, allocation {n}: no test ran: {run.stderr[-200:]!r}")
+                break
+            for test, (passed, said) in found.items():
+                ends.add(f"{crate}: {test}", n, passed, said)
+            if all(passed for passed, _ in found.values()):
+                break
+    ends.put()
+
+
+def shim(folder):
+    """The library that is loaded before a program, and whose Nth allocation fails."""
+    source, library = f"{folder}/failing.c", f"{folder}/failing.so"
+    with open(source, "w", encoding="ascii") as it:
+        it.write(FAILING)
+    subprocess.run(["cc", "-O2", "-shared", "-fPIC", "-o", library, source], check=True)
+    return library
+
+
+def run_failing(words, n, folder):
+    """Runs a program whose Nth allocation fails: whether it made so many, its status, and what it wrote."""
+    mark = f"{folder}/failed"
+    if os.path.exists(mark):
+        os.remove(mark)
+    env = {"LD_PRELOAD": f"{folder}/failing.so", "FAIL_ALLOC": str(n), "FAILED_FILE": mark}
+    try:
+        run = subprocess.run(words, env=env, cwd=folder, stdin=subprocess.DEVNULL, capture_output=True, timeout=60, check=False)
+    except subprocess.TimeoutExpired:
+        return True, None, b"", b"no end within 60 s"
+    return os.path.exists(mark), run.returncode, run.stdout, run.stderr
+
+
+def built(asked, every):
+    ends = Ends()
+    with tempfile.TemporaryDirectory() as folder:
+        shim(folder)
+        for crate, _, word in (it.partition(":") for it in asked):
+            path = f"{TOP}/crates/{crate}/out/{crate}_tests"
+            if not os.path.exists(path):
+                print(f"{crate}: no tests are built there; `rt test` in its folder makes them")
+                continue
+            listed = subprocess.run([path, "--list"], capture_output=True, text=True, check=False).stdout
+            for test in re.findall(r"^(\S+): test$", listed, re.M):
+                if test.startswith(word):
+                    each_failing(ends, crate, [path, test], every, folder)
+    ends.put()
+
+
+def each_failing(ends, crate, words, every, folder):
+    for n in itertools.count(1, every):
+        reached, status, out, err = run_failing(words, n, folder)
+        if not reached:
+            return
+        said = (out + err).decode(errors="replace").strip() or f"status {status}"
+        ends.add(f"{crate}: {words[1]}", n, status == 0, said)
+
+
+def program(path, every, module, properties):
+    words = [os.path.abspath(path), "check", os.path.abspath(module), os.path.abspath(properties)]
+    whole = subprocess.run(words, stdin=subprocess.DEVNULL, capture_output=True, check=False)
+    ends = collections.Counter()
+    with tempfile.TemporaryDirectory() as folder:
+        shim(folder)
+        for n in itertools.count(1, every):
+            reached, status, out, err = run_failing(words, n, folder)
+            if not reached:
+                break
+            ends[how_ended(n, status, out, err, whole)] += 1
+    print(f"{sum(ends.values())} runs, in each of which one allocation failed:")
+    for how, times in ends.most_common():
+        print(f"  {times} {how}")
+
+
+def how_ended(n, status, out, err, whole):
+    """How a program ended one of whose allocations failed. What it put before it ran out must be the first lines of what it puts where none fails."""
+    if (status, out) == (whole.returncode, whole.stdout):
+        return f"as where none fails (status {status})"
+    if status == 70 and whole.stdout.startswith(out):
+        return "refused for memory (status 70)"
+    print(f"allocation {n}: status {status}, {out[-80:]!r} {err[-80:]!r}", flush=True)
+    return f"otherwise (status {status})"
+
+
+def main():
+    words = argparse.ArgumentParser()
+    kinds = words.add_subparsers(dest="kind", required=True)
+    of_tests, of_built, of_program = (kinds.add_parser(it) for it in ("tests", "built", "program"))
+    of_tests.add_argument("--from", dest="first", type=int, default=1)
+    of_tests.add_argument("--to", dest="last", type=int, default=1000)
+    of_built.add_argument("--every", type=int, default=1)
+    of_program.add_argument("--every", type=int, default=1)
+    of_tests.add_argument("crates", nargs="*")
+    of_built.add_argument("crates", nargs="*")
+    of_program.add_argument("--program", default=f"{TOP}/crates/signoff/out/signoff")
+    of_program.add_argument("module")
+    of_program.add_argument("properties")
+    given = words.parse_args()
+    if given.kind == "tests":
+        tests(given.crates or CRATES, given.first, given.last)
+    elif given.kind == "built":
+        built(given.crates or CALLS, given.every)
+    else:
+        program(given.program, given.every, given.module, given.properties)
+
+
+if __name__ == "__main__":
+    main()
