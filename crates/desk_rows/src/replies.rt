@@ -1,7 +1,5 @@
 use desk_commands::{Answer, Names, Signs};
-use http_reply::{
-    PAGE_CSS, PAGE_HTML, PAGE_JS, Reply, STARVED, file_reply, keeper_reply, refusal_reply, reply_of,
-};
+use http_reply::{Reply, STARVED, file_reply, keeper_reply, refusal_reply, reply_of};
 use http_request::{PageFile, Refusal};
 use outside::{Sign, Text};
 use std::alloc::{AllocError, Global};
@@ -110,22 +108,21 @@ fn a_desk_that_fails_has_its_reply(rt: HostRuntime) -> Result<(), Fail> {
     Ok(())
 }
 
-/// Wants this reply to a request for a file of the page.
-fn sent(
-    rt: &(impl Abort + AllocGlobal),
-    file: PageFile,
-    kind: &str,
-    bytes: &[u8],
-) -> Result<(), Fail> {
-    let body = str::from_utf8(bytes).map_err(|_| "no UTF-8")?;
-    replied(rt, &file_reply(rt.alloc(), file)?, (200, "OK", kind, body))
+/// Wants a reply of this kind to a request for a file of the page.
+fn sent(rt: &(impl Abort + AllocGlobal), file: PageFile, kind: &str) -> Result<(), Fail> {
+    let alloc = rt.alloc();
+    let reply = file_reply(alloc, file)?;
+    let head = format!(in alloc; "HTTP/1.1 200 OK\r\nContent-Type: {kind}\r\nContent-Length: ")?;
+    assert!(rt; reply.status == 200, "{kind}");
+    assert!(rt; reply.bytes.bytes().starts_with(head.as_bytes()), "{kind}");
+    Ok(())
 }
 
 #[test]
-fn each_file_of_the_page_has_its_reply(rt: HostRuntime) -> Result<(), Fail> {
-    sent(&rt, PageFile::Html, "text/html; charset=utf-8", PAGE_HTML)?;
-    sent(&rt, PageFile::Style, "text/css", PAGE_CSS)?;
-    sent(&rt, PageFile::Script, "text/javascript", PAGE_JS)
+fn each_file_of_the_page_has_its_kind(rt: HostRuntime) -> Result<(), Fail> {
+    sent(&rt, PageFile::Html, "text/html; charset=utf-8")?;
+    sent(&rt, PageFile::Style, "text/css")?;
+    sent(&rt, PageFile::Script, "text/javascript")
 }
 
 /// Wants this reply to an answer.

@@ -65,19 +65,30 @@ fn a_head_is_refused_by_its_first_cause(rt: HostRuntime) -> Result<(), Fail> {
     Ok(())
 }
 
-#[test]
-fn an_order_gives_what_is_asked_for(rt: HostRuntime) -> Result<(), Fail> {
-    let alloc = rt.alloc();
-    let place = Place::Trace(b"c1", b"12");
-    let is_trace = match wanted_of(alloc, place, b"")? {
+fn is_twelfth_trace(wanted: &Wanted) -> bool {
+    match wanted {
         Wanted::Act(Command::GetTrace { name, line }) => {
-            name.bytes() == b"c1".as_slice() && line == 12
+            name.bytes() == b"c1".as_slice() && *line == 12
         }
         _ => false,
-    };
-    assert!(rt; is_trace);
-    let file = wanted_of(alloc, Place::File(PageFile::Style), b"")?;
-    assert!(rt; matches!(file, Wanted::File(PageFile::Style)));
+    }
+}
+
+#[test]
+fn an_order_gives_its_command(rt: HostRuntime) -> Result<(), Fail> {
+    let wanted = wanted_of(rt.alloc(), Place::Trace(b"c1", b"12"), b"")?;
+    assert!(rt; is_twelfth_trace(&wanted));
+    Ok(())
+}
+
+fn is_style(wanted: &Wanted) -> bool {
+    matches!(wanted, Wanted::File(PageFile::Style))
+}
+
+#[test]
+fn an_order_gives_its_file(rt: HostRuntime) -> Result<(), Fail> {
+    let wanted = wanted_of(rt.alloc(), Place::File(PageFile::Style), b"")?;
+    assert!(rt; is_style(&wanted));
     Ok(())
 }
 
