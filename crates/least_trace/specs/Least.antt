@@ -92,3 +92,7 @@ pub record IsStopped (budget : ℕ) (ob : Parts) (us : List ℕ) (i : ℕ) (chai
 abbrev pub IsLeastEnd : ℕ → Parts → LeastEnd → Type 0
 IsLeastEnd budget ob (Found values excluded) = IsFound ob values.items excluded.items
 IsLeastEnd budget ob (Stopped values bit chain) = IsStopped budget ob values.items bit chain.items
+
+abbrev pub IsFoundEnd : LeastEnd → Type 0
+IsFoundEnd (Found values excluded) = Unit {0}
+IsFoundEnd (Stopped values bit chain) = ⊥

@@ -56,6 +56,6 @@ pub record IsSpentWalk (budget : ℕ) (ob : Parts) (bits : List Bit) (i : ℕ) (
   pub spent : IsSpent budget ob bits w.values.items i chain
 
 -- bit i is decided too, or the budget is spent on it
-abbrev pub IsDecided : ℕ → Parts → List Bit → ℕ → Walk → Option (Vec Step Global) → Type 0
-IsDecided budget ob bits i w None = IsWalk ob bits (i + 1) w
-IsDecided budget ob bits i w (Some chain) = IsSpentWalk budget ob bits i w chain.items
+abbrev pub IsNext : ℕ → Parts → List Bit → ℕ → Walk → Option (Vec Step Global) → Type 0
+IsNext budget ob bits i w None = IsWalk ob bits (i + 1) w
+IsNext budget ob bits i w (Some chain) = IsSpentWalk budget ob bits i w chain.items

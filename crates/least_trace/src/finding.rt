@@ -1,8 +1,9 @@
 //! The least values.
-ghost use Rattle.std.specs.Prelude.{◌≡◌, ◌≤◌, ℕ, IfOk};
+ghost use Rattle.std.specs.Prelude.{◌≡◌, ◌≤◌, ◌^◌, length, IfOk};
 ghost use Rattle.word_dag.specs.Given.{AllFit};
+ghost use Rattle.cnf_build.specs.Lower.{netlist};
 ghost use Rattle.cnf_build.specs.Meaning.{RootIs1};
-ghost use Rattle.least_trace.specs.Least.{IsLeastEnd};
+ghost use Rattle.least_trace.specs.Least.{IsLeastEnd, IsFoundEnd};
 ghost use Rattle.least_trace.specs.Walks.{padded};
 
 use crate::bits::bits_in_order;
@@ -31,12 +32,14 @@ fn padded(alloc: Global, values: &[u64], count: usize) -> Result<Vec<u64>, Alloc
 ///
 /// Each bit in turn is tried at 0, the bits before it being as they were found, and for each bit that is 1 in the end there are
 /// steps that `accept` accepts. A bit that is 0 in the values at hand takes no solving. Where a bit takes more than `budget`
-/// steps, the search stops there with an honest chain of just so many. It is refused for want of memory alone.
+/// steps, the search stops there with an honest chain of just so many; with `3 ^ v` of them, v being the number of variables of
+/// the clauses, none does. It is refused for want of memory alone.
 pub fn least(alloc: Global, ob: &Ob, values: &[u64], budget: u64) -> Result<LeastEnd, AllocError>
     requires fit { AllFit values.now ob.now.nodes }
     requires root { RootIs1 ob.now.nodes ob.now.root values.now }
     requires budget { 1 ≤ budget }
-    ensures { IfOk result (IsLeastEnd budget ob.now) }
+    ensures end { IfOk result (IsLeastEnd budget ob.now) }
+    ensures ample { 3 ^ length (netlist ob.now.nodes) ≤ budget → IfOk result IsFoundEnd }
 {
     let bits = bits_in_order(alloc, ob.nodes())?;
     let built = build(alloc, ob)?;

@@ -1,7 +1,7 @@
 //! One bit after another is decided, over one list of clauses that grows by unit clauses.
-ghost use Rattle.std.specs.Prelude.{◌≡◌, ◌<◌, ◌≤◌, ◌+◌, ◌-◌, ◌++◌, ◌∷◌, [], length, take, IfOk, OnOk};
+ghost use Rattle.std.specs.Prelude.{◌≡◌, ◌<◌, ◌≤◌, ◌+◌, ◌-◌, ◌^◌, ◌++◌, ◌∷◌, [], length, take, None, IfOk, OnOk};
 ghost use Rattle.word_dag.specs.Nodes.{Parts};
-ghost use Rattle.least_trace.specs.Walks.{IsWalk, IsDecided};
+ghost use Rattle.least_trace.specs.Walks.{IsWalk, IsNext};
 ghost use Rattle.bit_circuits.specs.Literals.{plus};
 
 use crate::bits::Bit;
@@ -54,7 +54,8 @@ impl Walk {
         requires budget { 1 ≤ budget }
         requires number { number < length bits.now }
         requires walk { (ob : Parts) × IsWalk ob bits.now number self.old }
-        ensures { (ob : Parts) → IsWalk ob bits.now number self.old → IfOk result (IsDecided budget ob bits.now number self.new) }
+        ensures next { (ob : Parts) → IsWalk ob bits.now number self.old → IfOk result (IsNext budget ob bits.now number self.new) }
+        ensures ample { 3 ^ self.old.built.cnf.vars ≤ budget → IfOk result (λ chain. chain ≡ None) }
     {
         let bit = bits[number];
         let var = bit.var(&self.built.bits);

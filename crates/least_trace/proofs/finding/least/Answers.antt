@@ -1,4 +1,4 @@
-use Rattle.std.proofs.Common.{◌≡◌, ◌+◌, ◌<◌, ◌≤◌, List, length, map, take, Option, Vec, Global, sym, ap, ◌∙◌, subst, arith, append-nil, take_all}
+use Rattle.std.proofs.Common.{◌≡◌, ◌+◌, ◌<◌, ◌≤◌, List, length, map, take, Option, Some, None, Vec, Global, ◌^◌, sym, ap, ◌∙◌, subst, arith, append-nil, take_all}
 use Rattle.std.specs.List.{All}
 use Rattle.std.proofs.lemmas.List.Elements.{All-nil}
 use Rattle.clause_check.specs.declared.formula.Step.{Step}
@@ -10,7 +10,7 @@ use Rattle.least_trace.specs.declared.bits.Bit.{Bit}
 use Rattle.least_trace.specs.declared.ends.Excluded.{Excluded}
 use Rattle.least_trace.specs.Bits.{InOrder}
 use Rattle.least_trace.specs.Least.{NoneBefore, Excludes, number_of, ones_from}
-use Rattle.least_trace.specs.Walks.{IsWalk, IsDecided}
+use Rattle.least_trace.specs.Walks.{IsWalk, IsNext}
 use Rattle.least_trace.proofs.Reading.{bits_many}
 use Rattle.least_trace.proofs.Starting.{all_known, padded_witness}
 use Rattle.least_trace.proofs.finding.least.Goals as goal
@@ -50,19 +50,19 @@ loop-number-preserved c =
     let i = c.loop-number.number in
     let e = c.deref.ensures.value in
     let walk = subst (λ (bs : List Bit). IsWalk ob bs i c.loop-number.walk) (sym e) c.loop-number.invariant in
-    let decided = c.in_ok-chain.ensures ob walk in
-    let d = subst (λ (o : Option (Vec Step Global)). IsDecided c.args.budget ob c.deref.result.now i c.decide.new.self o) c.in_default.is decided in
+    let decided = c.in_ok-chain.ensures.next ob walk in
+    let d = subst (λ (o : Option (Vec Step Global)). IsNext c.args.budget ob c.deref.result.now i c.decide.new.self o) c.in_default.is decided in
     subst (λ (bs : List Bit). IsWalk ob bs (i + 1) c.decide.new.self) e d
 
-pub returns-in-Some : goal.returns-in-Some
-returns-in-Some c =
+pub returns-in-Some-clause-end : goal.returns-in-Some-clause-end
+returns-in-Some-clause-end c =
     let ob = c.args.ob.now in
     let i = c.loop-number.number in
     let bits = c.in_ok-bits.bits.items in
     let e = c.deref.ensures.value in
     let walk = subst (λ (bs : List Bit). IsWalk ob bs i c.loop-number.walk) (sym e) c.loop-number.invariant in
-    let decided = subst (λ (bs : List Bit). IsDecided c.args.budget ob bs i c.decide.new.self c.in_ok-chain.field-0) e (c.in_ok-chain.ensures ob walk) in
-    let d = subst (λ (o : Option (Vec Step Global)). IsDecided c.args.budget ob bits i c.decide.new.self o) c.in-Some.is decided in
+    let decided = subst (λ (bs : List Bit). IsNext c.args.budget ob bs i c.decide.new.self c.in_ok-chain.field-0) e (c.in_ok-chain.ensures.next ob walk) in
+    let d = subst (λ (o : Option (Vec Step Global)). IsNext c.args.budget ob bits i c.decide.new.self o) c.in-Some.is decided in
     record {
       bits = bits;
       order = subst (λ ns. InOrder ns bits) c.nodes.ensures.nodes c.in_ok-bits.ensures;
@@ -72,8 +72,8 @@ returns-in-Some c =
       spent = d.spent;
     }
 
-pub returns : goal.returns
-returns c =
+pub returns-clause-end : goal.returns-clause-end
+returns-clause-end c =
     let ob = c.args.ob.now in
     let bits = c.in_ok-bits.bits.items in
     let i = c.loop-number.number in
@@ -89,3 +89,10 @@ returns c =
       entries = f.entries ∙ ap (ones_from 0 us) all;
       each = f.each;
     }
+
+pub returns-in-Some-clause-ample : goal.returns-in-Some-clause-ample
+returns-in-Some-clause-ample c = λ ample.
+    let enough = subst (λ v. 3 ^ v ≤ c.args.budget) (sym c.loop-number.invariant.fixed.vars) ample in
+    let none = c.in_ok-chain.ensures.ample enough in
+    let some : Some c.in-Some.chain ≡ None = sym c.in-Some.is ∙ none in
+    cc

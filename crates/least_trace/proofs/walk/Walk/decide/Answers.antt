@@ -1,4 +1,4 @@
-use Rattle.std.proofs.Common.{◌≡◌, ℕ, ◌+◌, ◌-◌, List, [], ◌∷◌, ◌++◌, length, take, get_or, slice_index, slice_index_or, IsSomeAnd, refl, sym, ap, ◌∙◌, subst, arith, Bool, true, false, true≢false, IsTrue, ◌↔◌, inl, inr, length-append}
+use Rattle.std.proofs.Common.{◌≡◌, ℕ, ◌+◌, ◌-◌, ◌^◌, ◌≤◌, List, [], ◌∷◌, ◌++◌, length, take, get_or, slice_index, slice_index_or, IsSomeAnd, refl, sym, ap, ◌∙◌, subst, arith, Bool, true, false, true≢false, IsTrue, ◌↔◌, inl, inr, length-append}
 use Rattle.std.specs.List.{All}
 use Rattle.std.proofs.lemmas.Nat.Bits.{bit_at-lt}
 use Rattle.std.proofs.lemmas.Option.{slice_get-get_or}
@@ -10,7 +10,7 @@ use Rattle.cnf_build.specs.Lower.{ob_bits}
 use Rattle.cnf_build.specs.Built.{IsBits, at}
 use Rattle.cnf_build.specs.Meaning.{read_words}
 use Rattle.word_dag.specs.Nodes.{Parts}
-use Rattle.cdcl.specs.Ends.{IsEnd}
+use Rattle.cdcl.specs.Ends.{IsEnd, IsDecided}
 use Rattle.least_trace.specs.declared.bits.Bit.{Bit}
 use Rattle.least_trace.specs.Bits.{bit_in}
 use Rattle.least_trace.specs.Least.{var_of, is_zero}
@@ -52,8 +52,8 @@ without_last xs ys zs x y ey ez =
     let shorter : length ys - 1 ≡ length xs = omega arith in
     ez ∙ ap (λ k. k ++ y ∷ []) (ap (λ n. take n ys) shorter ∙ ap (take (length xs)) ey ∙ take-append_seam xs (x ∷ []))
 
-pub returns-then-not-is_one : goal.returns-then-not-is_one
-returns-then-not-is_one c = λ ob w.
+pub returns-then-not-is_one-clause-next : goal.returns-then-not-is_one-clause-next
+returns-then-not-is_one-clause-next c = λ ob w.
     let bits = c.args.bits.now in
     let i = c.args.number in
     let b = get_or bits i z in
@@ -68,8 +68,8 @@ returns-then-not-is_one c = λ ob w.
       fixed = fixed_zero ob bits i b z c.requires.number refl us us _ _ _ w.fixed w.fixed.witness (λ k d within. refl) zero c.in_ok-add_unit.ensures.vars ec;
     }
 
-pub returns-in_ok-self-in-Sat : goal.returns-in_ok-self-in-Sat
-returns-in_ok-self-in-Sat c = λ ob w.
+pub returns-in_ok-self-in-Sat-clause-next : goal.returns-in_ok-self-in-Sat-clause-next
+returns-in_ok-self-in-Sat-clause-next c = λ ob w.
     let bits = c.args.bits.now in
     let i = c.args.number in
     let b = get_or bits i z in
@@ -87,8 +87,8 @@ returns-in_ok-self-in-Sat c = λ ob w.
 pub invariant_of-self-in-Unsat : goal.invariant_of-self-in-Unsat
 invariant_of-self-in-Unsat c = record { in_range = subst (λ v. All (IsBits v) c.args.self.now.built.bits.items) (sym (c.turn_last.ensures.vars ∙ c.add_unit.ensures.vars)) c.args.self.now.built.in_range }
 
-pub returns-in_ok-push-in-Unsat : goal.returns-in_ok-push-in-Unsat
-returns-in_ok-push-in-Unsat c = λ ob w.
+pub returns-in_ok-push-in-Unsat-clause-next : goal.returns-in_ok-push-in-Unsat-clause-next
+returns-in_ok-push-in-Unsat-clause-next c = λ ob w.
     let bits = c.args.bits.now in
     let i = c.args.number in
     let b = get_or bits i z in
@@ -111,8 +111,8 @@ returns-in_ok-push-in-Unsat c = λ ob w.
           w.fixed one refl (c.in_ok-turn_last-in-Unsat.ensures.vars ∙ c.in_ok-add_unit.ensures.vars) next c.in_ok-push-in-Unsat.ensures.items;
     }
 
-pub returns-in-Spent : goal.returns-in-Spent
-returns-in-Spent c = λ ob w.
+pub returns-in-Spent-clause-next : goal.returns-in-Spent-clause-next
+returns-in-Spent-clause-next c = λ ob w.
     let bits = c.args.bits.now in
     let i = c.args.number in
     let b = get_or bits i z in
@@ -128,3 +128,9 @@ returns-in-Spent c = λ ob w.
       none_before = w.fixed.none_before;
       spent = record { formula = c.add_unit.new.cnf; below = below; count = spent.0; honest = spent.1 };
     }
+
+pub returns-in-Spent-clause-ample : goal.returns-in-Spent-clause-ample
+returns-in-Spent-clause-ample c = λ ample.
+    let enough = subst (λ v. 3 ^ v ≤ c.args.budget) (sym c.add_unit.ensures.vars) ample in
+    let decided = subst (λ (e : End). IsDecided e) c.in-Spent.is (c.in_ok-assignment.ensures.decided enough) in
+    absurd decided
