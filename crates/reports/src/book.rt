@@ -2,10 +2,10 @@
 ghost use Rattle.std.specs.Prelude.{◌≡◌, []};
 ghost use Rattle.reports.specs.Lines.{verdict_of};
 
+use job_pool::Evidence;
 use outside::Text;
 use replay::Shown;
 use std::alloc::Global;
-use job_pool::Evidence;
 use word_dag::Ob;
 
 /// How a line was decided.

@@ -1,9 +1,9 @@
 // A line whose budget is spent.
 use crate::examples::{MUL, MUL_SET};
 use crate::running::run;
+use job_pool::Evidence;
 use outside::QuietGate;
 use std::test::Fail;
-use job_pool::Evidence;
 
 // Its evidence is a chain of as many steps as the budget has.
 #[test]
