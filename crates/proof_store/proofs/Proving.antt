@@ -20,7 +20,6 @@ use Rattle.step_records.specs.Records.{IsRecord, content, contents}
 use Rattle.job_pool.specs.declared.evidence.Evidence.{Evidence}
 use Rattle.job_pool.specs.declared.evidence.Evidence.TheVariants as e
 use Rattle.job_pool.specs.Shown.{IsShown}
-use Rattle.set_tree.specs.declared.line.Line.{Line}
 use Rattle.proof_store.specs.Goals.{IsDecided, from_keeper}
 use Rattle.proof_store.specs.Kept.{IsBuilt, IsKept, IsProof, key_of}
 use Rattle.proof_store.specs.Places.{Finds, IsPlaced, Tells}
@@ -161,12 +160,13 @@ pub claim_shown_ever : (ob : Parts) (cnf : Cnf) (bits : List (List ℕ)) (claim 
 claim_shown_ever ob cnf bits claim None built passes tells = tt
 claim_shown_ever ob cnf bits claim (Some evidence) built passes tells = λ budget. claim_shown budget ob cnf bits claim (Some evidence) built passes tells
 
--- a derivation of a decided goal is a proof of its obligation
-pub decided_proof : (budget : ℕ) (goal : Goal) (d : Decided) → IsDecided budget goal d → (steps : Vec Step Global) → d.evidence ≡ e.Derivation steps → IsProof d.goal.ob steps.items
-decided_proof budget goal d decided steps is =
-    let shown : IsShown budget goal.ob (e.Derivation steps) = subst (IsShown budget goal.ob) is decided.shown in
-    subst (λ (g : Goal). IsProof g.ob steps.items) (sym decided.goal_is)
-    (record { formula = shown.formula; vars = shown.vars; clauses = shown.clauses; refutes = shown.shown })
+module _ {L : Type 0} where
+  -- a derivation of a decided goal is a proof of its obligation
+  pub decided_proof : (budget : ℕ) (goal : Goal L) (d : Decided L) → IsDecided budget goal d → (steps : Vec Step Global) → d.evidence ≡ e.Derivation steps → IsProof d.goal.ob steps.items
+  decided_proof budget goal d decided steps is =
+      let shown : IsShown budget goal.ob (e.Derivation steps) = subst (IsShown budget goal.ob) is decided.shown in
+      subst (λ (g : Goal L). IsProof g.ob steps.items) (sym decided.goal_is)
+      (record { formula = shown.formula; vars = shown.vars; clauses = shown.clauses; refutes = shown.shown })
 
 -- no steps are read where none are
 pub nothing_read : (read : Option (Vec Step Global)) → ((steps : Vec Step Global) → read ≡ Some steps → ⊥) → read ≡ None
@@ -201,18 +201,19 @@ none_found tables ob cnf bits read built is finds = record {
   unsolved = tt;
 }
 
--- the place of a goal of which something is found, and of one of which nothing is
-pub found_placed : (tables : Option Tables) (goal : Goal) (found : Option Found) (f : Found) (d : Decided) → Finds tables goal.ob found → found ≡ Some f → d ≡ record { goal = goal; evidence = f.evidence; source = f.source } → IsPlaced tables goal (Done d)
-found_placed tables goal found f d finds is same =
-    let here : Finds tables goal.ob (Some f) = subst (Finds tables goal.ob) is finds in
-    subst (λ (x : Decided). IsPlaced tables goal (Done x)) (sym same) (record {
-      shows = (λ budget. record { goal_is = refl; shown = here.shown budget }, here.unsolved);
-      kept = here.kept;
-    })
+module _ {L : Type 0} where
+  -- the place of a goal of which something is found, and of one of which nothing is
+  pub found_placed : (tables : Option Tables) (goal : Goal L) (found : Option Found) (f : Found) (d : Decided L) → Finds tables goal.ob found → found ≡ Some f → d ≡ record { goal = goal; evidence = f.evidence; source = f.source } → IsPlaced tables goal (Done d)
+  found_placed tables goal found f d finds is same =
+      let here : Finds tables goal.ob (Some f) = subst (Finds tables goal.ob) is finds in
+      subst (λ (x : Decided L). IsPlaced tables goal (Done x)) (sym same) (record {
+        shows = (λ budget. record { goal_is = refl; shown = here.shown budget }, here.unsolved);
+        kept = here.kept;
+      })
 
-pub none_placed : (tables : Option Tables) (goal : Goal) (found : Option Found) (line : Line) → Finds tables goal.ob found → found ≡ None → line ≡ goal.line → IsPlaced tables goal (Open line)
-none_placed tables goal found line finds is same =
-    let here : Finds tables goal.ob None = subst (Finds tables goal.ob) is finds in record { shows = same; kept = here.kept }
+  pub none_placed : (tables : Option Tables) (goal : Goal L) (found : Option Found) (line : L) → Finds tables goal.ob found → found ≡ None → line ≡ goal.line → IsPlaced tables goal (Open line)
+  none_placed tables goal found line finds is same =
+      let here : Finds tables goal.ob None = subst (Finds tables goal.ob) is finds in record { shows = same; kept = here.kept }
 
 -- where nothing is read, the bytes are a record of no steps
 pub none_read : (bytes : List ℕ) (read : Option (Vec Step Global)) → ((steps : List Step) → IsRecord bytes steps → option_map (λ s. contents s.items) read ≡ Some (contents steps)) → read ≡ None

@@ -16,57 +16,6 @@ use Rattle.proof_store.proofs.Asking.{none_falls_on, none_falls_same, rose_none,
 use Rattle.proof_store.proofs.Faults.{rises_on}
 use Rattle.proof_store.proofs.Placed.{open_more, same_length}
 
--- the goals before are placed, and these are left
-pub record PlaceLoop (tables : Option Tables) (goals : List Goal) (places : List Place) (rest : List Parts) (left : List Goal) : Type 0 where
-  pub before : List Goal
-  pub split : goals ≡ before ++ left
-  pub placed : AllZip (IsPlaced tables) before places
-  pub rest_is : rest ≡ open_of before places
-
-pub place_start : (tables : Option Tables) (goals left : List Goal) (places : List Place) (rest : List Parts) → left ≡ goals → places ≡ [] → rest ≡ [] → PlaceLoop tables goals places rest left
-place_start tables goals left places rest same none nothing = record {
-  before = [];
-  split = sym same;
-  placed = subst (λ (ps : List Place). AllZip (IsPlaced tables) [] ps) (sym none) tt;
-  rest_is = nothing;
-}
-
-one_opened : (goal : Goal) (place : Place) (rest : List Parts) → opened place goal.ob rest ≡ rest ++ open_of (goal ∷ []) (place ∷ [])
-one_opened goal (Done d) rest = sym (append-nil rest)
-one_opened goal (Open line) rest = refl
-
-pub place_more : (tables now : Option Tables) (goals all left : List Goal) (places more : List Place) (rest rest_after : List Parts) (goal : Goal) (place : Place) → PlaceLoop tables goals places rest all → all ≡ goal ∷ left → now ≡ tables
-    → IsPlaced now goal place → rest_after ≡ opened place goal.ob rest → more ≡ places ++ place ∷ [] → PlaceLoop tables goals more rest_after left
-place_more tables now goals all left places more rest rest_after goal place loop is same here rest_is pushed = record {
-  before = loop.before ++ goal ∷ [];
-  split = loop.split ∙ (ap (λ (gs : List Goal). loop.before ++ gs) is ∙ sym (append_assoc loop.before (goal ∷ []) left));
-  placed = subst (λ (ps : List Place). AllZip (IsPlaced tables) (loop.before ++ goal ∷ []) ps) (sym pushed)
-      (all_zipped_more (IsPlaced tables) loop.before places goal place loop.placed (subst (λ (t : Option Tables). IsPlaced t goal place) same here));
-  rest_is = rest_is ∙ (one_opened goal place rest ∙ (ap (λ (os : List Parts). os ++ open_of (goal ∷ []) (place ∷ [])) loop.rest_is
-      ∙ (sym (open_more loop.before places goal place (same_length (IsPlaced tables) loop.before places loop.placed)) ∙ ap (open_of (loop.before ++ goal ∷ [])) (sym pushed))));
-}
-
--- all are placed
-pub record ArePlaced (tables : Option Tables) (goals : List Goal) (places : List Place) (rest : List Parts) : Type 0 where
-  pub placed : AllZip (IsPlaced tables) goals places
-  pub rest_is : rest ≡ open_of goals places
-
-pub all_placed : (tables : Option Tables) (goals left : List Goal) (places : List Place) (rest : List Parts) → PlaceLoop tables goals places rest left → length left ≡ 0 → ArePlaced tables goals places rest
-all_placed tables goals [] places rest loop none =
-    let whole : loop.before ≡ goals = sym (append-nil loop.before) ∙ sym loop.split in
-    record { placed = subst (λ (gs : List Goal). AllZip (IsPlaced tables) gs places) whole loop.placed; rest_is = loop.rest_is ∙ ap (λ (gs : List Goal). open_of gs places) whole }
-all_placed tables goals (g ∷ gs) places rest loop none = absurd (omega arith)
-
--- nobody is asked yet
-pub rose_start : (places : List Place) (xs : List ℕ) → places ≡ [] → FirstRose (sum_by asked_for places) xs xs
-rose_start places xs none = subst (λ (ps : List Place). FirstRose (sum_by asked_for ps) xs xs) (sym none) (rose_none xs)
-
--- the helpers are asked about one more goal
-pub rose_more : (so_far more : List Place) (place : Place) (xs ys zs : List ℕ) → FirstRose (sum_by asked_for so_far) xs ys → FirstRose (asked_for place) ys zs → more ≡ so_far ++ place ∷ [] → FirstRose (sum_by asked_for more) xs zs
-rose_more so_far more place xs ys zs a b pushed =
-    let asked : sum_by asked_for so_far + asked_for place ≡ sum_by asked_for more = sym (ap (sum_by asked_for) pushed ∙ sum_by_push asked_for so_far place) in
-    subst (λ (k : ℕ). FirstRose k xs zs) asked (rose_on (sum_by asked_for so_far) (asked_for place) xs ys zs a b)
-
 -- nothing happened
 pub proceeds_same : (failed : Type 0) (c : Counts) → (failed → ⊥) → Proceeds failed c c
 proceeds_same failed c never = record { keeper = record { later = omega arith; rose = λ f. absurd (never f) }; helpers = none_falls_same c.asked }
@@ -81,3 +30,55 @@ proceeds_on before failed a b c first then = record {
 -- what came to no refusal of the keeper
 pub proceeds_well : (before failed : Type 0) (a b : Counts) → (failed → ⊥) → Proceeds before a b → Proceeds failed a b
 proceeds_well before failed a b never h = record { keeper = record { later = h.keeper.later; rose = λ f. absurd (never f) }; helpers = h.helpers }
+
+module _ {L : Type 0} where
+  -- the goals before are placed, and these are left
+  pub record PlaceLoop (tables : Option Tables) (goals : List (Goal L)) (places : List (Place L)) (rest : List Parts) (left : List (Goal L)) : Type 0 where
+    pub before : List (Goal L)
+    pub split : goals ≡ before ++ left
+    pub placed : AllZip (IsPlaced tables) before places
+    pub rest_is : rest ≡ open_of before places
+
+  pub place_start : (tables : Option Tables) (goals left : List (Goal L)) (places : List (Place L)) (rest : List Parts) → left ≡ goals → places ≡ [] → rest ≡ [] → PlaceLoop tables goals places rest left
+  place_start tables goals left places rest same none nothing = record {
+    before = [];
+    split = sym same;
+    placed = subst (λ (ps : List (Place L)). AllZip (IsPlaced tables) [] ps) (sym none) tt;
+    rest_is = nothing;
+  }
+
+  one_opened : (goal : Goal L) (place : Place L) (rest : List Parts) → opened place goal.ob rest ≡ rest ++ open_of (goal ∷ []) (place ∷ [])
+  one_opened goal (Done d) rest = sym (append-nil rest)
+  one_opened goal (Open line) rest = refl
+
+  pub place_more : (tables now : Option Tables) (goals all left : List (Goal L)) (places more : List (Place L)) (rest rest_after : List Parts) (goal : Goal L) (place : Place L) → PlaceLoop tables goals places rest all → all ≡ goal ∷ left → now ≡ tables
+      → IsPlaced now goal place → rest_after ≡ opened place goal.ob rest → more ≡ places ++ place ∷ [] → PlaceLoop tables goals more rest_after left
+  place_more tables now goals all left places more rest rest_after goal place loop is same here rest_is pushed = record {
+    before = loop.before ++ goal ∷ [];
+    split = loop.split ∙ (ap (λ (gs : List (Goal L)). loop.before ++ gs) is ∙ sym (append_assoc loop.before (goal ∷ []) left));
+    placed = subst (λ (ps : List (Place L)). AllZip (IsPlaced tables) (loop.before ++ goal ∷ []) ps) (sym pushed)
+        (all_zipped_more (IsPlaced tables) loop.before places goal place loop.placed (subst (λ (t : Option Tables). IsPlaced t goal place) same here));
+    rest_is = rest_is ∙ (one_opened goal place rest ∙ (ap (λ (os : List Parts). os ++ open_of (goal ∷ []) (place ∷ [])) loop.rest_is
+        ∙ (sym (open_more loop.before places goal place (same_length (IsPlaced tables) loop.before places loop.placed)) ∙ ap (open_of (loop.before ++ goal ∷ [])) (sym pushed))));
+  }
+
+  -- all are placed
+  pub record ArePlaced (tables : Option Tables) (goals : List (Goal L)) (places : List (Place L)) (rest : List Parts) : Type 0 where
+    pub placed : AllZip (IsPlaced tables) goals places
+    pub rest_is : rest ≡ open_of goals places
+
+  pub all_placed : (tables : Option Tables) (goals left : List (Goal L)) (places : List (Place L)) (rest : List Parts) → PlaceLoop tables goals places rest left → length left ≡ 0 → ArePlaced tables goals places rest
+  all_placed tables goals [] places rest loop none =
+      let whole : loop.before ≡ goals = sym (append-nil loop.before) ∙ sym loop.split in
+      record { placed = subst (λ (gs : List (Goal L)). AllZip (IsPlaced tables) gs places) whole loop.placed; rest_is = loop.rest_is ∙ ap (λ (gs : List (Goal L)). open_of gs places) whole }
+  all_placed tables goals (g ∷ gs) places rest loop none = absurd (omega arith)
+
+  -- nobody is asked yet
+  pub rose_start : (places : List (Place L)) (xs : List ℕ) → places ≡ [] → FirstRose (sum_by asked_for places) xs xs
+  rose_start places xs none = subst (λ (ps : List (Place L)). FirstRose (sum_by asked_for ps) xs xs) (sym none) (rose_none xs)
+
+  -- the helpers are asked about one more goal
+  pub rose_more : (so_far more : List (Place L)) (place : Place L) (xs ys zs : List ℕ) → FirstRose (sum_by asked_for so_far) xs ys → FirstRose (asked_for place) ys zs → more ≡ so_far ++ place ∷ [] → FirstRose (sum_by asked_for more) xs zs
+  rose_more so_far more place xs ys zs a b pushed =
+      let asked : sum_by asked_for so_far + asked_for place ≡ sum_by asked_for more = sym (ap (sum_by asked_for) pushed ∙ sum_by_push asked_for so_far place) in
+      subst (λ (k : ℕ). FirstRose k xs zs) asked (rose_on (sum_by asked_for so_far) (asked_for place) xs ys zs a b)

@@ -9,16 +9,16 @@ use Rattle.proof_store.specs.declared.goal.Goal.{Goal}
 use Rattle.proof_store.specs.declared.goal.Source.{Source}
 use Rattle.proof_store.specs.declared.goal.Source.TheVariants.{Kept, Helped, Solved}
 
-abbrev pub ob_of : Goal → Parts
+abbrev pub ob_of : {L : Type 0} → Goal L → Parts
 ob_of goal = goal.ob
 
 -- the goal, and what shows how it ended
-pub record IsDecided (budget : ℕ) (goal : Goal) (d : Decided) : Type 0 where
+pub record IsDecided {L : Type 0} (budget : ℕ) (goal : Goal L) (d : Decided L) : Type 0 where
   pub goal_is : d.goal ≡ goal
   pub shown : IsShown budget goal.ob d.evidence
 
 -- with an ample budget it isn't spent
-abbrev pub IsDecidedIfAmple : ℕ → Goal → Decided → Type 0
+abbrev pub IsDecidedIfAmple : {L : Type 0} → ℕ → Goal L → Decided L → Type 0
 IsDecidedIfAmple budget goal d = DecidesIfAmple budget goal.ob d.evidence
 
 -- an obligation, and what shows how it ended
@@ -26,7 +26,7 @@ pub record Ended : Type 0 where
   pub ob : Parts
   pub evidence : Evidence
 
-abbrev pub ended : Decided → Ended
+abbrev pub ended : {L : Type 0} → Decided L → Ended
 ended d = record { ob = d.goal.ob; evidence = d.evidence }
 
 -- ---- where the evidence comes from
@@ -46,11 +46,11 @@ from_worker Kept = false
 from_worker Helped = false
 from_worker Solved = true
 
-abbrev pub is_kept : Decided → Bool
+abbrev pub is_kept : {L : Type 0} → Decided L → Bool
 is_kept d = from_keeper d.source
 
-abbrev pub is_helped : Decided → Bool
+abbrev pub is_helped : {L : Type 0} → Decided L → Bool
 is_helped d = from_helper d.source
 
-abbrev pub is_solved : Decided → Bool
+abbrev pub is_solved : {L : Type 0} → Decided L → Bool
 is_solved d = from_worker d.source

@@ -2,7 +2,6 @@
 use Rattle.std.specs.Prelude.{◌≡◌, ℕ, List, [], ◌∷◌, ◌++◌, Bool, true, false, Option, Some, None, IfSome, IsTrue, ◌↔◌}
 use Rattle.outside.specs.Tables.{Tables}
 use Rattle.word_dag.specs.Nodes.{Parts}
-use Rattle.set_tree.specs.declared.line.Line.{Line}
 use Rattle.helper_box.specs.declared.claim.Claim.{Claim}
 use Rattle.helper_box.specs.declared.claim.Claim.TheVariants as claim
 use Rattle.job_pool.specs.Shown.{IsShown}
@@ -49,42 +48,42 @@ abbrev pub asked_about : Option Found → ℕ
 asked_about None = 1
 asked_about (Some found) = asked_of found.source
 
-abbrev pub asked_for : Place → ℕ
+abbrev pub asked_for : {L : Type 0} → Place L → ℕ
 asked_for (Done d) = asked_of d.source
 asked_for (Open line) = 1
 
 -- a goal that is done is shown, whatever the budget; of an open one the line is left
-abbrev pub Shows : Goal → Place → Type 0
+abbrev pub Shows : {L : Type 0} → Goal L → Place L → Type 0
 Shows goal (Done d) = ((budget : ℕ) → IsDecided budget goal d) × (d.source ≡ Solved → ⊥)
 Shows goal (Open line) = line ≡ goal.line
 
-abbrev pub place_kept : Place → Bool
+abbrev pub place_kept : {L : Type 0} → Place L → Bool
 place_kept (Done d) = is_kept d
 place_kept (Open line) = false
 
 -- the goal's place, which is that of a kept proof exactly where these tables keep one
-pub record IsPlaced (tables : Option Tables) (goal : Goal) (place : Place) : Type 0 where
+pub record IsPlaced {L : Type 0} (tables : Option Tables) (goal : Goal L) (place : Place L) : Type 0 where
   pub shows : Shows goal place
   pub kept : TellsKept tables goal.ob (place_kept place)
 
 -- the obligation of an open goal goes to the end of those that are open
-abbrev pub opened : Place → Parts → List Parts → List Parts
+abbrev pub opened : {L : Type 0} → Place L → Parts → List Parts → List Parts
 opened (Done d) ob obs = obs
 opened (Open line) ob obs = obs ++ ob ∷ []
 
 -- the obligations of the goals whose places are open, in order
-abbrev pub open_of : List Goal → List Place → List Parts
+abbrev pub open_of : {L : Type 0} → List (Goal L) → List (Place L) → List Parts
 open_of [] ps = []
 open_of (g ∷ gs) [] = []
 open_of (g ∷ gs) (Done d ∷ ps) = open_of gs ps
 open_of (g ∷ gs) (Open line ∷ ps) = g.ob ∷ open_of gs ps
 
 -- a line with its obligation, which the workers decided
-abbrev pub solved : Line → Parts → Evidence → Decided
+abbrev pub solved : {L : Type 0} → L → Parts → Evidence → Decided L
 solved line ob evidence = record { goal = record { line = line; ob = ob }; evidence = evidence; source = Solved }
 
 -- the open places filled in order
-abbrev pub filled : List Place → List Parts → List Evidence → List Decided
+abbrev pub filled : {L : Type 0} → List (Place L) → List Parts → List Evidence → List (Decided L)
 filled [] obs ends = []
 filled (Done d ∷ ps) obs ends = d ∷ filled ps obs ends
 filled (Open line ∷ ps) [] ends = []
@@ -92,11 +91,11 @@ filled (Open line ∷ ps) (ob ∷ obs) [] = []
 filled (Open line ∷ ps) (ob ∷ obs) (e ∷ ends) = solved line ob e ∷ filled ps obs ends
 
 -- a place takes its own, or where it is open the first of these
-abbrev pub Takes : Place → Decided → List Parts → List Evidence → List Parts → List Evidence → Type 0
+abbrev pub Takes : {L : Type 0} → Place L → Decided L → List Parts → List Evidence → List Parts → List Evidence → Type 0
 Takes (Done e) d obs ends obs_after ends_after = (d ≡ e) × (obs_after ≡ obs) × (ends_after ≡ ends)
 Takes (Open line) d obs ends obs_after ends_after =
     (ob : Parts) × (e : Evidence) × (d ≡ solved line ob e) × (obs ≡ ob ∷ obs_after) × (ends ≡ e ∷ ends_after)
 
-abbrev pub is_open : Place → Bool
+abbrev pub is_open : {L : Type 0} → Place L → Bool
 is_open (Done d) = false
 is_open (Open line) = true

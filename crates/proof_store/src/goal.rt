@@ -1,12 +1,11 @@
 //! Goals, and how they ended.
 use job_pool::Evidence;
-use set_tree::Line;
 use word_dag::Ob;
 
-/// A line of a report on its way to a verdict: the line, and an obligation of it.
+/// A line on its way to a verdict: the line, and an obligation of it.
 #[derive(Drop)]
-pub struct Goal {
-    pub line: Line,
+pub struct Goal<L> {
+    pub line: L,
     pub ob: Ob,
 }
 
@@ -23,8 +22,8 @@ pub enum Source {
 
 /// A goal with what shows how it ended. Steps are over the clauses of its obligation, and values are those of its free nodes.
 #[derive(Drop)]
-pub struct Decided {
-    pub goal: Goal,
+pub struct Decided<L> {
+    pub goal: Goal<L>,
     pub evidence: Evidence,
     pub source: Source,
 }

@@ -60,7 +60,7 @@ pub struct Row {
 }
 
 // The row of a proof: its obligation's text and its record, where it may be kept.
-fn row_of(alloc: Global, one: &Decided) -> Result<Option<Row>, AllocError>
+fn row_of<L: Drop>(alloc: Global, one: &Decided<L>) -> Result<Option<Row>, AllocError>
     ensures { IfOk result (IsRowOf (ended one.now)) }
 {
     let Evidence::Derivation(steps) = &one.evidence else {
@@ -78,7 +78,11 @@ fn row_of(alloc: Global, one: &Decided) -> Result<Option<Row>, AllocError>
 }
 
 // Puts a proof under its obligation's text, where it may be kept.
-fn put_one<K: Keeper>(alloc: Global, keeper: &mut K, one: &Decided) -> Result<(), StoreFault>
+fn put_one<K: Keeper, L: Drop>(
+    alloc: Global,
+    keeper: &mut K,
+    one: &Decided<L>,
+) -> Result<(), StoreFault>
     ensures ok { OnOk result (Told (Puts (ended one.now)) (K.tables keeper.old) (K.tables keeper.new)) }
     ensures err { OnErr result (K.tables keeper.new ≡ K.tables keeper.old) }
     ensures faults { Rises (result ≡ Err StoreFault.Keeper) (K.faults keeper.old) (K.faults keeper.new) }
@@ -89,17 +93,17 @@ fn put_one<K: Keeper>(alloc: Global, keeper: &mut K, one: &Decided) -> Result<()
     Ok(())
 }
 
-fn is_kept(decided: &Decided) -> bool
+fn is_kept<L: Drop>(decided: &Decided<L>) -> bool
     ensures { result ≡ is_kept decided.now }
 {
     matches!(decided.source, Source::Kept)
 }
 
 /// Puts the proofs of the goals that weren't kept.
-pub(crate) fn put_new<K: Keeper>(
+pub(crate) fn put_new<K: Keeper, L: Drop>(
     alloc: Global,
     keeper: &mut K,
-    decided: &[Decided],
+    decided: &[Decided<L>],
 ) -> Result<(), StoreFault>
     requires kept { IfSome (K.tables keeper.old) (λ t. All (λ d. IsTrue (is_kept d) ↔ IsKept t d.goal.ob) decided.now) }
     requires proofs { HasProofs (map ended decided.now) }

@@ -19,7 +19,6 @@ use cnf_build::{Built, build};
 use helper_box::{Claim, Helper, offer_all};
 use job_pool::Evidence;
 use outside::{Gate, Keeper};
-use set_tree::Line;
 use std::alloc::{AllocError, Global};
 use std::thread::Threads;
 use std::vec::IntoIter;
@@ -34,17 +33,17 @@ pub struct Found {
 
 /// How a goal stands before any is solved.
 #[derive(Drop)]
-pub enum Place {
+pub enum Place<L> {
     /// Shown by a proof that was kept or by a helper's claim.
-    Done(Decided),
+    Done(Decided<L>),
     /// Not shown yet. Its line is left here, and its obligation stands among those that are open.
-    Open(Line),
+    Open(L),
 }
 
 /// The places of goals, and the obligations of the open ones, in order.
 #[derive(Drop)]
-pub struct Placed {
-    pub places: Vec<Place>,
+pub struct Placed<L> {
+    pub places: Vec<Place<L>>,
     pub rest: Vec<Ob>,
 }
 
@@ -125,7 +124,11 @@ impl<'a, 'k, 'h, R: Threads + Sync, K: Keeper, H: Helper, G: Gate + Sync> Prover
     }
 
     // The place of a goal. The obligation of an open one goes to the end of those that are open.
-    fn place(&mut self, goal: Goal, rest: &mut Vec<Ob>) -> Result<Place, StoreFault>
+    fn place<L: Drop>(
+        &mut self,
+        goal: Goal<L>,
+        rest: &mut Vec<Ob>,
+    ) -> Result<Place<L>, StoreFault>
         ensures placed { IfOk result (IsPlaced (kept_by K.tables self.old) goal) }
         ensures rest { IfOk result (λ place. rest.new.items ≡ opened place goal.ob rest.old.items) }
         ensures tables { kept_by K.tables self.new ≡ kept_by K.tables self.old }
@@ -148,7 +151,10 @@ impl<'a, 'k, 'h, R: Threads + Sync, K: Keeper, H: Helper, G: Gate + Sync> Prover
     }
 
     /// The places of goals, in order.
-    pub(crate) fn place_all(&mut self, goals: Vec<Goal>) -> Result<Placed, StoreFault>
+    pub(crate) fn place_all<L: Drop>(
+        &mut self,
+        goals: Vec<Goal<L>>,
+    ) -> Result<Placed<L>, StoreFault>
         ensures placed { IfOk result (λ p. AllZip (IsPlaced (kept_by K.tables self.old)) goals.items p.places.items) }
         ensures rest { IfOk result (λ p. p.rest.items ≡ open_of goals.items p.places.items) }
         ensures tables { kept_by K.tables self.new ≡ kept_by K.tables self.old }
@@ -167,7 +173,11 @@ impl<'a, 'k, 'h, R: Threads + Sync, K: Keeper, H: Helper, G: Gate + Sync> Prover
 }
 
 // What stands at a place, or where it is open the first of these.
-fn taken(place: Place, obs: &mut IntoIter<Ob>, ends: &mut IntoIter<Evidence>) -> Decided
+fn taken<L: Drop>(
+    place: Place<L>,
+    obs: &mut IntoIter<Ob>,
+    ends: &mut IntoIter<Evidence>,
+) -> Decided<L>
     requires obs { is_open place ≡ true → 0 < into_iter_len obs.old }
     requires ends { is_open place ≡ true → 0 < into_iter_len ends.old }
     ensures { Takes place result (into_iter_items obs.old) (into_iter_items ends.old) (into_iter_items obs.new) (into_iter_items ends.new) }
@@ -187,11 +197,11 @@ fn taken(place: Place, obs: &mut IntoIter<Ob>, ends: &mut IntoIter<Evidence>) ->
 }
 
 /// The open places filled by obligations and what shows how they ended, in order.
-pub(crate) fn filled(
+pub(crate) fn filled<L: Drop>(
     alloc: Global,
-    placed: Placed,
+    placed: Placed<L>,
     ends: Vec<Evidence>,
-) -> Result<Vec<Decided>, AllocError>
+) -> Result<Vec<Decided<L>>, AllocError>
     requires rest { length placed.rest.items ≡ length (filter is_open placed.places.items) }
     requires ends { length ends.items ≡ length placed.rest.items }
     ensures { IfOk result (λ all. all.items ≡ filled placed.places.items placed.rest.items ends.items) }

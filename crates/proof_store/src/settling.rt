@@ -24,8 +24,8 @@ use word_dag::Ob;
 
 /// The goals in their order, each with what shows how it ended, and where that comes from.
 #[derive(Drop)]
-pub struct Settled {
-    pub decided: Vec<Decided>,
+pub struct Settled<L> {
+    pub decided: Vec<Decided<L>>,
     /// How many had a proof that was kept.
     pub kept: u64,
     /// How many were shown by a helper's claim.
@@ -36,7 +36,7 @@ pub struct Settled {
     pub draws: Vec<u64>,
 }
 
-fn count_kept(decided: &[Decided]) -> u64
+fn count_kept<L: Drop>(decided: &[Decided<L>]) -> u64
     ensures { result ≡ count_by is_kept decided.now }
 {
     decided
@@ -45,7 +45,7 @@ fn count_kept(decided: &[Decided]) -> u64
         .count() as u64
 }
 
-fn count_helped(decided: &[Decided]) -> u64
+fn count_helped<L: Drop>(decided: &[Decided<L>]) -> u64
     ensures { result ≡ count_by is_helped decided.now }
 {
     decided
@@ -54,7 +54,7 @@ fn count_helped(decided: &[Decided]) -> u64
         .count() as u64
 }
 
-fn count_solved(decided: &[Decided]) -> u64
+fn count_solved<L: Drop>(decided: &[Decided<L>]) -> u64
     ensures { result ≡ count_by is_solved decided.now }
 {
     decided
@@ -102,7 +102,7 @@ impl<'a, 'k, 'h, R: Threads + Sync, K: Keeper, H: Helper, G: Gate + Sync> Prover
     ///
     /// It is refused with `Keeper` only where the keeper's count of faults rose in this call, or stands at its last value, and with `Memory` for want
     /// of memory alone. Then each row of the proofs that differs from before is a proof of one of these obligations under its text.
-    pub fn settle(&mut self, goals: Vec<Goal>) -> Result<Settled, StoreFault>
+    pub fn settle<L: Drop>(&mut self, goals: Vec<Goal<L>>) -> Result<Settled<L>, StoreFault>
         requires jobs { length goals.items < 2 ^ 32 }
         ensures decided { IfOk result (λ s. AllZip (IsDecided self.old.settings.budget) goals.items s.decided.items) }
         ensures ample { IfOk result (λ s. AllZip (IsDecidedIfAmple self.old.settings.budget) goals.items s.decided.items) }

@@ -1,5 +1,5 @@
 use Rattle.std.proofs.Common.{◌∙◌, refl, rules}
-use Rattle.proof_store.proofs.Turns.{place_more, place_start, proceeds_on, proceeds_same, rose_more, rose_start}
+use Rattle.proof_store.proofs.Turns.{place_more, place_start, proceeds_on, proceeds_same, proceeds_well, rose_more, rose_start}
 use Rattle.proof_store.proofs.prover.Prover.place_all.Goals as goal
 
 pub loop-goal-init : goal.loop-goal-init
@@ -12,10 +12,14 @@ loop-goal-init g c = record {
 }
 
 pub returns-in_err-place-clause-proceeds : goal.returns-in_err-place-clause-proceeds
-returns-in_err-place-clause-proceeds g c = proceeds_on ⊥ _ _ _ _ c.loop-goal.invariant.proceeds (search rules)
+returns-in_err-place-clause-proceeds g c =
+    let step = c.place.ensures.proceeds in
+    proceeds_on ⊥ _ _ _ _ c.loop-goal.invariant.proceeds (record { keeper = record { later = step.keeper.later; rose = λ f. step.keeper.rose (search rules) }; helpers = step.helpers })
 
 pub returns-in_err-push-clause-proceeds : goal.returns-in_err-push-clause-proceeds
-returns-in_err-push-clause-proceeds g c = proceeds_on ⊥ _ _ _ _ c.loop-goal.invariant.proceeds (search rules)
+returns-in_err-push-clause-proceeds g c =
+    let step = c.place.ensures.proceeds in
+    proceeds_on ⊥ _ _ _ _ c.loop-goal.invariant.proceeds (record { keeper = record { later = step.keeper.later; rose = λ f. absurd (search rules) }; helpers = step.helpers })
 
 pub loop-goal-preserved : goal.loop-goal-preserved
 loop-goal-preserved g c =
@@ -29,3 +33,6 @@ loop-goal-preserved g c =
       rose = rose_more c.loop-goal.places.items _ c.in_ok-place.place _ _ _ c.loop-goal.invariant.rose step.first c.in_ok-push.ensures.items;
       same = (same.0 ∙ was.0, same.1 ∙ was.1, same.2 ∙ was.2);
     }
+
+pub returns-clause-proceeds : goal.returns-clause-proceeds
+returns-clause-proceeds g c = proceeds_well ⊥ _ _ _ (λ f. absurd (search (rules, f))) c.loop-goal.invariant.proceeds

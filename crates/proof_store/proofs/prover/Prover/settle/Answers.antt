@@ -1,4 +1,4 @@
-use Rattle.std.proofs.Common.{◌∙◌, ℕ, map, ap, sym, subst, arith, length}
+use Rattle.std.proofs.Common.{◌∙◌, ℕ, map, ap, sym, subst, arith, length, rules}
 use Rattle.std.specs.List.{AllZip}
 use Rattle.std.specs.Prelude.{IfSome}
 use Rattle.job_pool.specs.Shown.{IsShown}
@@ -6,6 +6,7 @@ use Rattle.proof_store.specs.Counts.{draws_of}
 use Rattle.proof_store.specs.Goals.{ob_of}
 use Rattle.proof_store.specs.Kept.{CountsKept}
 use Rattle.proof_store.specs.declared.settings.Settings.{Settings}
+use Rattle.proof_store.proofs.Faults.{rises_on}
 use Rattle.proof_store.proofs.Wholes.{adds, asked_are, ends_long, facts, first_rose, flags_now, rest_few, rest_long}
 use Rattle.proof_store.proofs.prover.Prover.settle.Goals as goal
 
@@ -69,3 +70,13 @@ pub returns-clause-first : goal.returns-clause-first
 returns-clause-first g c =
     let f = facts (g.K.Keeper.tables c.args.self.now.keeper.now) c.args.goals.items c.in_ok-placed.placed.places.items c.in_ok-placed.placed.rest.items c.as_slice.result.now c.in_ok-placed.ensures.placed c.in_ok-placed.ensures.rest c.as_slice.ensures.value c.args.self.now.settings.budget c.in_ok-ends.field-0.ends.items (subst (λ (s : Settings). AllZip (IsShown s.budget) c.as_slice.result.now c.in_ok-ends.field-0.ends.items) c.in_ok-placed.ensures.same.2 c.in_ok-ends.ensures.ends) c.in_ok-decided.decided.items c.as_slice-all.result.now c.in_ok-decided.ensures c.as_slice-all.ensures.value in
     first_rose _ _ _ _ (asked_are _ _ _ _ _ f.asked c.count_helped-helped.ensures c.count_solved-solved.ensures) c.in_ok-placed.ensures.first
+
+pub returns-in_err-put_new-clause-proceeds : goal.returns-in_err-put_new-clause-proceeds
+returns-in_err-put_new-clause-proceeds g c =
+    let first = c.in_ok-placed.ensures.proceeds in
+    record { keeper = rises_on _ _ _ _ _ first.keeper (record { later = c.in_err-put_new.ensures.faults.later; rose = λ f. c.in_err-put_new.ensures.faults.rose (search (rules, f)) }); helpers = first.helpers }
+
+pub returns-clause-proceeds : goal.returns-clause-proceeds
+returns-clause-proceeds g c =
+    let first = c.in_ok-placed.ensures.proceeds in
+    record { keeper = record { later = omega (arith, first.keeper.later, c.in_ok-put_new.ensures.faults.later); rose = λ f. absurd (search (rules, f)) }; helpers = first.helpers }
