@@ -49,7 +49,7 @@ not_spent (e.Values us) h = λ same. let no : v.Refuted ≡ v.Spent = same in cc
 not_spent (e.Chain steps) h = absurd h
 
 -- a line of the book as it was decided
-told_line : (budget : ℕ) (b : Pair) (d : Decided) (told : Told) → IsGoalDecided budget b d → Tells b d told → IsDecidedOn budget b d.goal.line told
+told_line : (budget : ℕ) (b : Pair) (d : Decided Line) (told : Told) → IsGoalDecided budget b d → Tells b d told → IsDecidedOn budget b d.goal.line told
 told_line budget b d told h tells =
     let shown : IsShown budget told.ob told.evidence = subst (λ (z : Parts × Evidence). IsShown budget z.0 z.1) (ap₂ (λ (o : Parts) (e : Evidence). (o, e)) (sym tells.ob) (sym tells.evidence)) h.shown in
     let verdict : told.verdict ≡ verdict_of told.evidence = tells.verdict ∙ ap verdict_of (sym tells.evidence) in record {
@@ -65,17 +65,17 @@ told_line budget b d told h tells =
     }
 
 -- goals that were decided
-pub goals_decided : (budget : ℕ) (b : Pair) (goals : List Goal) (ds : List Decided) → All (IsGoalOf b) goals → AllZip (IsDecided budget) goals ds → All (IsGoalDecided budget b) ds
+pub goals_decided : (budget : ℕ) (b : Pair) (goals : List (Goal Line)) (ds : List (Decided Line)) → All (IsGoalOf b) goals → AllZip (IsDecided budget) goals ds → All (IsGoalDecided budget b) ds
 goals_decided budget b [] [] each z = All-nil (IsGoalDecided budget b)
 goals_decided budget b [] (d ∷ ds) each z = absurd z
 goals_decided budget b (g ∷ gs) [] each z = absurd z
 goals_decided budget b (g ∷ gs) (d ∷ ds) each z =
     All-cons (IsGoalDecided budget b) d ds
-    (record { of_line = subst (IsGoalOf b) (sym z.0.goal_is) (All-head (IsGoalOf b) g gs each); shown = subst (λ (x : Goal). IsShown budget x.ob d.evidence) (sym z.0.goal_is) z.0.shown })
+    (record { of_line = subst (IsGoalOf b) (sym z.0.goal_is) (All-head (IsGoalOf b) g gs each); shown = subst (λ (x : Goal Line). IsShown budget x.ob d.evidence) (sym z.0.goal_is) z.0.shown })
     (goals_decided budget b gs ds (All-tail (IsGoalOf b) g gs each) z.1)
 
 -- the lines of the book, as they were decided
-pub lines_decided : (budget : ℕ) (b : Pair) (goals : List Goal) (ds : List Decided) (ts : List Told) → All (IsGoalOf b) goals → AllZip (IsDecided budget) goals ds → AllZip (Tells b) ds ts → AllZip (IsDecidedOn budget b) (map line_of goals) ts
+pub lines_decided : (budget : ℕ) (b : Pair) (goals : List (Goal Line)) (ds : List (Decided Line)) (ts : List Told) → All (IsGoalOf b) goals → AllZip (IsDecided budget) goals ds → AllZip (Tells b) ds ts → AllZip (IsDecidedOn budget b) (map line_of goals) ts
 lines_decided budget b [] [] [] each z tell = tt
 lines_decided budget b [] [] (t ∷ ts) each z tell = tell
 lines_decided budget b [] (d ∷ ds) ts each z tell = absurd z
@@ -83,7 +83,7 @@ lines_decided budget b (g ∷ gs) [] ts each z tell = absurd z
 lines_decided budget b (g ∷ gs) (d ∷ ds) [] each z tell = tell
 lines_decided budget b (g ∷ gs) (d ∷ ds) (t ∷ ts) each z tell =
     let here : IsGoalDecided budget b d =
-    record { of_line = subst (IsGoalOf b) (sym z.0.goal_is) (All-head (IsGoalOf b) g gs each); shown = subst (λ (x : Goal). IsShown budget x.ob d.evidence) (sym z.0.goal_is) z.0.shown } in (
-      subst (λ (x : Goal). IsDecidedOn budget b x.line t) z.0.goal_is (told_line budget b d t here tell.0),
+    record { of_line = subst (IsGoalOf b) (sym z.0.goal_is) (All-head (IsGoalOf b) g gs each); shown = subst (λ (x : Goal Line). IsShown budget x.ob d.evidence) (sym z.0.goal_is) z.0.shown } in (
+      subst (λ (x : Goal Line). IsDecidedOn budget b x.line t) z.0.goal_is (told_line budget b d t here tell.0),
       lines_decided budget b gs ds ts (All-tail (IsGoalOf b) g gs each) z.1 tell.1,
     )

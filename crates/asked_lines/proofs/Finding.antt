@@ -15,46 +15,46 @@ use Rattle.asked_lines.specs.Asked.{AreGoalsOf, Asks, IsGoalOf, LacksLine, has_n
 use Rattle.asked_lines.specs.declared.fault.LineFault.{LineFault}
 use Rattle.asked_lines.specs.declared.fault.LineFault.TheVariants as f
 
-abbrev OtherName : Set → List ℕ → Goal → Type 0
+abbrev OtherName : Set → List ℕ → Goal Line → Type 0
 OtherName set name goal = has_name set name goal.line ≡ false
 
 -- of a goal for each line, none of those before has the name
-pub record FindLoop (b : Pair) (name : List ℕ) (left : List Goal) : Type 0 where
-  pub all : List Goal
+pub record FindLoop (b : Pair) (name : List ℕ) (left : List (Goal Line)) : Type 0 where
+  pub all : List (Goal Line)
   pub are : AreGoalsOf b (all_lines b.set) all
-  pub before : List Goal
+  pub before : List (Goal Line)
   pub split : all ≡ before ++ left
   pub others : All (OtherName b.set name) before
 
-pub find_start : (b : Pair) (name : List ℕ) (all left : List Goal) → AreGoalsOf b (all_lines b.set) all → left ≡ all → FindLoop b name left
+pub find_start : (b : Pair) (name : List ℕ) (all left : List (Goal Line)) → AreGoalsOf b (all_lines b.set) all → left ≡ all → FindLoop b name left
 find_start b name all left are same = record { all = all; are = are; before = []; split = sym same; others = All-nil (OtherName b.set name) }
 
-pub find_more : (b : Pair) (name : List ℕ) (now left : List Goal) (goal : Goal) → FindLoop b name now → now ≡ goal ∷ left → has_name b.set name goal.line ≡ false → FindLoop b name left
+pub find_more : (b : Pair) (name : List ℕ) (now left : List (Goal Line)) (goal : Goal Line) → FindLoop b name now → now ≡ goal ∷ left → has_name b.set name goal.line ≡ false → FindLoop b name left
 find_more b name now left goal loop is other = record {
   all = loop.all;
   are = loop.are;
   before = loop.before ++ goal ∷ [];
-  split = loop.split ∙ (ap (λ (gs : List Goal). loop.before ++ gs) is ∙ sym (append_assoc loop.before (goal ∷ []) left));
+  split = loop.split ∙ (ap (λ (gs : List (Goal Line)). loop.before ++ gs) is ∙ sym (append_assoc loop.before (goal ∷ []) left));
   others = All-push (OtherName b.set name) loop.before goal loop.others other;
 }
 
-at_turn : (P : Goal → Type 0) (before left : List Goal) (goal : Goal) → All P (before ++ goal ∷ left) → P goal
+at_turn : (P : Goal Line → Type 0) (before left : List (Goal Line)) (goal : Goal Line) → All P (before ++ goal ∷ left) → P goal
 at_turn P [] left goal h = All-head P goal left h
 at_turn P (x ∷ xs) left goal h = at_turn P xs left goal (All-tail P x (xs ++ goal ∷ left) h)
 
-line_among : (before left : List Goal) (goal : Goal) → Contains (map line_of (before ++ goal ∷ left)) goal.line
+line_among : (before left : List (Goal Line)) (goal : Goal Line) → Contains (map line_of (before ++ goal ∷ left)) goal.line
 line_among [] left goal = (0, omega arith, refl)
 line_among (x ∷ xs) left goal = let rest = line_among xs left goal in let lt = rest.1 in (suc rest.0, omega (arith, lt), rest.2)
 
 -- the one whose turn it is has the name
-pub found : (b : Pair) (name : List ℕ) (now left only : List Goal) (goal : Goal) → FindLoop b name now → now ≡ goal ∷ left → has_name b.set name goal.line ≡ true → only ≡ goal ∷ [] → Asks b (w.One name) only
+pub found : (b : Pair) (name : List ℕ) (now left only : List (Goal Line)) (goal : Goal Line) → FindLoop b name now → now ≡ goal ∷ left → has_name b.set name goal.line ≡ true → only ≡ goal ∷ [] → Asks b (w.One name) only
 found b name now left only goal loop is named pushed =
     let are = loop.are in
-    let whole : loop.all ≡ loop.before ++ goal ∷ left = loop.split ∙ ap (λ (gs : List Goal). loop.before ++ gs) is in
+    let whole : loop.all ≡ loop.before ++ goal ∷ left = loop.split ∙ ap (λ (gs : List (Goal Line)). loop.before ++ gs) is in
     let same : line_name b.set goal.line ≡ name = (bytes_eq-Decides (line_name b.set goal.line) name).0 named in
     let among : Contains (all_lines b.set) goal.line = subst (λ (ls : List Line). Contains ls goal.line) (ap (map line_of) (sym whole) ∙ are.lines_are) (line_among loop.before left goal) in
-    let here : IsGoalOf b goal = at_turn (IsGoalOf b) loop.before left goal (subst (λ (gs : List Goal). All (IsGoalOf b) gs) whole are.each) in
-    subst (λ (gs : List Goal). Asks b (w.One name) gs) (sym pushed) (record {
+    let here : IsGoalOf b goal = at_turn (IsGoalOf b) loop.before left goal (subst (λ (gs : List (Goal Line)). All (IsGoalOf b) gs) whole are.each) in
+    subst (λ (gs : List (Goal Line)). Asks b (w.One name) gs) (sym pushed) (record {
       asked = (goal.line, record { among = among; named = same }, refl);
       each = All-cons (IsGoalOf b) goal [] here (All-nil (IsGoalOf b));
     })
@@ -62,7 +62,7 @@ found b name now left only goal loop is named pushed =
 not_both : (t : Bool) → t ≡ false → t ≡ true → ⊥
 not_both t a b = let clash : false ≡ true = sym a ∙ b in absurd cc
 
-missed : (set : Set) (name : List ℕ) (goals : List Goal) → All (OtherName set name) goals → (k : ℕ) (line : Line) → k < length (map line_of goals) → get_or (map line_of goals) k line ≡ line → line_name set line ≡ name → ⊥
+missed : (set : Set) (name : List ℕ) (goals : List (Goal Line)) → All (OtherName set name) goals → (k : ℕ) (line : Line) → k < length (map line_of goals) → get_or (map line_of goals) k line ≡ line → line_name set line ≡ name → ⊥
 missed set name [] others k line lt at named = absurd (omega arith)
 missed set name (g ∷ gs) others zero line lt at named =
     let same : g.line ≡ line = at in
@@ -70,7 +70,7 @@ missed set name (g ∷ gs) others zero line lt at named =
 missed set name (g ∷ gs) others (suc k) line lt at named = missed set name gs (All-tail (OtherName set name) g gs others) k line (omega arith) at named
 
 -- none has the name
-pub none_found : (b : Pair) (name : List ℕ) (left : List Goal) → FindLoop b name left → length left ≡ 0 → LacksLine b.set (w.One name) f.NoLine
+pub none_found : (b : Pair) (name : List ℕ) (left : List (Goal Line)) → FindLoop b name left → length left ≡ 0 → LacksLine b.set (w.One name) f.NoLine
 none_found b name [] loop none =
     let whole : map line_of loop.before ≡ all_lines b.set = ap (map line_of) (sym (loop.split ∙ append-nil loop.before)) ∙ loop.are.lines_are in (
       name,

@@ -4,6 +4,7 @@ use Rattle.std.specs.Prelude.{IfSome}
 use Rattle.std.proofs.lemmas.List.{length-map}
 use Rattle.std.specs.List.{AllZip}
 use Rattle.outside.specs.Tables.{Tables}
+use Rattle.set_tree.specs.declared.line.Line.{Line}
 use Rattle.word_dag.specs.Nodes.{Parts}
 use Rattle.binding.specs.Binding.{Pair}
 use Rattle.proof_store.specs.Counts.{FirstRose, draws_of}
@@ -25,7 +26,7 @@ line_obs_of [] = refl
 line_obs_of (l ∷ ls) = ap (λ (os : List Parts). l.ob ∷ os) (line_obs_of ls)
 
 -- the lines of a book that tell what was settled of goals
-module _ (budget workers : ℕ) (goals : List Goal) (ds : List Decided) (book : Book) (zipped : AllZip (IsDecided budget) goals ds) (same : map ended_of book.lines.items ≡ map ended ds) where
+module _ (budget workers : ℕ) (goals : List (Goal Line)) (ds : List (Decided Line)) (book : Book) (zipped : AllZip (IsDecided budget) goals ds) (same : map ended_of book.lines.items ≡ map ended ds) where
   obs : map ob_of goals ≡ map line_ob book.lines.items
   obs = sym (line_obs_of book.lines.items ∙ (ap (map ended_ob) same ∙ same_obs budget goals ds zipped))
 
@@ -52,5 +53,5 @@ pub adds_none : (OfCall : List Parts → Type 0) (o : Option Tables) → AddsPro
 adds_none OfCall o = ([], inl refl, told_same o)
 
 -- proofs of obligations of the lines that are asked for
-pub adds_asked : (b : Pair) (which : Which) (goals : List Goal) → Asks b which goals → (before after : Option Tables) → Told (AddsProofs (map ob_of goals)) before after → AddsProofsOf (AreObsOf b which) before after
+pub adds_asked : (b : Pair) (which : Which) (goals : List (Goal Line)) → Asks b which goals → (before after : Option Tables) → Told (AddsProofs (map ob_of goals)) before after → AddsProofsOf (AreObsOf b which) before after
 adds_asked b which goals asks before after told = (map ob_of goals, inr (record { goals = goals; asked = asks; are = refl }), told)

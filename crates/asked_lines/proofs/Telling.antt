@@ -24,37 +24,37 @@ length_zipped R (x ∷ xs) (y ∷ ys) z = ap suc (length_zipped R xs ys z.1)
 -- ---- lines of the book
 
 -- those before are told
-pub record TellLoop (b : Pair) (all : List Decided) (done : List Told) (left : List Decided) : Type 0 where
-  pub before : List Decided
+pub record TellLoop (b : Pair) (all : List (Decided Line)) (done : List Told) (left : List (Decided Line)) : Type 0 where
+  pub before : List (Decided Line)
   pub split : all ≡ before ++ left
   pub told : AllZip (Tells b) before done
 
-pub tell_start : (b : Pair) (all left : List Decided) (done : List Told) → left ≡ all → done ≡ [] → TellLoop b all done left
+pub tell_start : (b : Pair) (all left : List (Decided Line)) (done : List Told) → left ≡ all → done ≡ [] → TellLoop b all done left
 tell_start b all left done same none = record { before = []; split = sym same; told = subst (λ (ts : List Told). AllZip (Tells b) [] ts) (sym none) tt }
 
-pub tell_more : (b : Pair) (all now left : List Decided) (done more : List Told) (d : Decided) (told : Told) → TellLoop b all done now → now ≡ d ∷ left → Tells b d told → more ≡ done ++ told ∷ [] → TellLoop b all more left
+pub tell_more : (b : Pair) (all now left : List (Decided Line)) (done more : List Told) (d : Decided Line) (told : Told) → TellLoop b all done now → now ≡ d ∷ left → Tells b d told → more ≡ done ++ told ∷ [] → TellLoop b all more left
 tell_more b all now left done more d told loop is here pushed = record {
   before = loop.before ++ d ∷ [];
-  split = loop.split ∙ (ap (λ (ds : List Decided). loop.before ++ ds) is ∙ sym (append_assoc loop.before (d ∷ []) left));
+  split = loop.split ∙ (ap (λ (ds : List (Decided Line)). loop.before ++ ds) is ∙ sym (append_assoc loop.before (d ∷ []) left));
   told = subst (λ (ts : List Told). AllZip (Tells b) (loop.before ++ d ∷ []) ts) (sym pushed) (all_zipped_more (Tells b) loop.before done d told loop.told here);
 }
 
-pub all_told : (b : Pair) (all left : List Decided) (done : List Told) → TellLoop b all done left → length left ≡ 0 → AllZip (Tells b) all done
-all_told b all [] done loop none = subst (λ (ds : List Decided). AllZip (Tells b) ds done) (sym (loop.split ∙ append-nil loop.before)) loop.told
+pub all_told : (b : Pair) (all left : List (Decided Line)) (done : List Told) → TellLoop b all done left → length left ≡ 0 → AllZip (Tells b) all done
+all_told b all [] done loop none = subst (λ (ds : List (Decided Line)). AllZip (Tells b) ds done) (sym (loop.split ∙ append-nil loop.before)) loop.told
 all_told b all (d ∷ left) done loop none = let no : suc (length left) ≡ 0 = none in absurd (omega arith)
 
 -- the one whose turn it is was decided so
-pub turn_decided : (budget : ℕ) (b : Pair) (all now left : List Decided) (done : List Told) (d : Decided) → TellLoop b all done now → now ≡ d ∷ left → All (IsGoalDecided budget b) all → IsGoalDecided budget b d
+pub turn_decided : (budget : ℕ) (b : Pair) (all now left : List (Decided Line)) (done : List Told) (d : Decided Line) → TellLoop b all done now → now ≡ d ∷ left → All (IsGoalDecided budget b) all → IsGoalDecided budget b d
 turn_decided budget b all now left done d loop is decided =
-    let there : All (IsGoalDecided budget b) (loop.before ++ d ∷ left) = subst (λ (ds : List Decided). All (IsGoalDecided budget b) ds) (loop.split ∙ ap (λ (ds : List Decided). loop.before ++ ds) is) decided in
+    let there : All (IsGoalDecided budget b) (loop.before ++ d ∷ left) = subst (λ (ds : List (Decided Line)). All (IsGoalDecided budget b) ds) (loop.split ∙ ap (λ (ds : List (Decided Line)). loop.before ++ ds) is) decided in
     at loop.before there
   where
-    at : (before : List Decided) → All (IsGoalDecided budget b) (before ++ d ∷ left) → IsGoalDecided budget b d
+    at : (before : List (Decided Line)) → All (IsGoalDecided budget b) (before ++ d ∷ left) → IsGoalDecided budget b d
     at [] h = All-head (IsGoalDecided budget b) d left h
     at (x ∷ xs) h = at xs (All-tail (IsGoalDecided budget b) x (xs ++ d ∷ left) h)
 
 -- what the lines tell is what was decided
-pub same_ended : (b : Pair) (ds : List Decided) (ts : List Told) → AllZip (Tells b) ds ts → map ended_of ts ≡ map ended ds
+pub same_ended : (b : Pair) (ds : List (Decided Line)) (ts : List Told) → AllZip (Tells b) ds ts → map ended_of ts ≡ map ended ds
 same_ended b [] [] z = refl
 same_ended b [] (t ∷ ts) z = absurd z
 same_ended b (d ∷ ds) [] z = absurd z
@@ -66,7 +66,7 @@ same_ended b (d ∷ ds) (t ∷ ts) z = one (sym z.0.ob) (sym z.0.evidence) ∙ a
 -- ---- goals of lines
 
 -- those before have goals, and those after have the obligations that are left
-pub record JoinLoop (b : Pair) (lines : List Line) (done : List Goal) (left : List Named) : Type 0 where
+pub record JoinLoop (b : Pair) (lines : List Line) (done : List (Goal Line)) (left : List Named) : Type 0 where
   pub before : List Line
   pub after : List Line
   pub split : lines ≡ before ++ after
@@ -74,18 +74,18 @@ pub record JoinLoop (b : Pair) (lines : List Line) (done : List Goal) (left : Li
   pub each : All (IsGoalOf b) done
   pub rest : AllZip (IsObOf b) after left
 
-pub join_start : (b : Pair) (lines : List Line) (obs left : List Named) (done : List Goal) → AllZip (IsObOf b) lines obs → left ≡ obs → done ≡ [] → JoinLoop b lines done left
+pub join_start : (b : Pair) (lines : List Line) (obs left : List Named) (done : List (Goal Line)) → AllZip (IsObOf b) lines obs → left ≡ obs → done ≡ [] → JoinLoop b lines done left
 join_start b lines obs left done h same none = record {
   before = [];
   after = lines;
   split = refl;
   made = ap (map line_of) none;
-  each = subst (λ (gs : List Goal). All (IsGoalOf b) gs) (sym none) (All-nil (IsGoalOf b));
+  each = subst (λ (gs : List (Goal Line)). All (IsGoalOf b) gs) (sym none) (All-nil (IsGoalOf b));
   rest = subst (λ (ns : List Named). AllZip (IsObOf b) lines ns) (sym same) h;
 }
 
 -- the line whose turn it is
-pub record Turn (b : Pair) (lines : List Line) (done : List Goal) (n : Named) (left : List Named) : Type 0 where
+pub record Turn (b : Pair) (lines : List Line) (done : List (Goal Line)) (n : Named) (left : List Named) : Type 0 where
   pub one : Line
   pub before : List Line
   pub after : List Line
@@ -94,21 +94,21 @@ pub record Turn (b : Pair) (lines : List Line) (done : List Goal) (n : Named) (l
   pub here : IsObOf b one n
   pub rest : AllZip (IsObOf b) after left
 
-pub turn : (b : Pair) (lines : List Line) (done : List Goal) (all left : List Named) (n : Named) → JoinLoop b lines done all → all ≡ n ∷ left → Turn b lines done n left
+pub turn : (b : Pair) (lines : List Line) (done : List (Goal Line)) (all left : List Named) (n : Named) → JoinLoop b lines done all → all ≡ n ∷ left → Turn b lines done n left
 turn b lines done all left n loop is = by loop.after loop.split (subst (λ (ns : List Named). AllZip (IsObOf b) loop.after ns) is loop.rest)
   where
     by : (after : List Line) → lines ≡ loop.before ++ after → AllZip (IsObOf b) after (n ∷ left) → Turn b lines done n left
     by [] split rest = absurd rest
     by (x ∷ after) split rest = record { one = x; before = loop.before; after = after; split = split; made = loop.made; here = rest.0; rest = rest.1 }
 
-place_of : (b : Pair) (lines : List Line) (done : List Goal) (n : Named) (left : List Named) → (t : Turn b lines done n left) → length done ≡ length t.before
+place_of : (b : Pair) (lines : List Line) (done : List (Goal Line)) (n : Named) (left : List Named) → (t : Turn b lines done n left) → length done ≡ length t.before
 place_of b lines done n left t = sym (length-lines done) ∙ ap length t.made
   where
-    length-lines : (gs : List Goal) → length (map line_of gs) ≡ length gs
+    length-lines : (gs : List (Goal Line)) → length (map line_of gs) ≡ length gs
     length-lines [] = refl
     length-lines (g ∷ gs) = ap suc (length-lines gs)
 
-pub is_there : (b : Pair) (lines : List Line) (done : List Goal) (n : Named) (left : List Named) → Turn b lines done n left → length done < length lines
+pub is_there : (b : Pair) (lines : List Line) (done : List (Goal Line)) (n : Named) (left : List Named) → Turn b lines done n left → length done < length lines
 is_there b lines done n left t =
     let many = place_of b lines done n left t in
     let all = ap length t.split ∙ length-append t.before (t.one ∷ t.after) in
@@ -119,17 +119,17 @@ behind [] ys x d = refl
 behind (z ∷ xs) ys x d = behind xs ys x d
 
 -- what stands at the place of the turn
-is_one : (b : Pair) (lines : List Line) (done : List Goal) (n : Named) (left : List Named) (k : ℕ) (x d : Line) → (t : Turn b lines done n left) → k ≡ length done → x ≡ get_or lines k d → x ≡ t.one
+is_one : (b : Pair) (lines : List Line) (done : List (Goal Line)) (n : Named) (left : List Named) (k : ℕ) (x d : Line) → (t : Turn b lines done n left) → k ≡ length done → x ≡ get_or lines k d → x ≡ t.one
 is_one b lines done n left k x d t at is =
     let place : k ≡ length t.before = at ∙ place_of b lines done n left t in
     is ∙ (ap (λ (zs : List Line). get_or zs k d) t.split ∙ (ap (λ i. get_or (t.before ++ t.one ∷ t.after) i d) place ∙ behind t.before t.after t.one d))
 
-map_push : (gs : List Goal) (g : Goal) → map line_of (gs ++ g ∷ []) ≡ map line_of gs ++ g.line ∷ []
+map_push : (gs : List (Goal Line)) (g : Goal Line) → map line_of (gs ++ g ∷ []) ≡ map line_of gs ++ g.line ∷ []
 map_push [] g = refl
 map_push (x ∷ gs) g = ap (λ (ls : List Line). x.line ∷ ls) (map_push gs g)
 
 -- one more line has a goal
-pub join_more : (b : Pair) (lines : List Line) (done more : List Goal) (all left : List Named) (n : Named) (k : ℕ) (x d : Line) (goal : Goal) → JoinLoop b lines done all → all ≡ n ∷ left → k ≡ length done → x ≡ get_or lines k d
+pub join_more : (b : Pair) (lines : List Line) (done more : List (Goal Line)) (all left : List Named) (n : Named) (k : ℕ) (x d : Line) (goal : Goal Line) → JoinLoop b lines done all → all ≡ n ∷ left → k ≡ length done → x ≡ get_or lines k d
     → goal ≡ record { line = x; ob = n.ob } → more ≡ done ++ goal ∷ [] → JoinLoop b lines more left
 join_more b lines done more all left n k x d goal loop is at item made pushed =
     let t = turn b lines done all left n loop is in
@@ -140,11 +140,11 @@ join_more b lines done more all left n k x d goal loop is at item made pushed =
       after = t.after;
       split = t.split ∙ sym (append_assoc t.before (t.one ∷ []) t.after);
       made = ap (map line_of) pushed ∙ (map_push done goal ∙ (ap (λ (ls : List Line). ls ++ goal.line ∷ []) t.made ∙ ap (λ (l : Line). t.before ++ l ∷ []) (ap line_of made ∙ one)));
-      each = subst (λ (gs : List Goal). All (IsGoalOf b) gs) (sym pushed) (All-push (IsGoalOf b) done goal loop.each (subst (IsGoalOf b) (sym made) goal_is));
+      each = subst (λ (gs : List (Goal Line)). All (IsGoalOf b) gs) (sym pushed) (All-push (IsGoalOf b) done goal loop.each (subst (IsGoalOf b) (sym made) goal_is));
       rest = t.rest;
     }
 
-pub all_joined : (b : Pair) (lines : List Line) (done : List Goal) (left : List Named) → JoinLoop b lines done left → length left ≡ 0 → AreGoalsOf b lines done
+pub all_joined : (b : Pair) (lines : List Line) (done : List (Goal Line)) (left : List Named) → JoinLoop b lines done left → length left ≡ 0 → AreGoalsOf b lines done
 all_joined b lines done left loop none = by loop.after left loop.split loop.rest none
   where
     by : (after : List Line) (left : List Named) → lines ≡ loop.before ++ after → AllZip (IsObOf b) after left → length left ≡ 0 → AreGoalsOf b lines done

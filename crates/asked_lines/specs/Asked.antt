@@ -17,24 +17,24 @@ use Rattle.asked_lines.specs.declared.fault.LineFault.{LineFault}
 use Rattle.asked_lines.specs.declared.fault.LineFault.TheVariants as f
 use Rattle.asked_lines.specs.Decided.{AreAsked, IsLineNamed}
 
-abbrev pub line_of : Goal → Line
+abbrev pub line_of : Goal Line → Line
 line_of goal = goal.line
 
 -- the obligation under the name of the goal's line
-abbrev pub named_of : Set → Goal → Named
+abbrev pub named_of : Set → Goal Line → Named
 named_of set goal = record { name = line_name set goal.line; ob = goal.ob }
 
 -- the goal's obligation is one of its line
-abbrev pub IsGoalOf : Pair → Goal → Type 0
+abbrev pub IsGoalOf : Pair → Goal Line → Type 0
 IsGoalOf b goal = IsObOf b goal.line (named_of b.set goal)
 
 -- a goal for each of these lines, in order
-pub record AreGoalsOf (b : Pair) (lines : List Line) (goals : List Goal) : Type 0 where
+pub record AreGoalsOf (b : Pair) (lines : List Line) (goals : List (Goal Line)) : Type 0 where
   pub lines_are : map line_of goals ≡ lines
   pub each : All (IsGoalOf b) goals
 
 -- goals of the lines that are asked for
-pub record Asks (b : Pair) (which : Which) (goals : List Goal) : Type 0 where
+pub record Asks (b : Pair) (which : Which) (goals : List (Goal Line)) : Type 0 where
   pub asked : AreAsked which b.set (map line_of goals)
   pub each : All (IsGoalOf b) goals
 
@@ -54,6 +54,6 @@ RefusesLines set which f.Keeper = (lines : List Line) × AreAsked which set line
 RefusesLines set which f.Memory = Unit {0}
 
 -- a goal of a line, decided
-pub record IsGoalDecided (budget : ℕ) (b : Pair) (d : Decided) : Type 0 where
+pub record IsGoalDecided (budget : ℕ) (b : Pair) (d : Decided Line) : Type 0 where
   pub of_line : IsGoalOf b d.goal
   pub shown : IsShown budget d.goal.ob d.evidence

@@ -52,7 +52,7 @@ pub record IsDecidedBy (Violated : Line → Type 0) (budget : ℕ) (b : Pair) (l
   pub says : Says (Violated line) d.verdict
 
 -- the line of the book tells how a goal was decided
-pub record Tells (b : Pair) (d : Decided) (told : Told) : Type 0 where
+pub record Tells (b : Pair) (d : Decided Line) (told : Told) : Type 0 where
   pub name : told.name ≡ line_name b.set d.goal.line
   pub ob : told.ob ≡ d.goal.ob
   pub evidence : told.evidence ≡ d.evidence

@@ -1,6 +1,7 @@
 -- Where the evidence of decided lines comes from, and what a keeper holds afterwards.
 use Rattle.std.specs.Prelude.{◌≡◌, ℕ, ◌+◌, ◌⊎◌, List, [], length, map, Option, IfSome}
 use Rattle.outside.specs.Tables.{Tables}
+use Rattle.set_tree.specs.declared.line.Line.{Line}
 use Rattle.word_dag.specs.Nodes.{Parts}
 use Rattle.binding.specs.Binding.{Pair}
 use Rattle.proof_store.specs.Counts.{FirstRose, draws_of}
@@ -38,7 +39,7 @@ pub record AreSettled (workers : ℕ) (book : Book) (before after : Option Table
 
 -- obligations of the lines that are asked for
 pub record AreObsOf (b : Pair) (which : Which) (obs : List Parts) : Type 0 where
-  pub goals : List Goal
+  pub goals : List (Goal Line)
   pub asked : Asks b which goals
   pub are : obs ≡ map ob_of goals
 

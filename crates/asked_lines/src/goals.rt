@@ -36,7 +36,7 @@ fn joined(
     bound: &Bound,
     lines: &[Line],
     obs: Vec<Named>,
-) -> Result<Vec<Goal>, AllocError>
+) -> Result<Vec<Goal<Line>>, AllocError>
     requires { AllZip (IsObOf bound.now) lines.now obs.items }
     ensures { IfOk result (λ goals. AreGoalsOf bound.now lines.now goals.items) }
 {
@@ -50,7 +50,7 @@ fn joined(
 }
 
 // A goal for each line on the design.
-fn design_goals(alloc: Global, bound: &Bound) -> Result<Vec<Goal>, AllocError>
+fn design_goals(alloc: Global, bound: &Bound) -> Result<Vec<Goal<Line>>, AllocError>
     ensures { IfOk result (λ goals. AreGoalsOf bound.now (design_lines bound.now.set) goals.items) }
 {
     let lines = design_lines(alloc, bound.set().set())?;
@@ -59,7 +59,7 @@ fn design_goals(alloc: Global, bound: &Bound) -> Result<Vec<Goal>, AllocError>
 }
 
 // A goal for each line.
-fn all_goals(alloc: Global, bound: &Bound) -> Result<Vec<Goal>, AllocError>
+fn all_goals(alloc: Global, bound: &Bound) -> Result<Vec<Goal<Line>>, AllocError>
     ensures { IfOk result (λ goals. AreGoalsOf bound.now (all_lines bound.now.set) goals.items) }
 {
     let lines = all_lines(alloc, bound)?;
@@ -75,7 +75,7 @@ fn has_name(alloc: Global, set: &Set, line: Line, name: &[u8]) -> Result<bool, A
     Ok(own.bytes() == name)
 }
 
-fn only(alloc: Global, goal: Goal) -> Result<Vec<Goal>, AllocError>
+fn only(alloc: Global, goal: Goal<Line>) -> Result<Vec<Goal<Line>>, AllocError>
     ensures { IfOk result (λ goals. goals.items ≡ goal ∷ []) }
 {
     let mut goals = Vec::new(alloc);
@@ -84,7 +84,7 @@ fn only(alloc: Global, goal: Goal) -> Result<Vec<Goal>, AllocError>
 }
 
 // The goal of the line of this name.
-fn one_goal(alloc: Global, bound: &Bound, name: &Text) -> Result<Vec<Goal>, LineFault>
+fn one_goal(alloc: Global, bound: &Bound, name: &Text) -> Result<Vec<Goal<Line>>, LineFault>
     ensures ok { IfOk result (λ goals. Asks bound.now (One name.now) goals.items) }
     ensures err { IfErr result (LacksLine bound.now.set (One name.now)) }
 {
@@ -103,7 +103,7 @@ pub(crate) fn asked_goals(
     alloc: Global,
     bound: &Bound,
     which: &Which,
-) -> Result<Vec<Goal>, LineFault>
+) -> Result<Vec<Goal<Line>>, LineFault>
     ensures ok { IfOk result (λ goals. Asks bound.now which.now goals.items) }
     ensures err { IfErr result (LacksLine bound.now.set which.now) }
 {
