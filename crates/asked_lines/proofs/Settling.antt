@@ -26,7 +26,7 @@ line_obs_of [] = refl
 line_obs_of (l ∷ ls) = ap (λ (os : List Parts). l.ob ∷ os) (line_obs_of ls)
 
 -- the lines of a book that tell what was settled of goals
-module _ (budget workers : ℕ) (goals : List (Goal Line)) (ds : List (Decided Line)) (book : Book) (zipped : AllZip (IsDecided budget) goals ds) (same : map ended_of book.lines.items ≡ map ended ds) where
+module _ {L : Type 0} (budget workers : ℕ) (goals : List (Goal L)) (ds : List (Decided L)) (book : Book) (zipped : AllZip (IsDecided budget) goals ds) (same : map ended_of book.lines.items ≡ map ended ds) where
   obs : map ob_of goals ≡ map line_ob book.lines.items
   obs = sym (line_obs_of book.lines.items ∙ (ap (map ended_ob) same ∙ same_obs budget goals ds zipped))
 

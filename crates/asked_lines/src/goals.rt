@@ -75,7 +75,8 @@ fn has_name(alloc: Global, set: &Set, line: Line, name: &[u8]) -> Result<bool, A
     Ok(own.bytes() == name)
 }
 
-fn only(alloc: Global, goal: Goal<Line>) -> Result<Vec<Goal<Line>>, AllocError>
+/// A goal alone. Refused for want of memory alone.
+pub fn only<L: Drop>(alloc: Global, goal: Goal<L>) -> Result<Vec<Goal<L>>, AllocError>
     ensures { IfOk result (λ goals. goals.items ≡ goal ∷ []) }
 {
     let mut goals = Vec::new(alloc);

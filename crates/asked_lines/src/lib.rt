@@ -9,4 +9,5 @@ mod trace;
 
 pub use decide::decide_lines;
 pub use fault::LineFault;
+pub use goals::only;
 pub use law::{decided_of_modules, proved_lines_promise};

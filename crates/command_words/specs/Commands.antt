@@ -3,7 +3,7 @@ use Rattle.std.specs.Prelude.{ℕ, ◌<◌, ◌≤◌, List, [], ◌∷◌, code
 use Rattle.std.specs.Option.{option_map}
 use Rattle.std.specs.Str.{bytes_eq}
 use Rattle.command_words.specs.declared.action.Action.{Action}
-use Rattle.command_words.specs.declared.action.Action.TheVariants.{Ops, Check, Trace, Demo, Serve, Migrate}
+use Rattle.command_words.specs.declared.action.Action.TheVariants.{Ops, Check, Trace, Meet, Demo, Serve, Migrate}
 use Rattle.command_words.specs.declared.action.Asked.{Asked}
 use Rattle.command_words.specs.declared.action.Asked.TheVariants as a
 use Rattle.command_words.specs.declared.action.Command.{Command}
@@ -42,12 +42,14 @@ abbrev pub serve_of : Choices → List ℕ → List ℕ → List ℕ → Option 
 serve_of choices port count file =
     if is_none choices.store then serve_within (number_within 1 65535 port) (number_within 1 1000000 count) file choices else None
 
--- the plain words are two files, for a trace also the name of a line; for a generated check its number of stages; a port, a number of connections and
+-- the plain words are two files, for a trace also the name of a line, which may stand for what can be met too; for a generated check its number of stages; a port, a number of connections and
 -- a file; for a move of kept proofs one file
 abbrev pub with_plain_words : Action → Choices → List (List ℕ) → Option Command
 with_plain_words Ops choices (m ∷ s ∷ []) = texts_of a.Ops m s choices
 with_plain_words Check choices (m ∷ s ∷ []) = texts_of a.Check m s choices
 with_plain_words Trace choices (m ∷ s ∷ n ∷ []) = texts_of (a.Trace n) m s choices
+with_plain_words Meet choices (m ∷ s ∷ []) = texts_of (a.Meet None) m s choices
+with_plain_words Meet choices (m ∷ s ∷ n ∷ []) = texts_of (a.Meet (Some n)) m s choices
 with_plain_words Demo choices (n ∷ []) = demo_of choices n
 with_plain_words Serve choices (p ∷ n ∷ file ∷ []) = serve_of choices p n file
 with_plain_words Migrate choices (file ∷ []) = migrate_of choices file
@@ -62,6 +64,7 @@ action_of name =
     if bytes_eq name (codes "ops") then Some Ops
     else if bytes_eq name (codes "check") then Some Check
     else if bytes_eq name (codes "trace") then Some Trace
+    else if bytes_eq name (codes "meet") then Some Meet
     else if bytes_eq name (codes "demo") then Some Demo
     else if bytes_eq name (codes "serve") then Some Serve
     else if bytes_eq name (codes "migrate") then Some Migrate

@@ -7,6 +7,7 @@ pub enum Action {
     Ops,
     Check,
     Trace,
+    Meet,
     Demo,
     Serve,
     Migrate,
@@ -21,6 +22,8 @@ pub enum Asked {
     Check,
     /// The line of this name is, and its counterexample is shown.
     Trace(Text),
+    /// What can be met is, `reset` and the operations, or the one of this name, and the segment that meets it is shown.
+    Meet(Option<Text>),
 }
 
 /// What is asked, the names of the two files, the most steps of the solver for a line (1 to 10,000,000, 20,000 where no option says), how many

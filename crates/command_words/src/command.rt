@@ -19,6 +19,8 @@ fn action_of(name: &[u8]) -> Option<Action>
         Some(Action::Check)
     } else if name == b"trace".as_slice() {
         Some(Action::Trace)
+    } else if name == b"meet".as_slice() {
+        Some(Action::Meet)
     } else if name == b"demo".as_slice() {
         Some(Action::Demo)
     } else if name == b"serve".as_slice() {
@@ -164,6 +166,11 @@ fn with_plain_words(
             let line = Text::copy(alloc, line.bytes())?;
             texts_of(alloc, Asked::Trace(line), module, set, choices)
         }
+        (Action::Meet, [module, set]) => texts_of(alloc, Asked::Meet(None), module, set, choices),
+        (Action::Meet, [module, set, line]) => {
+            let line = Text::copy(alloc, line.bytes())?;
+            texts_of(alloc, Asked::Meet(Some(line)), module, set, choices)
+        }
         (Action::Demo, [stages]) => Ok(demo_of(choices, stages)),
         (Action::Serve, [port, count, file]) => serve_of(alloc, choices, port, count, file),
         (Action::Migrate, [file]) => migrate_of(alloc, choices, file),
@@ -200,7 +207,7 @@ pub fn command_in(alloc: Global, words: &[String]) -> Result<Option<Command>, Al
     }
 }
 
-/// What the command that words spell wants opened: the file of proofs that the option `--store` of `ops`, `check` and `trace` names, that `migrate` moves,
+/// What the command that words spell wants opened: the file of proofs that the option `--store` of `ops`, `check`, `trace` and `meet` names, that `migrate` moves,
 /// or that holds the desk of `serve`, and the port of `serve` with the seconds that its option `--timeout` gives a peer (10 where it gives none). Neither
 /// file nor port where the words are no command, or it names none. Refused only for want of memory.
 pub fn wants(alloc: Global, words: &[String]) -> Result<Wants, AllocError>

@@ -15,7 +15,8 @@ use proof_store::Prover;
 use reports::{Book, Report, Which, report_of};
 use std::thread::Threads;
 
-fn check_fault_of(fault: LineFault) -> CheckFault
+/// Why no lines were decided, as the fault of a check.
+pub fn check_fault_of(fault: LineFault) -> CheckFault
     ensures { result ≡ check_fault_of fault }
 {
     match fault {

@@ -15,13 +15,20 @@ use Rattle.line_designs.proofs.Carried.{reset_segment, segment, steps_to_modules
 use Rattle.meet_lines.specs.declared.line.MeetLine.{MeetLine}
 use Rattle.meet_lines.specs.declared.line.MeetLine.TheVariants.{Reset, Operation}
 use Rattle.meet_lines.specs.Laws.{MetLinesAreTheModules}
-use Rattle.meet_lines.specs.Lines.{IsMet}
+use Rattle.meet_lines.specs.Lines.{AreMeetingCycles, IsMet}
 
 carried : {A B : Type 0} (d : Design A) (e : Design B) (to : A → B) → ((a b : A) → d.follows a b → e.follows (to a) (to b)) → ((a : A) → e.is_reset (to a) ≡ d.is_reset a) → ((a : A) → e.row (to a) ≡ d.row a) →
     (m : Meaning) (set : Set) (line : MeetLine) → IsMet d m set line → IsMet e m set line
 carried d e to follows resets rows m set Reset (rs, cs, h) = (map to rs, map to cs, reset_segment d e to follows resets rows m set (largest_window set) rs cs h)
 carried d e to follows resets rows m set (Operation p) (cs, h, assumes) =
     (map to cs, segment d e to follows resets rows m set (window_of set p) cs h, ap (λ zs. assumed m set p zs) (trace d e to follows resets rows cs) ∙ assumes)
+
+-- carried cycles meet the line that they met
+pub meeting : {A B : Type 0} (d : Design A) (e : Design B) (to : A → B) → ((a b : A) → d.follows a b → e.follows (to a) (to b)) → ((a : A) → e.is_reset (to a) ≡ d.is_reset a) → ((a : A) → e.row (to a) ≡ d.row a) →
+    (m : Meaning) (set : Set) (line : MeetLine) (rs cs : List A) → AreMeetingCycles d m set line rs cs → AreMeetingCycles e m set line (map to rs) (map to cs)
+meeting d e to follows resets rows m set Reset rs cs h = reset_segment d e to follows resets rows m set (largest_window set) rs cs h
+meeting d e to follows resets rows m set (Operation p) rs cs (none, h, assumes) =
+    (ap (map to) none, segment d e to follows resets rows m set (window_of set p) cs h, ap (λ zs. assumed m set p zs) (trace d e to follows resets rows cs) ∙ assumes)
 
 -- ---- a design of words, and the modules
 

@@ -4,3 +4,6 @@ pub mod Largest
 pub mod Listing
 pub mod Obtaining
 pub mod Showing
+pub mod Finding
+pub mod Telling
+pub mod Bound

@@ -1,4 +1,4 @@
--- Segments in a longer dag, and obligations one after another.
+-- Segments in a longer dag, and goals one after another.
 use Rattle.std.proofs.Common.{◌≡◌, ℕ, ◌+◌, ◌<◌, ◌≤◌, List, [], ◌∷◌, ◌++◌, length, take, get_or, ap, ◌∙◌, subst, arith}
 use Rattle.std.specs.List.{AllZip}
 use Rattle.std.proofs.lemmas.List.{length-take-le}
@@ -6,7 +6,6 @@ use Rattle.set_tree.specs.declared.set.Set.{Set}
 use Rattle.set_tree.specs.Parts.{IsPosition, largest_window, window_of}
 use Rattle.completeness.proofs.Chain.{window-le}
 use Rattle.word_dag.specs.declared.node.Node.{Node}
-use Rattle.word_dag.specs.declared.ob.Named.{Named}
 use Rattle.word_dag.specs.Adding.{Grows, Keeps}
 use Rattle.word_design.specs.Designs.{IsDesign, Parts}
 use Rattle.segment_laws.specs.Tests.{rows_from, segment_rows}
@@ -20,7 +19,8 @@ use Rattle.word_names.specs.Names.{HasOneWidthEach}
 use Rattle.word_names.proofs.Taken.{widths_are_kept}
 use Rattle.meet_lines.specs.declared.line.MeetLine.{MeetLine}
 use Rattle.meet_lines.specs.declared.segments.Segments.{Segments}
-use Rattle.meet_lines.specs.Named.{IsNamedOf}
+use Rattle.meet_lines.specs.Goals.{IsGoalOf}
+use Rattle.proof_store.specs.declared.goal.Goal.{Goal}
 use Rattle.meet_lines.specs.Segments.{AreSegments}
 
 pub segments_later : (d : Parts) (set : Set) (a b : List Node) (segments : Segments) → Keeps a b → AreSegments d set a segments → AreSegments d set b segments
@@ -29,24 +29,24 @@ segments_later d set a b segments ab are = record {
   plain = shows_later a b set.names segments.plain.items _ ab are.plain;
 }
 
--- the obligations so far
-pub record ObsLoop (d : Parts) (set : Set) (nodes : List Node) (segments : Segments) (lines : List MeetLine) (obs : List Named) : Type 0 where
+-- the goals so far
+pub record GoalsLoop (d : Parts) (set : Set) (nodes : List Node) (segments : Segments) (lines : List MeetLine) (goals : List (Goal MeetLine)) : Type 0 where
   pub held : AreSegments d set nodes segments
-  pub each : AllZip (IsNamedOf d set) lines obs
+  pub each : AllZip (IsGoalOf d set) lines goals
   pub words : HasOneWidthEach nodes
 
--- no line has its obligation yet
-pub obs_begin : (d : Parts) (set : Set) (start nodes : List Node) (segments : Segments) (obs : List Named) → IsDesign d → start ≡ [] → AddsFrees (IsSourceWord d) start nodes → AreSegments d set nodes segments → obs ≡ [] → ObsLoop d set nodes segments [] obs
-obs_begin d set start nodes segments obs design empty frees held none = record {
+-- no line has its goal yet
+pub goals_begin : (d : Parts) (set : Set) (start nodes : List Node) (segments : Segments) (goals : List (Goal MeetLine)) → IsDesign d → start ≡ [] → AddsFrees (IsSourceWord d) start nodes → AreSegments d set nodes segments → goals ≡ [] → GoalsLoop d set nodes segments [] goals
+goals_begin d set start nodes segments goals design empty frees held none = record {
   held = held;
   each = rw none tt;
   words = source_widths d design start nodes empty frees;
 }
 
-pub obs_step : (d : Parts) (set : Set) (a b : List Node) (segments : Segments) (lines : List MeetLine) (obs new : List Named) (i : ℕ) (line : MeetLine) (named : Named) → Keeps a b → i < length lines → line ≡ get_or lines i line → new ≡ obs ++ named ∷ [] → IsNamedOf d set line named → ObsLoop d set a segments (take i lines) obs → ObsLoop d set b segments (take (i + 1) lines) new
-obs_step d set a b segments lines obs new i line named ab lt is made here before = record {
+pub goals_step : (d : Parts) (set : Set) (a b : List Node) (segments : Segments) (lines : List MeetLine) (goals new : List (Goal MeetLine)) (i : ℕ) (line : MeetLine) (goal : Goal MeetLine) → Keeps a b → i < length lines → line ≡ get_or lines i line → new ≡ goals ++ goal ∷ [] → IsGoalOf d set line goal → GoalsLoop d set a segments (take i lines) goals → GoalsLoop d set b segments (take (i + 1) lines) new
+goals_step d set a b segments lines goals new i line goal ab lt is made here before = record {
   held = segments_later d set a b segments ab before.held;
-  each = zip_more (IsNamedOf d set) lines i line obs new named lt is made here before.each;
+  each = zip_more (IsGoalOf d set) lines i line goals new goal lt is made here before.each;
   words = widths_are_kept a b ab before.words;
 }
 

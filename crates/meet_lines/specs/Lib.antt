@@ -4,3 +4,6 @@ pub mod Laws
 pub mod Segments
 pub mod Named
 pub mod Shown
+pub mod Goals
+pub mod Decided
+pub mod Meetings

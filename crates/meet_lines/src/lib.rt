@@ -1,10 +1,14 @@
 //! What can be met: which properties some run of a design starts, as obligations, and the segments that show it.
 #![tactic(auto)]
 
+mod decide;
+mod goals;
 mod laws;
 mod line;
+mod meeting;
 mod node;
 mod obs;
+mod report;
 mod segments;
 mod trace;
 
@@ -13,5 +17,6 @@ pub use laws::{
     tests_are_of_lines,
 };
 pub use line::{MeetLine, meet_lines_of, meet_name};
+pub use meeting::meet;
 pub use obs::meet_obs;
 pub use trace::meet_trace;

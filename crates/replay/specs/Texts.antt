@@ -36,6 +36,10 @@ abbrev pub tables : ℕ → Trace → Option Trace → List ℕ
 tables before first None = table before first
 tables before first (Some second) = codes "first" ++ (10 ∷ table before first) ++ (codes "second" ++ (10 ∷ table 0 second))
 
--- the whole text: the line that is refuted, the registers' first values, and the traces
+-- what is shown: the registers' first values, and the traces
+abbrev pub shown_text : Shown → List ℕ
+shown_text shown = start_lines shown.start ++ tables shown.before shown.first shown.second
+
+-- the whole text: the line that is refuted, and what is shown of it
 abbrev pub trace_text : List ℕ → Shown → List ℕ
-trace_text name shown = line (codes "refuted") (name ∷ []) ++ (start_lines shown.start ++ tables shown.before shown.first shown.second)
+trace_text name shown = line (codes "refuted") (name ∷ []) ++ shown_text shown

@@ -10,7 +10,7 @@ mod twin;
 mod values;
 mod window;
 
-pub use printing::{print_trace, trace_text};
+pub use printing::{print_trace, shown_text, trace_text};
 pub use segment::{Reach, replay, shown_segment};
 pub use shown::{Shown, Start, Trace};
 pub use twin::twin_trace;

@@ -3,7 +3,7 @@ ghost use Rattle.std.specs.Prelude.{◌≡◌, ◌∷◌, ◌++◌, [], ◌+◌,
 ghost use Rattle.std.specs.Fmt.{decimal};
 ghost use Rattle.word_dag.specs.Text.{line, spaced};
 ghost use Rattle.replay.specs.Puts.{Put, Refused};
-ghost use Rattle.replay.specs.Texts.{cycle_number, row_line, row_lines, start_line, start_lines, table, tables, trace_text};
+ghost use Rattle.replay.specs.Texts.{cycle_number, row_line, row_lines, shown_text, start_line, start_lines, table, tables, trace_text};
 
 use crate::put::{put, put_number, put_value, put_word};
 use crate::shown::{Shown, Start, Trace};
@@ -224,8 +224,8 @@ fn put_tables<S: Sink>(alloc: Global, sink: &mut S, shown: &Shown) -> Result<(),
 
 // What follows the first line.
 fn put_shown<S: Sink>(alloc: Global, sink: &mut S, shown: &Shown) -> Result<(), OutFault>
-    ensures ok { OnOk result (Put (S.written sink.old) (S.written sink.new) (S.faults sink.old) (S.faults sink.new) (start_lines shown.now.start ++ tables shown.now.before shown.now.first shown.now.second)) }
-    ensures err { IfErr result (λ e. Refused (S.written sink.old) (S.written sink.new) (S.faults sink.old) (S.faults sink.new) e (start_lines shown.now.start ++ tables shown.now.before shown.now.first shown.now.second)) }
+    ensures ok { OnOk result (Put (S.written sink.old) (S.written sink.new) (S.faults sink.old) (S.faults sink.new) (shown_text shown.now)) }
+    ensures err { IfErr result (λ e. Refused (S.written sink.old) (S.written sink.new) (S.faults sink.old) (S.faults sink.new) e (shown_text shown.now)) }
 {
     put_starts(alloc, sink, shown.start.as_slice())?;
     put_tables(alloc, sink, shown)
@@ -262,6 +262,17 @@ pub fn trace_text(alloc: Global, line: &[u8], shown: &Shown) -> Result<Text, All
 {
     let mut sink = MemSink::new(alloc, Vec::new(alloc));
     match print_trace(alloc, line, shown, &mut sink) {
+        Ok(()) => Text::copy(alloc, sink.bytes()),
+        Err(_) => Err(AllocError),
+    }
+}
+
+/// What follows the first line of a counterexample's text: the registers' first values, and the traces. Refused for want of memory alone.
+pub fn shown_text(alloc: Global, shown: &Shown) -> Result<Text, AllocError>
+    ensures { IfOk result (λ text. text ≡ shown_text shown.now) }
+{
+    let mut sink = MemSink::new(alloc, Vec::new(alloc));
+    match put_shown(alloc, &mut sink, shown) {
         Ok(()) => Text::copy(alloc, sink.bytes()),
         Err(_) => Err(AllocError),
     }

@@ -7,14 +7,14 @@ use Rattle.unroll.proofs.Rowing.{design_is}
 use Rattle.meet_lines.specs.declared.line.MeetLine.{MeetLine}
 use Rattle.meet_lines.specs.declared.line.MeetLine.TheVariants.{Reset}
 use Rattle.meet_lines.specs.Lines.{SpeaksOf, meet_lines}
-use Rattle.meet_lines.specs.Named.{IsNamedOf}
+use Rattle.meet_lines.specs.Goals.{IsGoalOf}
 use Rattle.meet_lines.specs.Segments.{AreSegments}
 use Rattle.meet_lines.proofs.Listing.{lines_speak}
-use Rattle.meet_lines.proofs.Obtaining.{obs_begin, obs_step}
-use Rattle.meet_lines.proofs.obs.meet_obs.Goals as goal
+use Rattle.meet_lines.proofs.Obtaining.{goals_begin, goals_step}
+use Rattle.meet_lines.proofs.goals.all_goals.Goals as goal
 
-pub named_ob-requires-clause-line : goal.named_ob-requires-clause-line
-named_ob-requires-clause-line c =
+pub goal_of-requires-clause-line : goal.goal_of-requires-clause-line
+goal_of-requires-clause-line c =
     let set = c.set-set.result.now in
     let items = c.deref-line-items.result.now in
     let lt : c.loop-line.line-index < length items = omega arith in
@@ -27,7 +27,7 @@ pub loop-line-init : goal.loop-line-init
 loop-line-init c =
     let b = c.args.bound.now in
     let design = design_is b.design c.design.result.now c.design.ensures.value c.dag-fit.ensures.design in
-    obs_begin b.design b.set _ c.segments_of.new.dag c.in_ok-segments.segments _ design c.new-dag.ensures c.in_ok-segments.ensures.frees c.in_ok-segments.ensures.segments c.in_ok-obs.ensures.items
+    goals_begin b.design b.set _ c.segments_of.new.dag c.in_ok-segments.segments _ design c.new-dag.ensures c.in_ok-segments.ensures.frees c.in_ok-segments.ensures.segments c.in_ok-goals.ensures.items
 
 pub loop-line-preserved : goal.loop-line-preserved
 loop-line-preserved c =
@@ -41,5 +41,5 @@ loop-line-preserved c =
     let segments = c.in_ok-segments.segments in
     let fits = subst (λ (z : Set). Fits b.design z) (sym same) c.design.ensures.fits in
     let are = subst (λ (z : Set). AreSegments b.design z c.loop-line.dag segments) (sym same) c.loop-line.invariant.held in
-    let here = subst (λ (z : Set). IsNamedOf b.design z line c.in_ok-named.named) same (c.in_ok-named.ensures.named b.design design fits are) in
-    obs_step b.design b.set c.loop-line.dag c.named_ob.new.dag segments items c.loop-line.obs.items c.push.new.self.items i line c.in_ok-named.named c.in_ok-named.ensures.keeps lt (get_again items i Reset lt) c.in_ok-push.ensures.items here c.loop-line.invariant
+    let here = subst (λ (z : Set). IsGoalOf b.design z line c.in_ok-goal.goal) same (c.in_ok-goal.ensures.goal b.design design fits are) in
+    goals_step b.design b.set c.loop-line.dag c.goal_of.new.dag segments items c.loop-line.goals.items c.push.new.self.items i line c.in_ok-goal.goal c.in_ok-goal.ensures.keeps lt (get_again items i Reset lt) c.in_ok-push.ensures.items here c.loop-line.invariant
