@@ -17,13 +17,13 @@ use Rattle.mem_flat.specs.Asked.{HasOwnValue, IsSpanEvaluable, HasEvaluableLeft,
 use Rattle.mem_flat.specs.Borrowed.{left_meant}
 use Rattle.mem_flat.proofs.Growing.{cut}
 
-lefts : (m : ℕ) (row : Row_of-Lval m) → row_parts_of row ≡ flat_map parts_of (items-the_row-Lval m row)
-lefts m end_of-Lval = refl
-lefts m (more_of-Lval a rest) = ap (λ xs. parts_of a ++ xs) (lefts _ rest)
+rows_parted : {m : _} (row : Row_of-Lval m) → row_parts_of row ≡ flat_map parts_of (items-the_row-Lval m row)
+rows_parted end_of-Lval = refl
+rows_parted (more_of-Lval a rest) = ap (λ xs. parts_of a ++ xs) (rows_parted rest)
 
 pub concat_parts : (xs ys : List Lval) (tree : Lval) → tree ≡ l.Concat xs → ys ≡ xs → flat_map parts_of ys ≡ parts_of tree
 concat_parts xs ys tree is same =
-    sym (ap parts_of is ∙ lefts _ (hidden-the_row-Lval-0 xs) ∙ ap (flat_map parts_of) (items_hidden-the_row-Lval-0 xs ∙ sym same))
+    sym (ap parts_of is ∙ rows_parted (hidden-the_row-Lval-0 xs) ∙ ap (flat_map parts_of) (items_hidden-the_row-Lval-0 xs ∙ sym same))
 
 -- ---- what is asked of each part
 
@@ -41,6 +41,9 @@ mutual
   rows_asked : {m : _} (v : List Entry) (row : Row_of-Lval m) → HaveEvaluableLefts v row → EachEvaluableLeft v (row_parts_of row)
   rows_asked v end_of-Lval h = tt
   rows_asked v (more_of-Lval a rest) h = append_asked v (parts_of a) (row_parts_of rest) (parts_asked v a h.0) (rows_asked v rest h.1)
+
+pub from_same : (v : List Entry) (q : Lval) (right : Expr) (n i j : ℕ) (r : Stmt) → i ≡ j → r ≡ part_store v q (bits_from right n i) → r ≡ part_store v q (bits_from right n j)
+from_same v q right n i j r e h = subst (λ (k : ℕ). r ≡ part_store v q (bits_from right n k)) e h
 
 -- ---- part-selects
 
@@ -99,6 +102,10 @@ module _ (v : List Entry) (xs : List (Bor Lval)) (i : ℕ) where
 
   pub none_left : length xs ≤ i → rest ≡ 0
   none_left le = ap (lefts_length v) (meant_end xs i le)
+
+  -- the bits of a part end where those of the later ones begin
+  pub later_is : (x : Bor Lval) (from n : ℕ) → i < length xs → x ≡ get_or xs i x → from ≡ rest → n ≡ part_length v x.now → from - n ≡ later
+  later_is x from n lt is e h = let k = rest_is x lt is in omega arith
 
   -- one more store
   pub stores_next : (n : ℕ) (right : Expr) (x : Bor Lval) (r : Stmt) (old new whole : List Stmt) → i < length xs → x ≡ get_or xs i x →

@@ -1,5 +1,5 @@
 -- Each form of an assignment by `<=`, as the code makes it.
-use Rattle.std.proofs.Common.{◌≡◌, ℕ, Bool, true, false, nat_eq, not, List, [], ◌∷◌, None, map, refl, sym, ap, ◌∙◌, if◌then◌else◌}
+use Rattle.std.proofs.Common.{◌≡◌, ℕ, Bool, true, false, nat_eq, not, List, [], ◌∷◌, None, map, refl, sym, ap, ◌∙◌, subst, if◌then◌else◌}
 use Rattle.std.specs.List.{list_any}
 use Rattle.vlog_tree.specs.declared.expr.Expr.{Expr}
 use Rattle.vlog_tree.specs.declared.expr.Name.{Name as Read}
@@ -33,6 +33,13 @@ turn_false : (t : Bool) → not t ≡ false → t ≡ true
 turn_false true h = refl
 turn_false false h = sym h
 
+-- the same right side, or the same index
+pub store_same : (v : List Entry) (q : Lval) (a b : Expr) (r : Stmt) → a ≡ b → r ≡ part_store v q a → r ≡ part_store v q b
+store_same v q a b r e h = subst (λ (z : Expr). r ≡ part_store v q z) e h
+
+pub index_same : (v : List Entry) (x : Read) (a b c right : Expr) (r : Stmt) → b ≡ c → r ≡ memory_store v x a b right → r ≡ memory_store v x a c right
+index_same v x a b c right r e h = subst (λ (z : Expr). r ≡ memory_store v x a z right) e h
+
 module _ (v : List Entry) where
   pub word_depth : (left : Lval) (x : Name) (a : Expr) → left ≡ l.Select x a → is_memory_word v left ≡ true → nat_eq (depth_of v (read x)) 0 ≡ false
   word_depth left x a is h = turn_true (nat_eq (depth_of v (read x)) 0) (sym (ap (is_memory_word v) is) ∙ h)
@@ -48,6 +55,9 @@ module _ (v : List Entry) where
       sym (ap (λ (t : Bool). if t then s.Nonblocking (l.Select x (spread v a)) right else memory_store v (read x) a (spread v a) right) (turn_false (nat_eq (depth_of v (read x)) 0) h))
   plain_part (l.Part x span a b) right h = refl
   plain_part (l.Concat' g row) right h = refl
+
+  pub plain_same : (left : Lval) (right : Expr) (r : Stmt) → is_memory_word v left ≡ false → r ≡ s.Nonblocking (spread_left v left) right → r ≡ part_store v left right
+  plain_same left right r h m = m ∙ plain_part left right h
 
   pub concat_block : (left : Lval) (right : Expr) (qs : List Lval) (r : Stmt) → qs ≡ parts_of left → list_any (is_memory_word v) qs ≡ true → r ≡ block_store v qs right → r ≡ concat_store v left right
   concat_block left right qs r e h m =

@@ -60,11 +60,12 @@ module _ (test : Lval → Bool) (ps : List Part) (i : ℕ) where
       by_test true = omega arith
       by_test false = refl
 
-  pub one_more : (p : Part) (n whole : ℕ) → i < length ps → p ≡ get_or ps i p → test (part_meant p) ≡ true → n + passing i ≡ whole → n + 1 + passing (i + 1) ≡ whole
-  one_more p n whole lt is h e = let k = counted p true lt is h in omega arith
+  fits : (t : Bool) (n r q rest whole : ℕ) → q ≡ cond t (1 + rest) rest → r ≡ cond t 1 0 → n + q ≡ whole → n + r + rest ≡ whole
+  fits true n r q rest whole e h k = omega arith
+  fits false n r q rest whole e h k = omega arith
 
-  pub no_more : (p : Part) (n whole : ℕ) → i < length ps → p ≡ get_or ps i p → test (part_meant p) ≡ false → n + passing i ≡ whole → n + passing (i + 1) ≡ whole
-  no_more p n whole lt is h e = let k = counted p false lt is h in omega arith
+  pub one_passed : (p : Part) (n r whole : ℕ) → i < length ps → p ≡ get_or ps i p → r ≡ cond (test (part_meant p)) 1 0 → n + passing i ≡ whole → n + r + passing (i + 1) ≡ whole
+  one_passed p n r whole lt is h e = fits (test (part_meant p)) n r (passing i) (passing (i + 1)) whole (counted p (test (part_meant p)) lt is refl) h e
 
   pub all_counted : (n whole : ℕ) → length ps ≤ i → n + passing i ≡ whole → n ≡ whole
   all_counted n whole le e =

@@ -224,7 +224,7 @@ module _ (f : Flat) where
   one_use : (q : Lval) → tally (one (is_use f)) (indexed_names q) ≡ one (is_indexed (memories_of f)) q
   one_use (l.Name x) = refl
   one_use (l.Select x a) =
-      let k : cond (is_memory f x) 1 0 ≡ cond (is_among (memories_of f) x) 1 0 = ap (λ (b : Bool). cond b 1 0) (memory_is f x) in
+      let k : one (is_use f) (record { name = x; index = a }) ≡ one (is_indexed (memories_of f)) (l.Select x a) = ap (λ (b : Bool). cond b 1 0) (memory_is f x) in
       omega arith
   one_use (l.Part x span a b) = refl
   one_use (l.Concat' g row) = refl

@@ -28,7 +28,7 @@ tally w [] = 0
 tally w (x ∷ xs) = w x + tally w xs
 
 pub tally_append : {A : Type 0} (w : A → ℕ) (xs ys : List A) → tally w (xs ++ ys) ≡ tally w xs + tally w ys
-tally_append w [] ys = refl
+tally_append w [] ys = omega arith
 tally_append w (x ∷ xs) ys = let h = tally_append w xs ys in omega arith
 
 pub tally_flat : {A B : Type 0} (w : B → ℕ) (f : A → List B) (xs : List A) → tally w (flat_map f xs) ≡ tally (λ x. tally w (f x)) xs
@@ -202,7 +202,7 @@ module _ {A : Type 0} (p : A → Bool) where
 
   finds : (xs : List A) (x : A) → Among xs x → p x ≡ true → 0 < tally one xs
   finds [] x h e = absurd h
-  finds (y ∷ ys) x (inl h) e = let k : cond (p y) 1 0 ≡ 1 = ap (λ (b : Bool). cond b 1 0) (ap p h ∙ e) in omega arith
+  finds (y ∷ ys) x (inl h) e = let k : one y ≡ 1 = ap (λ (b : Bool). cond b 1 0) (ap p h ∙ e) in omega arith
   finds (y ∷ ys) x (inr h) e = let k = finds ys x h e in omega arith
 
   pub has_same : (xs ys : List A) → tally one xs ≡ tally one ys → Has xs → Has ys

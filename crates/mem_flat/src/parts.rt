@@ -1,9 +1,10 @@
 // The parts of a left side and their lengths (IEEE 1364-2005, sections 5.1.14 and 9.2).
 
-ghost use Rattle.std.specs.Prelude.{◌≡◌, [], ◌∷◌, ◌++◌, ◌≤◌, ◌^◌, OnOk, IfOk, map, ℤ, pos, negsuc, ◌≤ℤ◌, ◌<ℤ◌};
+ghost use Rattle.std.specs.Prelude.{◌≡◌, [], ◌∷◌, ◌++◌, ◌≤◌, ◌^◌, OnOk, IfOk, map, min, ℤ, pos, negsuc, ◌≤ℤ◌, ◌<ℤ◌, ◌+ℤ◌, ◌-ℤ◌};
 ghost use Rattle.std.specs.List.{flat_map, list_any};
-ghost use Rattle.vlog_tree.specs.Value.{operand_of, own_integer, part_width};
+ghost use Rattle.vlog_tree.specs.Value.{operand_of, own_integer, natural, part_width};
 ghost use Rattle.elab_faults.specs.Drivers.{parts_of};
+ghost use Rattle.elab_drive.specs.Claims.{IsNear};
 ghost use Rattle.mem_laws.specs.Spread.{part_length, lefts_length, is_memory_word};
 ghost use Rattle.mem_flat.specs.Asked.{HasOwnValue, IsSpanEvaluable, HasEvaluableLeft, EachEvaluableLeft};
 ghost use Rattle.mem_flat.specs.Borrowed.{left_meant};
@@ -53,17 +54,35 @@ pub fn parts_of(alloc: Global, left: &Lval) -> Result<Vec<&Lval>, AllocError>
     Ok(all)
 }
 
+// `a - b + 1`
+fn distance(a: i128, b: i128) -> i128
+    requires first { IsNear a }
+    requires second { IsNear b }
+    ensures value { result ≡ ((a -ℤ b) +ℤ pos 1) }
+    ensures low { negsuc (2 ^ 66) ≤ℤ result }
+    ensures high { result <ℤ pos (2 ^ 66) }
+{
+    a - b + 1
+}
+
+// How many bits `[a:b]` has, of at most 64.
+fn fixed_width(a: i128, b: i128) -> u8
+    requires first { IsNear a }
+    requires second { IsNear b }
+    ensures { result ≡ min 64 (natural ((a -ℤ b) +ℤ pos 1)) }
+{
+    clipped(distance(a, b), 64)
+}
+
 // How many bits a part-select with these numbers has.
 fn part_width(span: Span, a: i128, b: i128) -> u8
-    requires a_low { negsuc (2 ^ 64) ≤ℤ a }
-    requires a_high { a <ℤ pos (2 ^ 64) }
-    requires b_low { negsuc (2 ^ 64) ≤ℤ b }
-    requires b_high { b <ℤ pos (2 ^ 64) }
+    requires first { IsNear a }
+    requires second { IsNear b }
     requires few { part_width span a b ≤ 64 }
     ensures { result ≡ part_width span a b }
 {
     match span {
-        Span::Fixed => clipped(a - b + 1, 64),
+        Span::Fixed => fixed_width(a, b),
         Span::Up => clipped(b, 64),
         Span::Down => clipped(b, 64),
     }

@@ -1,6 +1,6 @@
 // A module's memories and how its texts use them: what the faults are told by (IEEE 1364-2005, section 4.9).
 
-ghost use Rattle.std.specs.Prelude.{◌≡◌, ◌++◌, true, OnOk, IfOk, IfSome, IfNone, filter, length, map};
+ghost use Rattle.std.specs.Prelude.{◌≡◌, ◌≤◌, ◌++◌, if◌then◌else◌, true, OnOk, IfOk, IfSome, IfNone, filter, length, map};
 ghost use Rattle.std.specs.List.{flat_map, list_any};
 ghost use Rattle.vlog_tree.specs.declared.stmt.Lval.{Lval};
 ghost use Rattle.vlog_runs.specs.Places.{Name, Among};
@@ -135,6 +135,13 @@ fn is_indexed(part: Part<'_>, memories: &Names<'_>) -> bool
     }
 }
 
+fn uses_once(part: Part<'_>, memories: &Names<'_>) -> usize
+    ensures value { result ≡ (if is_indexed memories.now (part_meant part.entry) then 1 else 0) }
+    ensures most { result ≤ 1 }
+{
+    if is_indexed(part, memories) { 1 } else { 0 }
+}
+
 impl<'a> Survey<'a> {
     /// The memories of a module, and all uses of names in its texts. Refused only for want of memory.
     pub fn of(alloc: Global, flat: &'a Flat) -> Result<Survey<'a>, AllocError>
@@ -179,9 +186,7 @@ impl<'a> Survey<'a> {
     {
         let mut count = 0;
         for part in &self.uses {
-            if is_indexed(*part, &self.memories) {
-                count += 1;
-            }
+            count += uses_once(*part, &self.memories);
         }
         count
     }

@@ -6,6 +6,7 @@ ghost use Rattle.vlog_tree.specs.Valuation.{IsLength};
 ghost use Rattle.vlog_runs.specs.declared.flat.Signal.{Signal as Declared};
 ghost use Rattle.vlog_runs.specs.Places.{Name, Among};
 ghost use Rattle.flat_faults.specs.Declaring.{words_of};
+ghost use Rattle.flat_scopes.specs.Borrowed.{name_meant};
 ghost use Rattle.mem_laws.specs.Stands.{IsDeclaredTwice};
 ghost use Rattle.mem_flat.specs.Repeated.{entry_name, is_before, later_names};
 
@@ -37,11 +38,14 @@ fn is_before(first: Option<usize>, place: usize) -> bool
     }
 }
 
-// The names that stand a second time.
-fn repeated(alloc: Global, entries: &[Entry]) -> Result<Names<'_>, AllocError>
-    ensures { IfOk result (λ r. r ≡ later_names (map entry_name entries.now) 0 (map entry_name entries.now)) }
+// Those of the names of entries that stand in a list before their places.
+fn later_names<'a>(
+    alloc: Global,
+    entries: &'a [Entry],
+    names: &Names<'_>,
+) -> Result<Vec<&'a Text>, AllocError>
+    ensures { IfOk result (λ r. map name_meant r.items ≡ later_names names.now 0 (map entry_name entries.now)) }
 {
-    let names = names_of(alloc, entries)?;
     let mut all = Vec::new(alloc);
     for place in 0..entries.len() {
         let name = &entries[place].name;
@@ -49,7 +53,15 @@ fn repeated(alloc: Global, entries: &[Entry]) -> Result<Names<'_>, AllocError>
             all.push(name)?;
         }
     }
-    Names::of(alloc, all)
+    Ok(all)
+}
+
+// The names that stand a second time.
+fn repeated(alloc: Global, entries: &[Entry]) -> Result<Names<'_>, AllocError>
+    ensures { IfOk result (λ r. r ≡ later_names (map entry_name entries.now) 0 (map entry_name entries.now)) }
+{
+    let names = names_of(alloc, entries)?;
+    Names::of(alloc, later_names(alloc, entries, &names)?)
 }
 
 // The first of these names that stands among others.

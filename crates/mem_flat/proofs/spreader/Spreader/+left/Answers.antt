@@ -1,5 +1,6 @@
-use Rattle.std.proofs.Common.{◌≡◌, ◌<◌, length, Ok, refl, arith}
+use Rattle.std.proofs.Common.{◌≡◌, Ok, refl, rules}
 use Rattle.std.proofs.lemmas.Result.{IfOk-at_ok}
+use Rattle.vlog_tree.specs.declared.stmt.Lval.{the_lemmas}
 use Rattle.mem_flat.proofs.Lefts.{name_spread, select_spread, part_spread, concat_spread, select_asked, part_asked, concat_asked, each_asked}
 use Rattle.flat_move.proofs.Pairs.{made}
 use Rattle.mem_flat.proofs.spreader.Spreader.+left.Goals as goal
@@ -35,9 +36,7 @@ pub left-expr-requires-in-Part-2 : goal.left-expr-requires-in-Part-2
 left-expr-requires-in-Part-2 t c = (part_asked c.args.self.now.rest.now c.args.left.now c.in-Part.name c.in-Part.span c.in-Part.a c.in-Part.b c.in-Part.is c.requires).1
 
 pub left-lefts-requires : goal.left-lefts-requires
-left-lefts-requires t c = concat_asked c.args.self.now.rest.now c.args.left.now c.in-Concat.parts _ c.in-Concat.is c.as_slice.ensures c.requires
+left-lefts-requires t c = (search (rules, the_lemmas), concat_asked c.args.self.now.rest.now c.args.left.now c.in-Concat.parts _ c.in-Concat.is c.as_slice.ensures c.requires)
 
 pub lefts-left-requires : goal.lefts-left-requires
-lefts-left-requires t c =
-    let lt : c.loop-left.left-index < length c.args.lefts.now = omega (arith, c.loop-left-test.true) in
-    each_asked c.args.self.now.rest.now c.args.lefts.now c.loop-left.left-index c.left-item.result _ c.requires lt c.left-item.is
+lefts-left-requires t c = (search (rules, the_lemmas), each_asked c.args.self.now.rest.now c.args.lefts.now c.loop-left.left-index c.left-item.result _ c.requires c.loop-left-test.true c.left-item.is)

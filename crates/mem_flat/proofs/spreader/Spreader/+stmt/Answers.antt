@@ -1,7 +1,8 @@
-use Rattle.std.proofs.Common.{◌≡◌, Ok, refl}
+use Rattle.std.proofs.Common.{◌≡◌, Ok, refl, rules}
 use Rattle.std.proofs.lemmas.Result.{IfOk-weaker, IfOk-at_ok}
+use Rattle.vlog_tree.specs.declared.stmt.Stmt.{the_lemmas}
 use Rattle.vlog_tree.specs.declared.stmt.Stmt.TheVariants as s
-use Rattle.mem_flat.proofs.Stmts.{block_spread, case_spread, if_spread, if_else_spread, blocking_spread, nonblocking_spread}
+use Rattle.mem_flat.proofs.Stmts.{block_spread, case_spread, if_spread, if_else_spread, blocking_spread, nonblocking_spread, block_asked, if_asked, if_else_asked, case_asked, each_asked, each_case_asked}
 use Rattle.flat_move.proofs.Pairs.{made}
 use Rattle.mem_flat.proofs.spreader.Spreader.+stmt.Goals as goal
 
@@ -51,3 +52,30 @@ if_only-returns t c = λ z. s.If (made _ _ _ c.in_ok-condition.ensures.first c.e
 
 pub case-returns : goal.case-returns
 case-returns t c = λ z. s.Case c.args.kind (made _ _ _ c.in_ok-subject.ensures.first c.expr.ensures z) (made _ _ _ c.in_ok-subject.ensures.second c.cases.ensures z)
+
+pub stmt-block-requires : goal.stmt-block-requires
+stmt-block-requires t c = (search (rules, the_lemmas), block_asked c.args.self.now.rest.now _ _ _ _ c.in-Block.is c.as_slice.ensures c.requires)
+
+pub stmt-if_only-requires : goal.stmt-if_only-requires
+stmt-if_only-requires t c = (search (rules, the_lemmas), ((if_asked c.args.self.now.rest.now _ _ _ _ c.in-If.is c.get.ensures c.requires).1, (if_asked c.args.self.now.rest.now _ _ _ _ c.in-If.is c.get.ensures c.requires).0))
+
+pub stmt-branch-self-requires : goal.stmt-branch-self-requires
+stmt-branch-self-requires t c = (search (rules, the_lemmas), (if_else_asked c.args.self.now.rest.now _ _ _ _ _ _ c.in-IfElse.is c.get-in-IfElse.ensures refl c.requires).1)
+
+pub stmt-branch-self-requires-in-IfElse : goal.stmt-branch-self-requires-in-IfElse
+stmt-branch-self-requires-in-IfElse t c = (search (rules, the_lemmas), (if_else_asked c.args.self.now.rest.now _ _ _ _ _ _ c.in-IfElse.is c.get-in-IfElse.ensures c.get-in-IfElse-2.ensures c.requires).2)
+
+pub stmt-expr-requires : goal.stmt-expr-requires
+stmt-expr-requires t c = (if_else_asked c.args.self.now.rest.now _ _ _ _ _ _ c.in-IfElse.is c.get-in-IfElse.ensures c.get-in-IfElse-2.ensures c.requires).0
+
+pub stmt-case-requires : goal.stmt-case-requires
+stmt-case-requires t c = (search (rules, the_lemmas), ((case_asked c.args.self.now.rest.now _ _ _ _ _ c.in-Case.is c.as_slice-in-Case.ensures c.requires).1, (case_asked c.args.self.now.rest.now _ _ _ _ _ c.in-Case.is c.as_slice-in-Case.ensures c.requires).0))
+
+pub stmts-stmt-requires : goal.stmts-stmt-requires
+stmts-stmt-requires t c = (search (rules, the_lemmas), each_asked c.args.self.now.rest.now c.args.stmts.now c.loop-stmt.stmt-index c.stmt-item.result _ c.requires c.loop-stmt-test.true c.stmt-item.is)
+
+pub cases-labels-requires : goal.cases-labels-requires
+cases-labels-requires t c = (each_case_asked c.args.self.now.rest.now c.args.items.now c.loop-item.item-index c.item-item.result _ c.requires c.loop-item-test.true c.item-item.is).0
+
+pub cases-stmt-requires : goal.cases-stmt-requires
+cases-stmt-requires t c = (search (rules, the_lemmas), (each_case_asked c.args.self.now.rest.now c.args.items.now c.loop-item.item-index c.item-item.result _ c.requires c.loop-item-test.true c.item-item.is).1)

@@ -11,8 +11,8 @@ indexed_store-requires-clause-index c =
 pub indexed_store-requires-clause-ready : goal.indexed_store-requires-clause-ready
 indexed_store-requires-clause-ready c = (select_asked c.args.self.now.rest.now c.args.left.now c.in-Select.name c.in-Select.index c.in-Select.is c.requires.ready).1
 
-pub returns-in-Select : goal.returns-in-Select
-returns-in-Select c =
+pub returns : goal.returns
+returns c =
     IfOk-weaker c.indexed_store.result _ _
     (λ r h. word_part c.args.self.now.rest.now c.args.left.now c.in-Select.name c.in-Select.index c.args.right.now r c.in-Select.is c.requires.word h) c.indexed_store.ensures
 
