@@ -286,9 +286,9 @@ module _ (f : Flat) (x : Name) where
       elim (among_append by_assigns (any_clocked ++ any_other) x h) [
         | inl k ↦ let r = among_flat assign_names f.assigns x k in named_in (lefts_of f) r.0.left (append_left assign_lefts block_lefts r.0.left (map_among (λ (a : Assign). a.left) f.assigns r.0 r.1)) r.2
         | inr k ↦ elim (among_append any_clocked any_other x k) [
-            | inl m ↦ let r = blocked_is f x true v.Any m in of_block r.0 r.1 r.3
-            | inr m ↦ let r = blocked_is f x false v.Any m in of_block r.0 r.1 r.3
-          ]
+          | inl m ↦ let r = blocked_is f x true v.Any m in of_block r.0 r.1 r.3
+          | inr m ↦ let r = blocked_is f x false v.Any m in of_block r.0 r.1 r.3
+        ]
       ]
 
   pub is_assigned : Names (lefts_of f) x → Among (assigned_names f) x
@@ -329,12 +329,12 @@ module _ (f : Flat) (x : Name) where
       elim (among_append by_assigns (late ++ (early ++ put_off)) x h) [
         | inl k ↦ let r = among_flat assign_names f.assigns x k in inl (r.0, r.1, r.2)
         | inr k ↦ elim (among_append late (early ++ put_off) x k) [
-            | inl m ↦ let r = blocked_is f x true v.Blocking m in inr (r.0, r.1, inl r.3)
-            | inr m ↦ elim (among_append early put_off x m) [
-                | inl n ↦ let r = blocked_is f x false v.Blocking n in inr (r.0, r.1, inl r.3)
-                | inr n ↦ let r = blocked_is f x false v.Nonblocking n in inr (r.0, r.1, inr (r.2, r.3))
-              ]
+          | inl m ↦ let r = blocked_is f x true v.Blocking m in inr (r.0, r.1, inl r.3)
+          | inr m ↦ elim (among_append early put_off x m) [
+            | inl n ↦ let r = blocked_is f x false v.Blocking n in inr (r.0, r.1, inl r.3)
+            | inr n ↦ let r = blocked_is f x false v.Nonblocking n in inr (r.0, r.1, inr (r.2, r.3))
           ]
+        ]
       ]
 
   pub is_otherwise : IsAssignedOtherwise f x → Among (other_names f) x

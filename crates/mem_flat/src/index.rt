@@ -7,8 +7,8 @@ ghost use Rattle.flat_faults.specs.Texts.{names_in, row_names_in};
 ghost use Rattle.mem_laws.specs.Spread.{is_constant, is_fixed, named_words, read_words};
 ghost use Rattle.mem_flat.specs.Asked.{IsEvaluable};
 
-use std::alloc::{AllocError, Global};
 use sqlite_items::Items;
+use std::alloc::{AllocError, Global};
 use vlog_tree::{Expr, Valuation};
 use vlog_value::checked_own_value;
 

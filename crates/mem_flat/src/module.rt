@@ -91,7 +91,10 @@ impl Spreader<'_> {
     {
         let texts = both(self.assigns(flat.assigns.as_slice()), self.all_blocks(flat));
         let signals = all_holders(self.alloc, flat.signals.as_slice());
-        let ((signals, (assigns, blocks)), head) = both(both(signals, texts), copied_head(self.alloc, flat))?;
+        let ((signals, (assigns, blocks)), head) = both(
+            both(signals, texts),
+            copied_head(self.alloc, flat),
+        )?;
         Ok(Flat {
             signals,
             assigns,

@@ -124,13 +124,7 @@ impl Spreader<'_> {
     }
 
     // The part that gets the bits of a right side from one on.
-    fn bits_store(
-        &self,
-        part: &Lval,
-        right: &Expr,
-        width: u8,
-        from: u8,
-    ) -> Result<Stmt, AllocError>
+    fn bits_store(&self, part: &Lval, right: &Expr, width: u8, from: u8) -> Result<Stmt, AllocError>
         requires ready { HasEvaluableLeft self.now.rest.now part.now }
         ensures { IfOk result (λ r. r ≡ part_store self.now.rest.now part.now (bits_from right.now width from)) }
     {

@@ -12,7 +12,7 @@ returns-in-Some-clause-some c =
     let h = some_at c.first_named.result _ c.in-Some.name c.first_named.ensures.some c.in-Some.is in
     let e = c.in_ok-copy.ensures ∙ c.bytes.ensures in (
       subst (λ z. Among (flat_map words_of c.args.signals.now) z) (sym e)
-      (word_here c.args.signals.now c.loop-signal.signal-index c.signal-item.result c.loop-signal-test.true c.signal-item.is _ c.in-Some.name.now (c.as_slice.ensures ∙ c.in_ok-words.ensures) h.0),
+          (word_here c.args.signals.now c.loop-signal.signal-index c.signal-item.result c.loop-signal-test.true c.signal-item.is _ c.in-Some.name.now (c.as_slice.ensures ∙ c.in_ok-words.ensures) h.0),
       subst (λ z. Among c.args.names.now z) (sym e) h.1,
     )
 

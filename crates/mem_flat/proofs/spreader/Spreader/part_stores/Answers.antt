@@ -33,8 +33,8 @@ loop-part-preserved c =
       from = same;
       few = omega (arith, c.loop-part.invariant.few);
       stores =
-        stores_next v xs i c.args.width c.args.right.now x _ _ _ _ c.loop-part-test.true c.part-item.is
-        (from_same v x.now c.args.right.now c.args.width _ _ _ same c.in_ok-bits_store.ensures) c.in_ok-push.ensures.ok c.loop-part.invariant.stores;
+          stores_next v xs i c.args.width c.args.right.now x _ _ _ _ c.loop-part-test.true c.part-item.is
+          (from_same v x.now c.args.right.now c.args.width _ _ _ same c.in_ok-bits_store.ensures) c.in_ok-push.ensures.ok c.loop-part.invariant.stores;
     }
 
 pub returns : goal.returns

@@ -6,8 +6,8 @@ use Rattle.mem_flat.proofs.survey.Survey.indexed.Goals as goal
 
 pub loop-part-preserved : goal.loop-part-preserved
 loop-part-preserved c = (
-    one_passed (is_indexed c.args.self.now.memories) c.deref-part-items.result.now c.loop-part.part-index c.part-item.result _ _ _ c.loop-part-test.true c.part-item.is c.uses_once-count.ensures.value c.loop-part.invariant.0,
-    omega (arith, c.uses_once-count.ensures.most, c.loop-part.invariant.1),
+  one_passed (is_indexed c.args.self.now.memories) c.deref-part-items.result.now c.loop-part.part-index c.part-item.result _ _ _ c.loop-part-test.true c.part-item.is c.uses_once-count.ensures.value c.loop-part.invariant.0,
+  omega (arith, c.uses_once-count.ensures.most, c.loop-part.invariant.1),
 )
 
 pub returns : goal.returns

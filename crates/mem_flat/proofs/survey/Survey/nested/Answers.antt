@@ -8,10 +8,10 @@ use Rattle.mem_flat.proofs.survey.Survey.nested.Goals as goal
 
 pub returns-then-branch-clause-some : goal.returns-then-branch-clause-some
 returns-then-branch-clause-some c = (
-    part_meant c.part-item.result,
-    meant_at part_meant c.deref-part-items.result.now c.args.self.now.uses.items _ c.loop-part.part-index c.part-item.result c.loop-part-test.true c.part-item.is c.deref-part-items.ensures.value refl,
-    sym c.in_ok-is_nested.ensures ∙ c.if-branch.true,
-    sym c.name_of.ensures.name,
+  part_meant c.part-item.result,
+  meant_at part_meant c.deref-part-items.result.now c.args.self.now.uses.items _ c.loop-part.part-index c.part-item.result c.loop-part-test.true c.part-item.is c.deref-part-items.ensures.value refl,
+  sym c.in_ok-is_nested.ensures ∙ c.if-branch.true,
+  sym c.name_of.ensures.name,
 )
 
 pub loop-part-preserved : goal.loop-part-preserved
