@@ -5,3 +5,4 @@ pub mod Carried
 pub mod Fixing
 pub mod Starting
 pub mod Uniqueness
+pub mod Ordered

@@ -11,9 +11,12 @@ use Rattle.word_dag.specs.declared.node.Node.TheVariants.{Free, Const, Two, Not,
 use Rattle.word_dag.specs.Given.{AllFit, free_count}
 use Rattle.least_trace.specs.declared.words.Word.{Word}
 use Rattle.least_trace.specs.declared.bits.Bit.{Bit}
-use Rattle.least_trace.specs.Bits.{words_from, bits_down, bits_of, bit_in, Before}
+use Rattle.least_trace.specs.Bits.{words_from, bits_down, bits_of, InOrder, bit_in, Before}
+use Rattle.word_dag.specs.Nodes.{Parts}
+use Rattle.least_trace.specs.Least.{Satisfy, NoneBefore}
 use Rattle.least_trace.specs.Laws.{LeastIsOne}
 use Rattle.least_trace.proofs.Reading.{two_cases}
+use Rattle.least_trace.proofs.Ordered.{one_order}
 use Rattle.least_trace.proofs.Agreeing.{Same, Agree}
 use Rattle.least_trace.proofs.Carried.{All-left, All-right}
 
@@ -86,7 +89,7 @@ lists_same us vs k (Zext w x ∷ nodes) a f g e d = lists_same us vs k nodes a f
 lists_same us vs k (Sext w x ∷ nodes) a f g e d = lists_same us vs k nodes a f.1 g.1 e d
 lists_same us vs k (Mux w c x y ∷ nodes) a f g e d = lists_same us vs k nodes a f.1 g.1 e d
 
-pub one_least : LeastIsOne
+one_least : (ob : Parts) (bits : List Bit) (us vs : List ℕ) → InOrder ob.nodes bits → Satisfy ob us → NoneBefore ob bits us → Satisfy ob vs → NoneBefore ob bits vs → us ≡ vs
 one_least ob bits us vs order su nu sv nv = elim (compared bits us vs) [
   | inl x ↦ absurd (nv us su x)
   | inr y ↦ elim y [
@@ -97,3 +100,7 @@ one_least ob bits us vs order su nu sv nv = elim (compared bits us vs) [
         lists_same us vs 0 ob.nodes all su.fit sv.fit su.many sv.many
   ]
 ]
+
+pub found_one : LeastIsOne
+found_one ob us vs es fs f g =
+    one_least ob f.bits us vs f.order f.witness f.least g.witness (subst (λ bs. NoneBefore ob bs vs) (one_order ob.nodes g.bits f.bits g.order f.order) g.least)

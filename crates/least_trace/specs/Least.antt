@@ -89,10 +89,12 @@ pub record IsStopped (budget : ℕ) (ob : Parts) (us : List ℕ) (i : ℕ) (chai
   pub none_before : NoneBefore ob (take i bits) us
   pub spent : IsSpent budget ob bits us i chain
 
+-- what the search ends with, within a budget of steps for each bit
 abbrev pub IsLeastEnd : ℕ → Parts → LeastEnd → Type 0
 IsLeastEnd budget ob (Found values excluded) = IsFound ob values.items excluded.items
 IsLeastEnd budget ob (Stopped values bit chain) = IsStopped budget ob values.items bit chain.items
 
+-- an end that has the least values
 abbrev pub IsFoundEnd : LeastEnd → Type 0
 IsFoundEnd (Found values excluded) = Unit {0}
 IsFoundEnd (Stopped values bit chain) = ⊥

@@ -2,6 +2,7 @@
 use Rattle.std.specs.Prelude.{◌≡◌, ◌<◌, ◌+◌, ℕ, Option, Some, None, suc, zero, List, [], ◌∷◌, ◌++◌, length, map, take, drop, All, IsSomeAnd, slice_get, slice_index, slice_index_or}
 use Rattle.std.proofs.Common.{Vec, Global}
 use Rattle.clause_check.specs.declared.formula.Cnf.{Cnf}
+use Rattle.clause_check.specs.declared.formula.Step.{Step}
 use Rattle.word_dag.specs.declared.node.Node.{Node}
 use Rattle.word_dag.specs.Nodes.{Parts}
 use Rattle.cnf_build.specs.Lower.{netlist, ob_clauses, ob_bits}
@@ -9,7 +10,6 @@ use Rattle.cnf_build.specs.Built.{IsBits, Carries}
 use Rattle.least_trace.specs.declared.bits.Bit.{Bit}
 use Rattle.least_trace.specs.declared.ends.Excluded.{Excluded}
 use Rattle.least_trace.specs.declared.walk.Walk.{Walk}
-use Rattle.clause_check.specs.declared.formula.Step.{Step}
 use Rattle.least_trace.specs.Bits.{bit_in}
 use Rattle.least_trace.specs.Least.{IsSpent, Satisfy, NoneBefore, as_in, Excludes, ones_from, number_of}
 

@@ -12,4 +12,4 @@ mod words;
 
 pub use ends::{Excluded, LeastEnd};
 pub use finding::least;
-pub use laws::least_is_one;
+pub use laws::{least_is_one, order_is_one};

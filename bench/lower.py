@@ -1,0 +1,132 @@
+#!/usr/bin/env python3
+"""How much of a folder of RTL bin/lower puts into the subset, as Markdown tables.
+
+    lower.py FOLDER [PROGRAM]
+
+Each module of FOLDER with a clocked block is taken as a top, with the files in which the modules below it stand. PROGRAM is a build of
+signoff, by default the one that bin/signoff has: it tells which modules are read as they are, and which once they are lowered. Where there
+is none these two rows are left out: a module then counts where bin/lower writes it and iverilog takes what it wrote.
+"""
+import collections
+import os
+import re
+import signal
+import subprocess
+import sys
+import tempfile
+
+TOP = os.path.dirname(os.path.dirname(os.path.abspath(__file__)))
+MOST_SECONDS = 20
+REJECTED = 3
+SET = "block {top}; clock clk; reset rst high 1; input any; property reset {{ length 0; next all; }} operation all {{ length 1; next all; }}\n"
+CAUSES = [
+    ("does not contain module|is not part of the design", "a module below isn't in the folder"),
+    ("^includes? file|[Ii]nclude", "an include file isn't in the folder"),
+    ("is a latch", "a latch"),
+    ("several clocks|both edges", "several clocks, or both edges of one"),
+    ("clock of .* is no input|is read as a signal|clock is a bit", "a clock that is computed, or read as a signal"),
+    ("asynchronous reset of", "an asynchronous reset that is computed"),
+    (r"\$dffsr|\$aldff", "an asynchronous set and reset, or an asynchronous load"),
+    ("reads z|tristate|inout", "a tristate or an inout"),
+    ("bits; at most 64 fit|bits; less than", "a word of more than 64 bits"),
+    ("memory .* at most", "a memory with more than 4,096 bits"),
+    ("depends on itself", "a loop through a vector or a gate"),
+    ("no form in the subset", "another cell of yosys"),
+    ("iverilog: |yosys: ", "a text that iverilog or yosys rejects"),
+    ("seconds", f"more than {MOST_SECONDS} seconds"),
+]
+
+
+def ended(command):
+    """Status and what stderr or stdout says last; a command that takes too long is ended with what it started, and has no status."""
+    with subprocess.Popen(command, stdin=subprocess.DEVNULL, stdout=subprocess.PIPE, stderr=subprocess.STDOUT, text=True, errors="replace",
+                          start_new_session=True) as it:
+        try:
+            said = it.communicate(timeout=MOST_SECONDS)[0].strip().split("\n")
+        except subprocess.TimeoutExpired:
+            os.killpg(it.pid, signal.SIGKILL)
+            return None, "seconds"
+    return it.returncode, said[-1]
+
+
+def texts_in(folder):
+    """The Verilog files, each with its text without comments."""
+    for place, _, names in sorted(os.walk(folder)):
+        for name in sorted(names):
+            if name.endswith((".v", ".sv")):
+                with open(os.path.join(place, name), encoding="utf-8", errors="replace") as it:
+                    yield os.path.join(place, name), re.sub(r"//[^\n]*|/\*.*?\*/", " ", it.read(), flags=re.S)
+
+
+def modules_in(folder):
+    """The modules with their files, and those of them that have a clocked block."""
+    files, clocked = {}, []
+    for name, text in texts_in(folder):
+        for found in re.finditer(r"\bmodule\s+(\w+)(.*?)\bendmodule\b", text, flags=re.S):
+            files.setdefault(found.group(1), name)
+            if re.search(r"\balways(_ff)?\s*@\s*\(\s*(posedge|negedge)\b", found.group(2)):
+                clocked.append((found.group(1), name))
+    return files, clocked
+
+
+def lowered(top, name, files, made):
+    """Whether bin/lower writes the module, or why it doesn't; the files of modules below are added as they are missed."""
+    taken = [name]
+    while True:
+        status, said = ended([f"{TOP}/bin/lower", "-I", os.path.dirname(name), "-o", made, top] + taken)
+        missing = re.search(r"Module `\\+(\w+)'.* is not part of the design", said)
+        if not missing or files.get(missing.group(1), name) in taken:
+            return status == 0, said
+        taken.append(files[missing.group(1)])
+
+
+def is_read(program, top, text, room):
+    """Whether the program reads the module: it rejects the set then, or what the two make together."""
+    with open(f"{room}/all.set", "w", encoding="ascii") as it:
+        it.write(SET.format(top=top))
+    return ended([program, "check", text, f"{room}/all.set"])[0] != REJECTED
+
+
+def cause_of(said):
+    return next((cause for pattern, cause in CAUSES if re.search(pattern, said)), said)
+
+
+def table(head, rows):
+    print(f"| {' | '.join(head)} |\n|{'---|' * len(head)}")
+    for row in rows:
+        print(f"| {' | '.join(str(it) for it in row)} |")
+    print()
+
+
+def main(words):
+    if not 1 <= len(words) <= 2:
+        sys.exit(__doc__)
+    program = words[1] if len(words) > 1 else f"{TOP}/crates/signoff/out/signoff"
+    program = program if os.access(program, os.X_OK) else None
+    files, clocked = modules_in(words[0])
+    counts, causes = collections.Counter(), collections.Counter()
+    with tempfile.TemporaryDirectory(prefix="lower-bench-") as room:
+        for top, name in clocked:
+            made = f"{room}/made.v"
+            done, said = lowered(top, name, files, made)
+            if done and ended(["iverilog", "-g2005", "-t", "null", made])[0] != 0:
+                done, said = False, "iverilog rejects what was written"
+            counts["written"] += done
+            if program:
+                counts["as it is"] += is_read(program, top, name, room)
+                if done and not is_read(program, top, made, room):
+                    done, said = False, "written, but signoff rejects it"
+                counts["lowered"] += done
+            if not done:
+                causes[cause_of(said)] += 1
+                print(f"{top} in {name}: {said}", file=sys.stderr)
+    rows = [("with a clocked block", len(clocked)), ("written by bin/lower", counts["written"])]
+    if program:
+        rows += [("read by signoff as they are", counts["as it is"]), ("read by signoff once lowered", counts["lowered"])]
+    share = lambda count: f"{100 * count / max(1, len(clocked)):.0f} %"
+    table(("modules", "number", "share"), [(what, count, share(count)) for what, count in rows])
+    table(("cause of the rest", "number", "share"), [(cause, count, share(count)) for cause, count in causes.most_common()])
+
+
+if __name__ == "__main__":
+    main(sys.argv[1:])
