@@ -19,7 +19,11 @@ use std::alloc::{AllocError, Global};
 use std::thread::Threads;
 
 // The line of the book that tells how a goal was decided.
-fn line_of(alloc: Global, bound: &Bound, decided: Decided<set_tree::Line>) -> Result<Line, AllocError>
+fn line_of(
+    alloc: Global,
+    bound: &Bound,
+    decided: Decided<set_tree::Line>,
+) -> Result<Line, AllocError>
     requires { (budget : ℕ) × IsGoalDecided budget bound.now decided }
     ensures { IfOk result (Tells bound.now decided) }
 {
@@ -36,7 +40,11 @@ fn line_of(alloc: Global, bound: &Bound, decided: Decided<set_tree::Line>) -> Re
 }
 
 // Lines of the book.
-fn lines_of(alloc: Global, bound: &Bound, decided: Vec<Decided<set_tree::Line>>) -> Result<Vec<Line>, AllocError>
+fn lines_of(
+    alloc: Global,
+    bound: &Bound,
+    decided: Vec<Decided<set_tree::Line>>,
+) -> Result<Vec<Line>, AllocError>
     requires { (budget : ℕ) × All (IsGoalDecided budget bound.now) decided.items }
     ensures { IfOk result (λ lines. AllZip (Tells bound.now) decided.items lines.items) }
 {

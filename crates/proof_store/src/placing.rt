@@ -124,11 +124,7 @@ impl<'a, 'k, 'h, R: Threads + Sync, K: Keeper, H: Helper, G: Gate + Sync> Prover
     }
 
     // The place of a goal. The obligation of an open one goes to the end of those that are open.
-    fn place<L: Drop>(
-        &mut self,
-        goal: Goal<L>,
-        rest: &mut Vec<Ob>,
-    ) -> Result<Place<L>, StoreFault>
+    fn place<L: Drop>(&mut self, goal: Goal<L>, rest: &mut Vec<Ob>) -> Result<Place<L>, StoreFault>
         ensures placed { IfOk result (IsPlaced (kept_by K.tables self.old) goal) }
         ensures rest { IfOk result (λ place. rest.new.items ≡ opened place goal.ob rest.old.items) }
         ensures tables { kept_by K.tables self.new ≡ kept_by K.tables self.old }
