@@ -4,22 +4,23 @@ use Rattle.std.specs.Option.{option_map}
 use Rattle.std.specs.Str.{bytes_eq}
 use Rattle.command_words.specs.declared.action.Action.{Action}
 use Rattle.command_words.specs.declared.action.Action.TheVariants.{Ops, Check, Trace, Meet, Demo, Serve, Migrate}
-use Rattle.command_words.specs.declared.action.Asked.{Asked}
 use Rattle.command_words.specs.declared.action.Asked.TheVariants as a
 use Rattle.command_words.specs.declared.action.Command.{Command}
 use Rattle.command_words.specs.declared.action.Command.TheVariants as c
 use Rattle.command_words.specs.declared.action.Job.{Job}
 use Rattle.command_words.specs.declared.action.Service.{Service}
+use Rattle.command_words.specs.declared.action.Task.{Task}
+use Rattle.command_words.specs.declared.action.Task.TheVariants as t
 use Rattle.command_words.specs.Choices.{Choices, chosen, has_no_options, nothing, serves_by_default}
 use Rattle.command_words.specs.Numbers.{number_within}
 
 -- a job over two files, with what options leave out
-abbrev pub job_of : Asked → List ℕ → List ℕ → Choices → Job
-job_of asked m s c = record { asked = asked; «module» = m; set = s; budget = unwrap_or c.budget 20000; workers = unwrap_or c.workers 4; store = c.store }
+abbrev pub job_of : Task → List ℕ → List ℕ → Choices → Job
+job_of task m s c = record { task = task; «module» = m; set = s; budget = unwrap_or c.budget 20000; workers = unwrap_or c.workers 4; store = c.store }
 
 -- a check of two files takes no options of serving
-abbrev pub texts_of : Asked → List ℕ → List ℕ → Choices → Option Command
-texts_of asked m s choices = if serves_by_default choices then Some (c.Texts (job_of asked m s choices)) else None
+abbrev pub texts_of : Task → List ℕ → List ℕ → Choices → Option Command
+texts_of task m s choices = if serves_by_default choices then Some (c.Texts (job_of task m s choices)) else None
 
 -- a generated check takes no options
 abbrev pub demo_of : Choices → List ℕ → Option Command
@@ -45,11 +46,11 @@ serve_of choices port count file =
 -- the plain words are two files, for a trace also the name of a line, which may stand for what can be met too; for a generated check its number of stages; a port, a number of connections and
 -- a file; for a move of kept proofs one file
 abbrev pub with_plain_words : Action → Choices → List (List ℕ) → Option Command
-with_plain_words Ops choices (m ∷ s ∷ []) = texts_of a.Ops m s choices
-with_plain_words Check choices (m ∷ s ∷ []) = texts_of a.Check m s choices
-with_plain_words Trace choices (m ∷ s ∷ n ∷ []) = texts_of (a.Trace n) m s choices
-with_plain_words Meet choices (m ∷ s ∷ []) = texts_of (a.Meet None) m s choices
-with_plain_words Meet choices (m ∷ s ∷ n ∷ []) = texts_of (a.Meet (Some n)) m s choices
+with_plain_words Ops choices (m ∷ s ∷ []) = texts_of (t.Decide a.Ops) m s choices
+with_plain_words Check choices (m ∷ s ∷ []) = texts_of (t.Decide a.Check) m s choices
+with_plain_words Trace choices (m ∷ s ∷ n ∷ []) = texts_of (t.Decide (a.Trace n)) m s choices
+with_plain_words Meet choices (m ∷ s ∷ []) = texts_of (t.Meet None) m s choices
+with_plain_words Meet choices (m ∷ s ∷ n ∷ []) = texts_of (t.Meet (Some n)) m s choices
 with_plain_words Demo choices (n ∷ []) = demo_of choices n
 with_plain_words Serve choices (p ∷ n ∷ file ∷ []) = serve_of choices p n file
 with_plain_words Migrate choices (file ∷ []) = migrate_of choices file

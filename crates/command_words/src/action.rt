@@ -13,7 +13,7 @@ pub enum Action {
     Migrate,
 }
 
-/// What is asked of a module's text and a set's.
+/// Which lines of a report are asked for.
 #[derive(Drop)]
 pub enum Asked {
     /// The lines on the design are decided.
@@ -22,15 +22,22 @@ pub enum Asked {
     Check,
     /// The line of this name is, and its counterexample is shown.
     Trace(Text),
-    /// What can be met is, `reset` and the operations, or the one of this name, and the segment that meets it is shown.
+}
+
+/// What is done with a module's text and a set's.
+#[derive(Drop)]
+pub enum Task {
+    /// Lines of the report are decided.
+    Decide(Asked),
+    /// What can be met is: `reset` and each operation, or the one of this name, of which the segment that meets it is shown.
     Meet(Option<Text>),
 }
 
-/// What is asked, the names of the two files, the most steps of the solver for a line (1 to 10,000,000, 20,000 where no option says), how many
+/// What is done, the names of the two files, the most steps of the solver for a line (1 to 10,000,000, 20,000 where no option says), how many
 /// workers decide lines (1 to 64, 4 where no option says), and the file in which proofs are kept (none where no option says).
 #[derive(Drop)]
 pub struct Job {
-    pub asked: Asked,
+    pub task: Task,
     pub module: Text,
     pub set: Text,
     pub budget: u64,

@@ -3,7 +3,7 @@ ghost use Rattle.std.specs.Prelude.{◌≡◌, ◌≤◌, map, option_map, strin
 ghost use Rattle.command_words.specs.Commands.{HasBounds, IsBounded, action_of, command_of, demo_of, job_of, migrate_of, port_of, serve_of, service_of, store_of, texts_of, timeout_of, with_plain_words, IsServed};
 ghost use Rattle.command_words.specs.Seen.{AreBounded, choices_of};
 
-use crate::action::{Action, Asked, Command, Job, Service, Wants};
+use crate::action::{Action, Asked, Command, Job, Service, Task, Wants};
 use crate::choices::choices_in;
 use crate::chosen::Chosen;
 use crate::number::number_within;
@@ -35,13 +35,13 @@ fn action_of(name: &[u8]) -> Option<Action>
 // A job over two files.
 fn job_of(
     alloc: Global,
-    asked: Asked,
+    task: Task,
     module: &Text,
     set: &Text,
     choices: &Chosen,
 ) -> Result<Job, AllocError>
     requires { AreBounded (choices_of choices.now) }
-    ensures is { IfOk result (λ j. j ≡ job_of asked «module».now set.now (choices_of choices.now)) }
+    ensures is { IfOk result (λ j. j ≡ job_of task «module».now set.now (choices_of choices.now)) }
     ensures bounded { IfOk result HasBounds }
 {
     let store = match &choices.store {
@@ -49,7 +49,7 @@ fn job_of(
         Some(file) => Some(Text::copy(alloc, file.bytes())?),
     };
     Ok(Job {
-        asked,
+        task,
         module: Text::copy(alloc, module.bytes())?,
         set: Text::copy(alloc, set.bytes())?,
         budget: choices.budget.unwrap_or(20_000),
@@ -61,19 +61,19 @@ fn job_of(
 // A check of two files, which takes no options of serving.
 fn texts_of(
     alloc: Global,
-    asked: Asked,
+    task: Task,
     module: &Text,
     set: &Text,
     choices: &Chosen,
 ) -> Result<Option<Command>, AllocError>
     requires { AreBounded (choices_of choices.now) }
-    ensures is { IfOk result (λ o. o ≡ texts_of asked «module».now set.now (choices_of choices.now)) }
+    ensures is { IfOk result (λ o. o ≡ texts_of task «module».now set.now (choices_of choices.now)) }
     ensures bounded { IfOk result (λ o. IfSome o IsBounded) }
 {
     if !choices.serves_by_default() {
         return Ok(None);
     }
-    let job = job_of(alloc, asked, module, set, choices)?;
+    let job = job_of(alloc, task, module, set, choices)?;
     Ok(Some(Command::Texts(job)))
 }
 
@@ -160,16 +160,34 @@ fn with_plain_words(
     ensures bounded { IfOk result (λ o. IfSome o IsBounded) }
 {
     match (action, choices.plain.as_slice()) {
-        (Action::Ops, [module, set]) => texts_of(alloc, Asked::Ops, module, set, choices),
-        (Action::Check, [module, set]) => texts_of(alloc, Asked::Check, module, set, choices),
+        (Action::Ops, [module, set]) => texts_of(
+            alloc,
+            Task::Decide(Asked::Ops),
+            module,
+            set,
+            choices,
+        ),
+        (Action::Check, [module, set]) => texts_of(
+            alloc,
+            Task::Decide(Asked::Check),
+            module,
+            set,
+            choices,
+        ),
         (Action::Trace, [module, set, line]) => {
             let line = Text::copy(alloc, line.bytes())?;
-            texts_of(alloc, Asked::Trace(line), module, set, choices)
+            texts_of(
+                alloc,
+                Task::Decide(Asked::Trace(line)),
+                module,
+                set,
+                choices,
+            )
         }
-        (Action::Meet, [module, set]) => texts_of(alloc, Asked::Meet(None), module, set, choices),
+        (Action::Meet, [module, set]) => texts_of(alloc, Task::Meet(None), module, set, choices),
         (Action::Meet, [module, set, line]) => {
             let line = Text::copy(alloc, line.bytes())?;
-            texts_of(alloc, Asked::Meet(Some(line)), module, set, choices)
+            texts_of(alloc, Task::Meet(Some(line)), module, set, choices)
         }
         (Action::Demo, [stages]) => Ok(demo_of(choices, stages)),
         (Action::Serve, [port, count, file]) => serve_of(alloc, choices, port, count, file),

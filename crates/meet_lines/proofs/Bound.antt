@@ -37,7 +37,7 @@ use Rattle.asked_lines.specs.declared.fault.LineFault.{LineFault}
 use Rattle.asked_lines.specs.declared.fault.LineFault.TheVariants as l
 use Rattle.meet_lines.specs.declared.line.MeetLine.{MeetLine}
 use Rattle.meet_lines.specs.Decided.{AreDecided, AreObsOf, IsDecidedOn, IsLineOf, IsMetIn, IsTraceOf, ShowsModules}
-use Rattle.meet_lines.specs.Goals.{Asks, LacksLine, RefusesLines}
+use Rattle.meet_lines.specs.Goals.{Asks, LacksLine}
 use Rattle.meet_lines.specs.Lines.{IsMet}
 use Rattle.meet_lines.specs.Meetings.{AreDecidedOf, AreObsOfTexts, IsMeetReport, Refuses, RefusesAsked, is_complete, meet_text}
 use Rattle.meet_lines.specs.Shown.{ShowsMeeting}

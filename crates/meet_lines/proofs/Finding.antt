@@ -1,5 +1,5 @@
 -- Goals one after another, and the one of a name among them.
-use Rattle.std.proofs.Common.{◌≡◌, ℕ, zero, suc, ◌+◌, ◌<◌, Bool, true, false, List, [], ◌∷◌, ◌++◌, Some, length, get_or, refl, sym, ap, ap₂, ◌∙◌, subst, arith, append_assoc, append-nil}
+use Rattle.std.proofs.Common.{◌≡◌, ℕ, zero, suc, ◌<◌, Bool, true, false, List, [], ◌∷◌, ◌++◌, Option, Some, None, length, get_or, refl, sym, ap, ap₂, ◌∙◌, subst, arith, append_assoc, append-nil}
 use Rattle.std.specs.List.{All, AllZip, Contains}
 use Rattle.std.proofs.lemmas.List.Elements.{All-head, All-nil, All-push, All-tail}
 use Rattle.std.proofs.lemmas.Slice.Eq.{bytes_eq-Decides}
@@ -12,10 +12,9 @@ use Rattle.word_design.specs.Designs.{Parts}
 use Rattle.word_names.specs.Names.{HasOneWordEach}
 use Rattle.binding.specs.Binding.{Pair}
 use Rattle.proof_store.specs.declared.goal.Goal.{Goal}
-use Rattle.asked_lines.specs.declared.fault.LineFault.{LineFault}
 use Rattle.asked_lines.specs.declared.fault.LineFault.TheVariants as f
 use Rattle.meet_lines.specs.declared.line.MeetLine.{MeetLine}
-use Rattle.meet_lines.specs.Goals.{Asks, IsGoalOf, LacksLine, has_name}
+use Rattle.meet_lines.specs.Goals.{AreAsked, Asks, IsGoalOf, LacksLine, has_name}
 use Rattle.meet_lines.specs.Lines.{IsOf, SpeaksOf, meet_lines}
 use Rattle.meet_lines.specs.Named.{IsNamedOf, meet_name}
 
@@ -112,6 +111,10 @@ none_found d set name left loop none = (
 -- whether a line has a name, as it was asked
 pub named_so : (z set : Set) (asked name : List ℕ) (line : MeetLine) (said is : Bool) → z ≡ set → asked ≡ name → said ≡ has_name z asked line → said ≡ is → has_name set name line ≡ is
 named_so z set asked name line said is same same_name says so = sym (ap₂ (λ (y : Set) (x : List ℕ). has_name y x line) same same_name) ∙ (sym says ∙ so)
+
+-- where no name is asked for, all are
+pub asks_all : (b : Pair) (name : Option (List ℕ)) (goals : List (Goal MeetLine)) → name ≡ None → AllZip (IsGoalOf b.design b.set) (meet_lines b.set) goals → Asks b name goals
+asks_all b name goals none each = record { lines = meet_lines b.set; asked = subst (λ (z : Option (List ℕ)). AreAsked z b.set (meet_lines b.set)) (sym none) refl; each = each }
 
 -- ---- obligations under their names
 

@@ -1,5 +1,5 @@
 -- What `meet` gives of two texts, and why it refuses.
-use Rattle.std.specs.Prelude.{◌≡◌, ℕ, ◌&&◌, ◌++◌, Bool, true, false, List, [], ◌∷◌, codes, map, Option, Some, None, if◌then◌else◌}
+use Rattle.std.specs.Prelude.{◌≡◌, ℕ, ◌++◌, Bool, true, false, List, [], ◌∷◌, codes, map, Option, Some, None, if◌then◌else◌}
 use Rattle.std.specs.List.{AllZip, flat_map, list_all}
 use Rattle.set_tree.specs.declared.set.Set.{Set}
 use Rattle.word_dag.specs.Nodes.{Parts}
@@ -14,7 +14,6 @@ use Rattle.reports.specs.declared.book.Line.{Line as Told}
 use Rattle.reports.specs.declared.book.Verdict.{Verdict}
 use Rattle.reports.specs.declared.book.Verdict.TheVariants as v
 use Rattle.reports.specs.declared.report.Report.{Report}
-use Rattle.asked_lines.specs.declared.fault.LineFault.{LineFault}
 use Rattle.asked_lines.specs.declared.fault.LineFault.TheVariants as l
 use Rattle.meet_lines.specs.declared.line.MeetLine.{MeetLine}
 use Rattle.meet_lines.specs.Decided.{AreDecided, AreObsOf, IsLineOf}

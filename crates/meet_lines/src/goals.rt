@@ -89,8 +89,8 @@ pub(crate) fn asked_goals(
     bound: &Bound,
     name: Option<&Text>,
 ) -> Result<Vec<Goal<MeetLine>>, LineFault>
-    ensures ok { IfOk result (λ goals. Asks bound.now (option_map (λ n. n.now) name) goals.items) }
-    ensures err { IfErr result (LacksLine bound.now.set (option_map (λ n. n.now) name)) }
+    ensures ok { IfOk result (λ goals. Asks bound.now (option_map (λ n. n.now) name.entry) goals.items) }
+    ensures err { IfErr result (LacksLine bound.now.set (option_map (λ n. n.now) name.entry)) }
 {
     match name {
         None => Ok(all_goals(alloc, bound)?),

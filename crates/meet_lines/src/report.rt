@@ -105,9 +105,9 @@ pub(crate) fn report_of(
     name: Option<&Text>,
     lines: &[Line],
 ) -> Result<Report, AllocError>
-    ensures text { IfOk result (λ r. r.text ≡ meet_text (option_map (λ n. n.now) name) lines.now) }
+    ensures text { IfOk result (λ r. r.text ≡ meet_text (option_map (λ n. n.now) name.entry) lines.now) }
     ensures verdicts { IfOk result (λ r. r.verdicts.items ≡ map (λ l. l.verdict) lines.now) }
-    ensures complete { IfOk result (λ r. r.complete ≡ is_complete (option_map (λ n. n.now) name) lines.now) }
+    ensures complete { IfOk result (λ r. r.complete ≡ is_complete (option_map (λ n. n.now) name.entry) lines.now) }
 {
     let text = match name {
         None => all_text(alloc, lines)?,

@@ -18,30 +18,35 @@ use Rattle.reports.specs.declared.report.Report.{Report}
 use Rattle.reports.specs.declared.which.Which.{Which}
 use Rattle.reports.specs.declared.which.Which.TheVariants as w
 use Rattle.asked_lines.specs.Settled.{AddsProofsOf}
-use Rattle.desk_core.specs.Checks.{AreObsOfTexts, Refuses}
+use Rattle.reports.specs.Lines.{is_proved}
+use Rattle.desk_core.specs.Checks.{AreObsOfTexts, IsReport, Refuses}
+use Rattle.meet_lines.specs.Meetings.{AreObsOfTexts as AreMeetObsOfTexts, IsMeetReport, Refuses as RefusesMeet}
 use Rattle.http_connection.specs.declared.serve.ServeFault.{ServeFault}
 use Rattle.http_connection.specs.declared.serve.ServeFault.TheVariants.{Memory, Next}
 use Rattle.desk_http.specs.Serving.{Line as Wires, ServesMany, ServesQuota, State, StopsWithin, none}
 use Rattle.demo_gen.specs.Texts.{module_text, set_text}
+use Rattle.command_words.specs.declared.action.Asked.{Asked}
 use Rattle.command_words.specs.declared.action.Command.{Command}
 use Rattle.command_words.specs.declared.action.Command.TheVariants as c
 use Rattle.command_words.specs.declared.action.Job.{Job}
 use Rattle.command_words.specs.declared.action.Service.{Service}
+use Rattle.command_words.specs.declared.action.Task.{Task}
+use Rattle.command_words.specs.declared.action.Task.TheVariants as t
 use Rattle.signoff_call.specs.declared.answer.Answer.{Answer}
 use Rattle.signoff_call.specs.declared.files.Read.{Read}
 use Rattle.signoff_call.specs.declared.files.Read.TheVariants.{Both, NoModule, NoSet}
-use Rattle.signoff_call.specs.Run.{Answers, AnswersJob, AnswersMove, AnswersService, AnswersTexts, AppendsPrefix, Around, Delivers, IsRead, LeavesRead, LeavesRows, LeavesServed, LeavesTexts, Reads, RefusesBy, RefusesTexts, ReportsTexts, Stores, around, done, is_refuted, is_spent, limits_for, moved_text, quota_of, refusal, refused_status, report_bytes, reported, served_text, stores, stores_of, summary, which_of}
+use Rattle.signoff_call.specs.Run.{Answers, AnswersJob, AnswersMeet, AnswersMove, AnswersService, AnswersTask, AnswersTexts, AppendsPrefix, AreObsOfTask, Around, Delivers, IsRead, LeavesRead, LeavesRows, LeavesServed, LeavesTexts, Reads, RefusesBy, RefusesTexts, ReportsTexts, Stores, around, done, is_refuted, is_spent, limits_for, met, moved_text, quota_of, refusal, refused_status, report_bytes, reported, served_text, stores, stores_of, summary, which_of}
 
 pub both_answered : {E : Type 0} (r : Result Answer E) (j : Job) (read : Read) (m s : List ℕ) (book : Book) (st : Stores) → read ≡ Both m s →
-    IfOk r (AnswersTexts m s (which_of j.asked) j.budget j.workers (report_bytes j.asked book.lines.items) book st) → IfOk r (AnswersJob j read book st)
+    IfOk r (AnswersTask j.task m s j.budget j.workers book st) → IfOk r (AnswersJob j read book st)
 both_answered r j read m s book st is h = subst (λ (z : Read). IfOk r (AnswersJob j z book st)) (sym is) h
 
-pub turned_answered : {E : Type 0} (r : Result Answer E) (m s : List ℕ) (which : Which) (budget workers : ℕ) (said : Report → List ℕ) (book : Book) (st : Stores) (fault : CheckFault) →
-    Refuses m s which fault → book.lines.items ≡ [] → AddsProofsOf (AreObsOfTexts m s which) st.before st.after → IfOk r (λ _. fault ≢ f.Memory) →
-    IfOk r (λ a. a ≡ refusal (status_of fault) (fault_line fault)) → IfOk r (AnswersTexts m s which budget workers said book st)
-turned_answered (Ok a) m s which budget workers said book st fault refuses empty left memory line =
+pub turned_answered : {E : Type 0} (r : Result Answer E) (Refuses : CheckFault → Type 0) (OfCall : List Parts → Type 0) (Reports : Answer → Type 0) (book : Book) (st : Stores) (fault : CheckFault) →
+    Refuses fault → book.lines.items ≡ [] → AddsProofsOf OfCall st.before st.after → IfOk r (λ _. fault ≢ f.Memory) →
+    IfOk r (λ a. a ≡ refusal (status_of fault) (fault_line fault)) → IfOk r (λ a. RefusesTexts Refuses OfCall book st a ⊎ Reports a)
+turned_answered (Ok a) Refuses OfCall Reports book st fault refuses empty left memory line =
     inl (record { fault = fault; refuses = refuses; no_memory = memory; empty = empty; left = left; answer_is = line })
-turned_answered (Err e) m s which budget workers said book st fault refuses empty left memory line = tt
+turned_answered (Err e) Refuses OfCall Reports book st fault refuses empty left memory line = tt
 
 -- the texts and what is asked, by other names
 pub left_of : (m n s t : List ℕ) (which other : Which) (before after : Option Tables) → m ≡ n → s ≡ t → which ≡ other → AddsProofsOf (AreObsOfTexts m s which) before after →
@@ -50,6 +55,11 @@ left_of m n s t which other before after module_is set_is which_is h =
     subst (λ (w : Which). AddsProofsOf (AreObsOfTexts n t w) before after) which_is
     (subst (λ (z : List ℕ). AddsProofsOf (AreObsOfTexts n z which) before after) set_is
     (subst (λ (z : List ℕ). AddsProofsOf (AreObsOfTexts z s which) before after) module_is h))
+
+pub left_met : (m n s t : List ℕ) (name : Option (List ℕ)) (before after : Option Tables) → m ≡ n → s ≡ t → AddsProofsOf (AreMeetObsOfTexts m s name) before after → AddsProofsOf (AreMeetObsOfTexts n t name) before after
+left_met m n s t name before after module_is set_is h =
+    subst (λ (z : List ℕ). AddsProofsOf (AreMeetObsOfTexts n z name) before after) set_is
+    (subst (λ (z : List ℕ). AddsProofsOf (AreMeetObsOfTexts z s name) before after) module_is h)
 
 -- of the faults only a keeper's has the status 8
 is_keeper : (fault : CheckFault) (P : Type 0) → (fault ≡ f.Keeper → P) → status_of fault ≡ 8 → P
@@ -74,6 +84,27 @@ no_8 false false n eight h = let is : 0 ≡ n = h in omega arith
 pub reported_keeper : (a : Answer) (vs : List Verdict) (bytes : List ℕ) (P : Type 0) → a ≡ reported vs bytes → a.status ≡ 8 → P
 reported_keeper a vs bytes P same is = absurd (no_8 (list_any is_refuted vs) (list_any is_spent vs) a.status is (sym (ap (λ (z : Answer). z.status) same)))
 
+pub met_keeper : (a : Answer) (r : Report) (P : Type 0) → a ≡ met r → a.status ≡ 8 → P
+met_keeper a r P same is = absurd (no_8 (list_any is_proved r.verdicts.items) (list_any is_spent r.verdicts.items) a.status is (sym (ap (λ (z : Answer). z.status) same)))
+
+-- ---- what is done with two texts
+
+pub decide_answered : {E : Type 0} (r : Result Answer E) (task : Task) (asked : Asked) (m s : List ℕ) (budget workers : ℕ) (book : Book) (st : Stores) → task ≡ t.Decide asked →
+    IfOk r (AnswersTexts m s (which_of asked) budget workers (report_bytes asked book.lines.items) book st) → IfOk r (AnswersTask task m s budget workers book st)
+decide_answered r task asked m s budget workers book st is h = subst (λ (z : Task). IfOk r (AnswersTask z m s budget workers book st)) (sym is) h
+
+pub meet_answered : {E : Type 0} (r : Result Answer E) (task : Task) (name other : Option (List ℕ)) (m s : List ℕ) (budget workers : ℕ) (book : Book) (st : Stores) → task ≡ t.Meet name → other ≡ name →
+    IfOk r (AnswersMeet m s other budget workers book st) → IfOk r (AnswersTask task m s budget workers book st)
+meet_answered r task name other m s budget workers book st is same h =
+    subst (λ (z : Task). IfOk r (AnswersTask z m s budget workers book st)) (sym is) (subst (λ (z : Option (List ℕ)). IfOk r (AnswersMeet m s z budget workers book st)) same h)
+
+pub decide_left : (task : Task) (asked : Asked) (m s : List ℕ) (before after : Option Tables) → task ≡ t.Decide asked → AddsProofsOf (AreObsOfTexts m s (which_of asked)) before after → AddsProofsOf (AreObsOfTask task m s) before after
+decide_left task asked m s before after is h = subst (λ (z : Task). AddsProofsOf (AreObsOfTask z m s) before after) (sym is) h
+
+pub meet_left : (task : Task) (name other : Option (List ℕ)) (m s : List ℕ) (before after : Option Tables) → task ≡ t.Meet name → other ≡ name → AddsProofsOf (AreMeetObsOfTexts m s other) before after → AddsProofsOf (AreObsOfTask task m s) before after
+meet_left task name other m s before after is same h =
+    subst (λ (z : Task). AddsProofsOf (AreObsOfTask z m s) before after) (sym is) (subst (λ (z : Option (List ℕ)). AddsProofsOf (AreMeetObsOfTexts m s z) before after) same h)
+
 -- ---- what nothing adds
 
 told_none : (t : Option Tables) → Told (AddsProofs []) t t
@@ -86,10 +117,10 @@ adds_none OfCall t = ([], inl refl, told_none t)
 pub read_none : (j : Job) (read : Read) (t : Option Tables) → LeavesRead j read t t
 read_none j NoModule t = refl
 read_none j NoSet t = refl
-read_none j (Both m s) t = adds_none (AreObsOfTexts m s (which_of j.asked)) t
+read_none j (Both m s) t = adds_none (AreObsOfTask j.task m s) t
 
 -- what comes of two texts that were read
-pub both_left : (j : Job) (read : Read) (m s : List ℕ) (before after : Option Tables) → read ≡ Both m s → AddsProofsOf (AreObsOfTexts m s (which_of j.asked)) before after →
+pub both_left : (j : Job) (read : Read) (m s : List ℕ) (before after : Option Tables) → read ≡ Both m s → AddsProofsOf (AreObsOfTask j.task m s) before after →
     LeavesRead j read before after
 both_left j read m s before after is h = subst (λ (z : Read). LeavesRead j z before after) (sym is) h
 
@@ -138,17 +169,28 @@ usage_apart n p is = let low : 5 < n = p.low in omega arith
 status_is : (a b : Answer) (n : ℕ) → a ≡ b → a.status ≡ n → b.status ≡ n
 status_is a b n same is = sym (ap (λ (z : Answer). z.status) same) ∙ is
 
+whole_other : (Refuses : CheckFault → Type 0) (OfCall : List Parts → Type 0) (IsReport : Report → Type 0) (workers : ℕ) (said : Report → Answer) (book : Book) (st : Stores) (a : Answer) (n : ℕ) → IsApart n →
+    ((r : Report) → (said r).status ≡ n → ⊥) → RefusesTexts Refuses OfCall book st a ⊎ ReportsTexts IsReport workers said book st a → a.status ≡ n → ⊥
+whole_other Refuses OfCall IsReport workers said book st a n p other h is = ⊎_elim
+    (λ (r : RefusesTexts Refuses OfCall book st a). fault_other r.fault n p (status_is a (refusal (status_of r.fault) (fault_line r.fault)) n r.answer_is is))
+    (λ (r : ReportsTexts IsReport workers said book st a). other r.report (status_is a (said r.report) n r.answer_is is)) h
+
 texts_other : (m s : List ℕ) (which : Which) (budget workers : ℕ) (said : Report → List ℕ) (book : Book) (st : Stores) (a : Answer) (n : ℕ) → IsApart n →
     AnswersTexts m s which budget workers said book st a → a.status ≡ n → ⊥
-texts_other m s which budget workers said book st a n p h is = ⊎_elim
-    (λ (r : RefusesTexts m s which book st a). fault_other r.fault n p (status_is a (refusal (status_of r.fault) (fault_line r.fault)) n r.answer_is is))
-    (λ (r : ReportsTexts m s which budget workers said book st a). verdicts_other (list_any is_refuted r.report.verdicts.items) (list_any is_spent r.report.verdicts.items) n p
-    (status_is a (reported r.report.verdicts.items (said r.report)) n r.answer_is is)) h
+texts_other m s which budget workers said book st a n p h is =
+    whole_other (Refuses m s which) (AreObsOfTexts m s which) (IsReport m s which budget book.lines.items) workers (λ r. reported r.verdicts.items (said r)) book st a n p
+    (λ r. verdicts_other (list_any is_refuted r.verdicts.items) (list_any is_spent r.verdicts.items) n p) h is
+
+task_other : (task : Task) (m s : List ℕ) (budget workers : ℕ) (book : Book) (st : Stores) (a : Answer) (n : ℕ) → IsApart n → AnswersTask task m s budget workers book st a → a.status ≡ n → ⊥
+task_other (t.Decide asked) m s budget workers book st a n p h is = texts_other m s (which_of asked) budget workers (report_bytes asked book.lines.items) book st a n p h is
+task_other (t.Meet name) m s budget workers book st a n p h is =
+    whole_other (RefusesMeet m s name) (AreMeetObsOfTexts m s name) (IsMeetReport m s name budget book.lines.items) workers met book st a n p
+    (λ r. verdicts_other (list_any is_proved r.verdicts.items) (list_any is_spent r.verdicts.items) n p) h is
 
 job_other : (j : Job) (read : Read) (book : Book) (st : Stores) (a : Answer) (n : ℕ) → IsApart n → (6 ≡ n → ⊥) → AnswersJob j read book st a → a.status ≡ n → ⊥
 job_other j NoModule book st a n p not_6 h is = not_6 (status_is a (refusal 6 (codes "read: " ++ j.module)) n h.answer_is is)
 job_other j NoSet book st a n p not_6 h is = not_6 (status_is a (refusal 6 (codes "read: " ++ j.set)) n h.answer_is is)
-job_other j (Both m s) book st a n p not_6 h is = texts_other m s (which_of j.asked) j.budget j.workers (report_bytes j.asked book.lines.items) book st a n p h is
+job_other j (Both m s) book st a n p not_6 h is = task_other j.task m s j.budget j.workers book st a n p h is
 
 move_other : (book : Book) (st : Stores) (a : Answer) (n : ℕ) → IsApart n → AnswersMove book st a → a.status ≡ n → ⊥
 move_other book st a n p h is = ⊎_elim
@@ -175,7 +217,7 @@ job_6 : (shelf : Option (List ℕ → Option (List ℕ))) (before now : ℕ) (j 
     AnswersJob j read book st a → a.status ≡ 6 → Rose before now
 job_6 shelf before now j NoModule book st a read h is = read
 job_6 shelf before now j NoSet book st a read h is = read
-job_6 shelf before now j (Both m s) book st a read h is = absurd (texts_other m s (which_of j.asked) j.budget j.workers (report_bytes j.asked book.lines.items) book st a 6 apart_6 h is)
+job_6 shelf before now j (Both m s) book st a read h is = absurd (task_other j.task m s j.budget j.workers book st a 6 apart_6 h is)
 
 -- the status 6 is a shelf's
 pub is_read : (shelf : Option (List ℕ → Option (List ℕ))) (before now : ℕ) (cmd : Option Command) (read : Read) (a b : Around) (x : Answer) → Reads shelf before now cmd read →

@@ -21,8 +21,10 @@ use Rattle.outside.specs.Tables.{Tables}
 use Rattle.proof_store.specs.declared.moving.Moved.{Moved}
 use Rattle.proof_store.specs.Moves.{MovesRows, Walks}
 use Rattle.proof_store.specs.Stored.{Told}
+use Rattle.word_dag.specs.Nodes.{Parts}
 use Rattle.asked_lines.specs.Settled.{AddsProofsOf, AreSettled}
 use Rattle.desk_core.specs.Checks.{AreObsOfTexts, IsReport, Refuses}
+use Rattle.meet_lines.specs.Meetings.{AreObsOfTexts as AreMeetObsOfTexts, IsMeetReport, Refuses as RefusesMeet}
 use Rattle.reports.specs.Lines.{is_proved}
 use Rattle.reports.specs.Reports.{last_line}
 use Rattle.command_words.specs.declared.action.Asked.{Asked}
@@ -31,6 +33,8 @@ use Rattle.command_words.specs.declared.action.Command.{Command}
 use Rattle.command_words.specs.declared.action.Command.TheVariants as c
 use Rattle.command_words.specs.declared.action.Job.{Job}
 use Rattle.command_words.specs.declared.action.Service.{Service}
+use Rattle.command_words.specs.declared.action.Task.{Task}
+use Rattle.command_words.specs.declared.action.Task.TheVariants as t
 use Rattle.http_connection.specs.declared.serve.ServeFault.TheVariants.{Next}
 use Rattle.proof_store.specs.Provers.{Limits}
 use Rattle.desk_core.specs.declared.checker.Checker.{Checker}
@@ -103,6 +107,14 @@ refusal status line = record { status = status; bytes = line ++ 10 ∷ []; repor
 abbrev pub reported : List Verdict → List ℕ → Answer
 reported vs bytes = record { status = status_from vs; bytes = bytes; reports = true }
 
+-- 1 where a line is met by nothing, else 10 where one is spent, else 0
+abbrev pub meet_status : List Verdict → ℕ
+meet_status vs = if list_any is_proved vs then 1 else if list_any is_spent vs then 10 else 0
+
+-- what is said of what can be met
+abbrev pub met : Report → Answer
+met r = record { status = meet_status r.verdicts.items; bytes = r.text; reports = true }
+
 -- status 0 and these bytes
 abbrev pub done : List ℕ → Answer
 done bytes = record { status = 0; bytes = bytes; reports = true }
@@ -121,25 +133,43 @@ pub record Stores : Type 0 where
 abbrev pub stores : Option Tables → Option Tables → List ℕ → Stores
 stores before after asked = record { before = before; after = after; asked = asked }
 
--- a stage refuses the two texts, or the keeper failed; the proofs that differ are of obligations of the lines that are asked for
-pub record RefusesTexts (m s : List ℕ) (which : Which) (book : Book) (st : Stores) (answer : Answer) : Type 0 where
+-- a fault refuses two texts, or the keeper failed; the proofs that differ are of obligations of the call
+pub record RefusesTexts (Refuses : CheckFault → Type 0) (OfCall : List Parts → Type 0) (book : Book) (st : Stores) (answer : Answer) : Type 0 where
   pub fault : CheckFault
-  pub refuses : Refuses m s which fault
+  pub refuses : Refuses fault
   pub no_memory : fault ≢ f.Memory
   pub empty : book.lines.items ≡ []
-  pub left : AddsProofsOf (AreObsOfTexts m s which) st.before st.after
+  pub left : AddsProofsOf OfCall st.before st.after
   pub answer_is : answer ≡ refusal (status_of fault) (fault_line fault)
 
--- the answer has what is said of the report of the two texts, whose lines are those of the book, settled over the keeper
-pub record ReportsTexts (m s : List ℕ) (which : Which) (budget workers : ℕ) (said : Report → List ℕ) (book : Book) (st : Stores) (answer : Answer) : Type 0 where
+-- the answer is what is said of the report of two texts, whose lines are those of the book, settled over the keeper
+pub record ReportsTexts (IsReport : Report → Type 0) (workers : ℕ) (said : Report → Answer) (book : Book) (st : Stores) (answer : Answer) : Type 0 where
   pub report : Report
-  pub is_report : IsReport m s which budget book.lines.items report
+  pub is_report : IsReport report
   pub asked : List ℕ
   pub settled : AreSettled workers book st.before st.after st.asked asked
-  pub answer_is : answer ≡ reported report.verdicts.items (said report)
+  pub answer_is : answer ≡ said report
 
+-- the lines of two texts that are asked for, or why there are none
 abbrev pub AnswersTexts : List ℕ → List ℕ → Which → ℕ → ℕ → (Report → List ℕ) → Book → Stores → Answer → Type 0
-AnswersTexts m s which budget workers said book st answer = RefusesTexts m s which book st answer ⊎ ReportsTexts m s which budget workers said book st answer
+AnswersTexts m s which budget workers said book st answer =
+    RefusesTexts (Refuses m s which) (AreObsOfTexts m s which) book st answer
+    ⊎ ReportsTexts (IsReport m s which budget book.lines.items) workers (λ r. reported r.verdicts.items (said r)) book st answer
+
+-- what can be met in them, or why that isn't told
+abbrev pub AnswersMeet : List ℕ → List ℕ → Option (List ℕ) → ℕ → ℕ → Book → Stores → Answer → Type 0
+AnswersMeet m s name budget workers book st answer =
+    RefusesTexts (RefusesMeet m s name) (AreMeetObsOfTexts m s name) book st answer
+    ⊎ ReportsTexts (IsMeetReport m s name budget book.lines.items) workers met book st answer
+
+abbrev pub AnswersTask : Task → List ℕ → List ℕ → ℕ → ℕ → Book → Stores → Answer → Type 0
+AnswersTask (t.Decide asked) m s budget workers book st answer = AnswersTexts m s (which_of asked) budget workers (report_bytes asked book.lines.items) book st answer
+AnswersTask (t.Meet name) m s budget workers book st answer = AnswersMeet m s name budget workers book st answer
+
+-- the obligations of what is done with two texts
+abbrev pub AreObsOfTask : Task → List ℕ → List ℕ → List Parts → Type 0
+AreObsOfTask (t.Decide asked) m s = AreObsOfTexts m s (which_of asked)
+AreObsOfTask (t.Meet name) m s = AreMeetObsOfTexts m s name
 
 -- a refusal of what has this name, no line in the book, and nothing new at the keeper
 pub record RefusesBy (status : ℕ) (line : List ℕ) (book : Book) (st : Stores) (answer : Answer) : Type 0 where
@@ -150,7 +180,7 @@ pub record RefusesBy (status : ℕ) (line : List ℕ) (book : Book) (st : Stores
 abbrev pub AnswersJob : Job → Read → Book → Stores → Answer → Type 0
 AnswersJob j NoModule book st answer = RefusesBy 6 (codes "read: " ++ j.module) book st answer
 AnswersJob j NoSet book st answer = RefusesBy 6 (codes "read: " ++ j.set) book st answer
-AnswersJob j (Both m s) book st answer = AnswersTexts m s (which_of j.asked) j.budget j.workers (report_bytes j.asked book.lines.items) book st answer
+AnswersJob j (Both m s) book st answer = AnswersTask j.task m s j.budget j.workers book st answer
 
 -- the keeper failed while rows were moved, or the answer tells what became of them, no line in the book
 pub record AnswersMove (book : Book) (st : Stores) (answer : Answer) : Type 0 where
@@ -232,12 +262,12 @@ Reads shelf before now (Some (c.Migrate file)) read = now ≡ before
 abbrev pub LeavesRead : Job → Read → Option Tables → Option Tables → Type 0
 LeavesRead j NoModule before after = after ≡ before
 LeavesRead j NoSet before after = after ≡ before
-LeavesRead j (Both m s) before after = AddsProofsOf (AreObsOfTexts m s (which_of j.asked)) before after
+LeavesRead j (Both m s) before after = AddsProofsOf (AreObsOfTask j.task m s) before after
 
 -- nothing is new, or what is left comes of two texts that the shelf has under the names of the job
 abbrev pub LeavesTexts : Option (List ℕ → Option (List ℕ)) → Job → Option Tables → Option Tables → Type 0
 LeavesTexts shelf j before after = (after ≡ before)
-    ⊎ ((m : List ℕ) × (s : List ℕ) × IsFile shelf j.module m × IsFile shelf j.set s × AddsProofsOf (AreObsOfTexts m s (which_of j.asked)) before after)
+    ⊎ ((m : List ℕ) × (s : List ℕ) × IsFile shelf j.module m × IsFile shelf j.set s × AddsProofsOf (AreObsOfTask j.task m s) before after)
 
 -- what a command leaves at the keeper, whatever is answered: new proofs of obligations of its texts alone, what connections did, or rows that were moved
 abbrev pub LeavesRows : Option (List ℕ → Option (List ℕ)) → Option Command → Around → Around → Type 0

@@ -2,12 +2,13 @@
 ghost use Rattle.std.specs.Prelude.{◌≡◌, ◌++◌, IfOk};
 ghost use Rattle.std.specs.List.{list_any};
 ghost use Rattle.fault_texts.specs.Texts.{fault_line, status_of};
-ghost use Rattle.signoff_call.specs.Run.{done, is_refuted, is_spent, refusal as refusal_of, reported, status_from};
+ghost use Rattle.signoff_call.specs.Run.{done, is_refuted, is_spent, meet_status, met as met_of, refusal as refusal_of, reported, status_from};
+ghost use Rattle.reports.specs.Lines.{is_proved};
 
 use check_faults::CheckFault;
 use fault_texts::{fault_line, status_of};
 use outside::Text;
-use reports::Verdict;
+use reports::{Report, Verdict};
 use std::alloc::{AllocError, Global};
 
 /// A status, the bytes that go out with it, and whether they are a report.
@@ -73,6 +74,47 @@ pub fn reported(verdicts: &[Verdict], bytes: Text) -> Answer
     Answer {
         status: status_from(verdicts),
         bytes,
+        reports: true,
+    }
+}
+
+// Whether a line is proved.
+fn is_proved(verdict: Verdict) -> bool
+    ensures { result ≡ is_proved verdict }
+{
+    match verdict {
+        Verdict::Proved => true,
+        Verdict::Refuted => false,
+        Verdict::Spent => false,
+    }
+}
+
+// A line that is proved is met by nothing.
+fn has_proved(verdicts: &[Verdict]) -> bool
+    ensures { result ≡ list_any is_proved verdicts.now }
+{
+    verdicts.iter().any(|verdict| is_proved(*verdict))
+}
+
+fn meet_status(verdicts: &[Verdict]) -> u8
+    ensures { result ≡ meet_status verdicts.now }
+{
+    if has_proved(verdicts) {
+        1
+    } else if has_spent(verdicts) {
+        10
+    } else {
+        0
+    }
+}
+
+/// What is said of what can be met.
+pub fn met(report: Report) -> Answer
+    ensures { result ≡ met_of report }
+{
+    Answer {
+        status: meet_status(&report.verdicts),
+        bytes: report.text,
         reports: true,
     }
 }

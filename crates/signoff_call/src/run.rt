@@ -25,7 +25,7 @@ use std::thread::Threads;
 
 /// The top call: answers the words, and puts the answer; the lines that it decides stand in the book. The commands are `ops M S`, which decides the
 /// lines on the design of the module in the file M with the set in the file S, `check M S`, which decides all lines, `trace M S NAME`, which decides the
-/// line of this name and puts its counterexample where it is refuted, each with the options `--budget B`, `--workers W` and `--store FILE`, `demo N`, which
+/// line of this name and puts its counterexample where it is refuted, `meet M S` and `meet M S NAME`, which say what can be met, each with the options `--budget B`, `--workers W` and `--store FILE`, `demo N`, which
 /// checks the generated texts of N stages, `serve PORT COUNT FILE`, which serves the desk that FILE holds to COUNT connections at PORT, and `migrate FILE`,
 /// which puts the proofs that FILE keeps again as records of the newest form. Lines whose proofs the keeper holds aren't solved again, and new proofs are
 /// put to it; the helpers are asked before the workers. The status is
@@ -37,7 +37,7 @@ use std::thread::Threads;
 /// - 8 where the keeper fails, with the line `keeper`; while the desk is served a peer is told so;
 /// - 9 where the port has no next connection, with the line `port`;
 /// - 7 where the sink refuses a report;
-/// - 1 where a line is refuted, 10 where none is and one is spent, and 0 where all are proved, with the report, or where all connections were served, with
+/// - 1 where a line is refuted, or for `meet` met by nothing, 10 where none is and one is spent, and 0 else, with the report, or where all connections were served, with
 ///   the line `served` and their number;
 /// - 70 for want of memory.
 pub fn signoff<R: Threads + Sync, F: Shelf, S: Sink, K: Keeper, P: Port, H: Helper, G: Gate + Sync>(

@@ -1,24 +1,26 @@
 // What is answered to two texts.
-ghost use Rattle.std.specs.Prelude.{◌≡◌, ◌≢◌, ◌≤◌, ◌++◌, [], IfOk, OnOk};
+ghost use Rattle.std.specs.Prelude.{◌≡◌, ◌≢◌, ◌≤◌, ◌++◌, [], IfOk, OnOk, option_map};
 ghost use Rattle.std.specs.Fmt.{decimal};
 ghost use Rattle.command_words.specs.Commands.{HasBounds};
 ghost use Rattle.check_faults.specs.declared.fault.CheckFault.TheVariants.{Memory};
 ghost use Rattle.fault_texts.specs.Texts.{fault_line, status_of};
 ghost use Rattle.outside.specs.Faults.{Rose};
-ghost use Rattle.signoff_call.specs.Run.{AnswersTexts, HasSame, counted, first_traced, refusal, report_bytes, stores, summary, summary_line, which_of};
+ghost use Rattle.signoff_call.specs.Run.{AnswersMeet, AnswersTask, AnswersTexts, AreObsOfTask, HasSame, counted, first_traced, refusal, report_bytes, stores, summary, summary_line, which_of};
 ghost use Rattle.reports.specs.Reports.{last_line};
 ghost use Rattle.asked_lines.specs.Settled.{AddsProofsOf};
 ghost use Rattle.proof_store.specs.Provers.{asked_by, kept_by};
 ghost use Rattle.desk_core.specs.Checks.{AreObsOfTexts};
+ghost use Rattle.meet_lines.specs.Meetings.{AreObsOfTexts as AreMeetObsOfTexts};
 ghost use Rattle.demo_gen.specs.Texts.{module_text, set_text};
 ghost use Rattle.reports.specs.declared.which.Which.TheVariants as w;
 
-use crate::answer::{Answer, refused, reported};
+use crate::answer::{Answer, met, refused, reported};
 use check_faults::CheckFault;
-use command_words::{Asked, Job};
+use command_words::{Asked, Job, Task};
 use demo_gen::{module_text, set_text};
 use desk_core::Checker;
 use helper_box::Helper;
+use meet_lines::meet;
 use outside::{Gate, Keeper, Text};
 use proof_store::Settings;
 use replay::trace_text;
@@ -77,6 +79,52 @@ fn turned_down(alloc: Global, fault: CheckFault) -> Result<Answer, AllocError>
     answer
 }
 
+// The answer to two texts whose lines are asked for.
+fn decided<R: Threads + Sync, K: Keeper, H: Helper, G: Gate + Sync>(
+    checker: &mut Checker<'_, '_, '_, '_, R, K, H, G>,
+    asked: &Asked,
+    module: &Text,
+    set: &Text,
+) -> Result<Answer, AllocError>
+    requires empty { checker.old.book.now.lines.items ≡ [] }
+    ensures answer { IfOk result (AnswersTexts «module».now set.now (which_of asked.now) checker.old.prover.settings.budget checker.old.prover.settings.workers
+        (report_bytes asked.now checker.new.book.now.lines.items) checker.new.book.now
+        (stores (kept_by K.tables checker.old.prover) (kept_by K.tables checker.new.prover) (asked_by H.asked checker.old.prover))) }
+    ensures left { AddsProofsOf (AreObsOfTexts «module».now set.now (which_of asked.now)) (kept_by K.tables checker.old.prover) (kept_by K.tables checker.new.prover) }
+    ensures keeper { IfOk result (λ a. a.status ≡ 8 → Rose (K.faults checker.old.prover.keeper.now) (K.faults checker.new.prover.keeper.now)) }
+    ensures same { HasSame checker.old checker.new }
+{
+    let alloc = checker.prover.alloc;
+    let which = which_of(alloc, asked)?;
+    match checker.check(module.bytes(), set.bytes(), &which) {
+        Ok(report) => {
+            let bytes = report_bytes(alloc, asked, &checker.book.lines, &report)?;
+            Ok(reported(&report.verdicts, bytes))
+        }
+        Err(fault) => turned_down(alloc, fault),
+    }
+}
+
+// The answer to two texts of which it is asked what can be met.
+fn met_in<R: Threads + Sync, K: Keeper, H: Helper, G: Gate + Sync>(
+    checker: &mut Checker<'_, '_, '_, '_, R, K, H, G>,
+    name: Option<&Text>,
+    module: &Text,
+    set: &Text,
+) -> Result<Answer, AllocError>
+    ensures answer { IfOk result (AnswersMeet «module».now set.now (option_map (λ n. n.now) name.entry) checker.old.prover.settings.budget checker.old.prover.settings.workers
+        checker.new.book.now (stores (kept_by K.tables checker.old.prover) (kept_by K.tables checker.new.prover) (asked_by H.asked checker.old.prover))) }
+    ensures left { AddsProofsOf (AreMeetObsOfTexts «module».now set.now (option_map (λ n. n.now) name.entry)) (kept_by K.tables checker.old.prover) (kept_by K.tables checker.new.prover) }
+    ensures keeper { IfOk result (λ a. a.status ≡ 8 → Rose (K.faults checker.old.prover.keeper.now) (K.faults checker.new.prover.keeper.now)) }
+    ensures same { HasSame checker.old checker.new }
+{
+    let alloc = checker.prover.alloc;
+    match meet(checker, module.bytes(), set.bytes(), name) {
+        Ok(report) => Ok(met(report)),
+        Err(fault) => turned_down(alloc, fault),
+    }
+}
+
 /// The answer to two texts.
 pub fn judged<R: Threads + Sync, K: Keeper, H: Helper, G: Gate + Sync>(
     checker: &mut Checker<'_, '_, '_, '_, R, K, H, G>,
@@ -86,25 +134,19 @@ pub fn judged<R: Threads + Sync, K: Keeper, H: Helper, G: Gate + Sync>(
 ) -> Result<Answer, AllocError>
     requires bounds { HasBounds job.now }
     requires empty { checker.old.book.now.lines.items ≡ [] }
-    ensures answer { IfOk result (AnswersTexts «module».now set.now (which_of job.now.asked) job.now.budget job.now.workers
-        (report_bytes job.now.asked checker.new.book.now.lines.items) checker.new.book.now
+    ensures answer { IfOk result (AnswersTask job.now.task «module».now set.now job.now.budget job.now.workers checker.new.book.now
         (stores (kept_by K.tables checker.old.prover) (kept_by K.tables checker.new.prover) (asked_by H.asked checker.old.prover))) }
-    ensures left { AddsProofsOf (AreObsOfTexts «module».now set.now (which_of job.now.asked)) (kept_by K.tables checker.old.prover) (kept_by K.tables checker.new.prover) }
+    ensures left { AddsProofsOf (AreObsOfTask job.now.task «module».now set.now) (kept_by K.tables checker.old.prover) (kept_by K.tables checker.new.prover) }
     ensures keeper { IfOk result (λ a. a.status ≡ 8 → Rose (K.faults checker.old.prover.keeper.now) (K.faults checker.new.prover.keeper.now)) }
     ensures same { HasSame checker.old checker.new }
 {
-    let alloc = checker.prover.alloc;
-    let which = which_of(alloc, &job.asked)?;
     checker.prover.settings = Settings {
         budget: job.budget,
         workers: job.workers,
     };
-    match checker.check(module.bytes(), set.bytes(), &which) {
-        Ok(report) => {
-            let bytes = report_bytes(alloc, &job.asked, &checker.book.lines, &report)?;
-            Ok(reported(&report.verdicts, bytes))
-        }
-        Err(fault) => turned_down(alloc, fault),
+    match &job.task {
+        Task::Decide(asked) => decided(checker, asked, module, set),
+        Task::Meet(name) => met_in(checker, name.as_ref(), module, set),
     }
 }
 

@@ -2,7 +2,7 @@ use Rattle.std.proofs.Common.{◌∙◌, true, false, arith, sym, subst}
 use Rattle.set_tree.specs.declared.set.Set.{Set}
 use Rattle.meet_lines.specs.Goals.{IsGoalOf}
 use Rattle.meet_lines.specs.Lines.{SpeaksOf}
-use Rattle.meet_lines.proofs.Finding.{find_more, find_start, found, goal_speaks, named_so, none_found, turn}
+use Rattle.meet_lines.proofs.Finding.{find_more, found, goal_speaks, named_so, none_found, turn}
 use Rattle.meet_lines.proofs.goals.one_goal.Goals as goal
 
 pub has_name-requires : goal.has_name-requires

@@ -37,7 +37,7 @@ returns-clause-answer g c =
     let refuses = subst (λ (s : List ℕ). Refuses (module_text n) s w.All fault) (c.bytes-2.ensures ∙ c.in_ok-set.ensures) first in
     let left_first = subst (λ (m : List ℕ). AddsProofsOf (AreObsOfTexts m c.bytes-2.result.now w.All) before after) (c.bytes.ensures ∙ c.in_ok-module.ensures) c.check.ensures.left in
     let left = subst (λ (s : List ℕ). AddsProofsOf (AreObsOfTexts (module_text n) s w.All) before after) (c.bytes-2.ensures ∙ c.in_ok-set.ensures) left_first in
-    turned_answered c.turned_down.result (module_text n) (set_text n) w.All 20000 4 (summary n) c.check.new.self.book.now _ fault refuses c.in-Err.ensures.empty left c.turned_down.ensures.memory c.turned_down.ensures.line
+    turned_answered c.turned_down.result (Refuses (module_text n) (set_text n) w.All) (AreObsOfTexts (module_text n) (set_text n) w.All) _ c.check.new.self.book.now _ fault refuses c.in-Err.ensures.empty left c.turned_down.ensures.memory c.turned_down.ensures.line
 
 pub returns-clause-keeper : goal.returns-clause-keeper
 returns-clause-keeper g c = turned_keeper c.turned_down.result c.in-Err.fault _ (λ is. c.check.ensures.proceeds.keeper.rose (subst (λ (z : CheckFault). c.check.result ≡ Err z) is c.in-Err.is)) c.turned_down.ensures.line

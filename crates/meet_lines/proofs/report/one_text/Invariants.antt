@@ -1,0 +1,8 @@
+use Rattle.std.proofs.Common.{◌≡◌, take}
+use Rattle.std.specs.List.{flat_map}
+use Rattle.meet_lines.specs.Meetings.{shown_line}
+use Rattle.meet_lines.proofs.report.one_text.Given as goal
+
+-- the text so far
+abbrev pub invariant-loop-line : goal.invariant-loop-line
+invariant-loop-line l = l.text.items ≡ flat_map shown_line (take l.line-index l.lines)
