@@ -1,5 +1,5 @@
 // What a run answers.
-ghost use Rattle.std.specs.Prelude.{◌≡◌, ◌++◌, IfOk};
+ghost use Rattle.std.specs.Prelude.{◌≡◌, ◌++◌, IfOk, if◌then◌else◌};
 ghost use Rattle.std.specs.List.{list_any};
 ghost use Rattle.fault_texts.specs.Texts.{fault_line, status_of};
 ghost use Rattle.signoff_call.specs.Run.{done, is_refuted, is_spent, meet_status, met as met_of, refusal as refusal_of, reported, status_from};
@@ -55,16 +55,23 @@ fn has_spent(verdicts: &[Verdict]) -> bool
     verdicts.iter().any(|verdict| is_spent(*verdict))
 }
 
-fn status_from(verdicts: &[Verdict]) -> u8
-    ensures { result ≡ status_from verdicts.now }
+// 1 where a line fails, else 10 where the budget was spent on one, else 0.
+fn worst(fails: bool, verdicts: &[Verdict]) -> u8
+    ensures { result ≡ if fails then 1 else if list_any is_spent verdicts.now then 10 else 0 }
 {
-    if has_refuted(verdicts) {
+    if fails {
         1
     } else if has_spent(verdicts) {
         10
     } else {
         0
     }
+}
+
+fn status_from(verdicts: &[Verdict]) -> u8
+    ensures { result ≡ status_from verdicts.now }
+{
+    worst(has_refuted(verdicts), verdicts)
 }
 
 /// What is said of a report, with its status.
@@ -99,13 +106,7 @@ fn has_proved(verdicts: &[Verdict]) -> bool
 fn meet_status(verdicts: &[Verdict]) -> u8
     ensures { result ≡ meet_status verdicts.now }
 {
-    if has_proved(verdicts) {
-        1
-    } else if has_spent(verdicts) {
-        10
-    } else {
-        0
-    }
+    worst(has_proved(verdicts), verdicts)
 }
 
 /// What is said of what can be met.

@@ -5,7 +5,7 @@ use Rattle.reports.specs.declared.book.Verdict.{Verdict}
 use Rattle.reports.specs.declared.which.Which.TheVariants as w
 use Rattle.asked_lines.specs.Settled.{AddsProofsOf}
 use Rattle.desk_core.specs.Checks.{AreObsOfTexts, IsReport, Refuses}
-use Rattle.signoff_call.specs.Run.{reported, summary}
+use Rattle.signoff_call.specs.Run.{reported}
 use Rattle.signoff_call.proofs.Answering.{left_of, reported_keeper, turned_answered, turned_keeper}
 use Rattle.signoff_call.proofs.texts.demonstrated.Goals as goal
 
