@@ -85,7 +85,7 @@ fn end_of(evidence: &Evidence) -> End {
 }
 
 // How many are kept, helped and solved, and how many numbers were drawn.
-fn counts(settled: &Settled) -> (u64, u64, u64, usize) {
+fn counts(settled: &Settled<Line>) -> (u64, u64, u64, usize) {
     (
         settled.kept,
         settled.helped,
@@ -95,7 +95,7 @@ fn counts(settled: &Settled) -> (u64, u64, u64, usize) {
 }
 
 // Whether the obligations end so, in their order.
-fn end_so(settled: &Settled, ends: &[End]) -> bool {
+fn end_so(settled: &Settled<Line>, ends: &[End]) -> bool {
     settled.decided.len() == ends.len()
         && settled
             .decided
@@ -112,10 +112,10 @@ const SETTINGS: Settings = Settings {
 // Settles at most three goals.
 fn settled(
     rt: &(impl Threads + Sync + Abort + AllocGlobal),
-    goals: Vec<Goal>,
+    goals: Vec<Goal<Line>>,
     keeper: &mut MemKeeper,
     helpers: &mut Vec<Box<dyn Helper>>,
-) -> Result<Settled, StoreFault> {
+) -> Result<Settled<Line>, StoreFault> {
     assert!(rt; goals.len() <= 3);
     let mut prover = Prover {
         rt,
@@ -134,7 +134,7 @@ type Want<'a> = ((u64, u64, u64, usize), &'a [End]);
 // Settles goals, and wants what comes of them.
 fn settles(
     rt: &(impl Threads + Sync + Abort + AllocGlobal),
-    goals: Vec<Goal>,
+    goals: Vec<Goal<Line>>,
     keeper: &mut MemKeeper,
     helpers: &mut Vec<Box<dyn Helper>>,
     want: Want<'_>,
@@ -150,7 +150,7 @@ const ENDS: &[End] = &[End::Derivation, End::Derivation, End::Values];
 const TWO_ENDS: &[End] = &[End::Derivation, End::Derivation];
 
 // Two goals whose root is never 1.
-fn two(alloc: Global) -> Result<Vec<Goal>, AllocError> {
+fn two(alloc: Global) -> Result<Vec<Goal<Line>>, AllocError> {
     let mut goals = Vec::new(alloc);
     goals.push(Goal {
         line: Line::Reset,
@@ -164,7 +164,7 @@ fn two(alloc: Global) -> Result<Vec<Goal>, AllocError> {
 }
 
 // The same, and one whose root is 1 at one value.
-fn three(alloc: Global) -> Result<Vec<Goal>, AllocError> {
+fn three(alloc: Global) -> Result<Vec<Goal<Line>>, AllocError> {
     let mut goals = two(alloc)?;
     goals.push(Goal {
         line: Line::Operation(2),
