@@ -9,9 +9,8 @@ use Rattle.line_laws.specs.Names.{line_name}
 use Rattle.binding.specs.Binding.{Pair}
 use Rattle.proof_store.specs.declared.goal.Goal.{Goal}
 use Rattle.reports.specs.declared.which.Which.{Which}
-use Rattle.reports.specs.declared.which.Which.TheVariants as w
 use Rattle.line_obs.specs.Obligations.{all_lines}
-use Rattle.asked_lines.specs.Asked.{AreGoalsOf, Asks, IsGoalOf, LacksLine, has_name, line_of}
+use Rattle.asked_lines.specs.Asked.{AreGoalsOf, AsksOne, IsGoalOf, LacksLine, LacksName, has_name, line_of}
 use Rattle.asked_lines.specs.declared.fault.LineFault.{LineFault}
 use Rattle.asked_lines.specs.declared.fault.LineFault.TheVariants as f
 
@@ -47,14 +46,14 @@ line_among [] left goal = (0, omega arith, refl)
 line_among (x ∷ xs) left goal = let rest = line_among xs left goal in let lt = rest.1 in (suc rest.0, omega (arith, lt), rest.2)
 
 -- the one whose turn it is has the name
-pub found : (b : Pair) (name : List ℕ) (now left only : List (Goal Line)) (goal : Goal Line) → FindLoop b name now → now ≡ goal ∷ left → has_name b.set name goal.line ≡ true → only ≡ goal ∷ [] → Asks b (w.One name) only
+pub found : (b : Pair) (name : List ℕ) (now left only : List (Goal Line)) (goal : Goal Line) → FindLoop b name now → now ≡ goal ∷ left → has_name b.set name goal.line ≡ true → only ≡ goal ∷ [] → AsksOne b name only
 found b name now left only goal loop is named pushed =
     let are = loop.are in
     let whole : loop.all ≡ loop.before ++ goal ∷ left = loop.split ∙ ap (λ (gs : List (Goal Line)). loop.before ++ gs) is in
     let same : line_name b.set goal.line ≡ name = (bytes_eq-Decides (line_name b.set goal.line) name).0 named in
     let among : Contains (all_lines b.set) goal.line = subst (λ (ls : List Line). Contains ls goal.line) (ap (map line_of) (sym whole) ∙ are.lines_are) (line_among loop.before left goal) in
     let here : IsGoalOf b goal = at_turn (IsGoalOf b) loop.before left goal (subst (λ (gs : List (Goal Line)). All (IsGoalOf b) gs) whole are.each) in
-    subst (λ (gs : List (Goal Line)). Asks b (w.One name) gs) (sym pushed) (record {
+    subst (λ (gs : List (Goal Line)). AsksOne b name gs) (sym pushed) (record {
       asked = (goal.line, record { among = among; named = same }, refl);
       each = All-cons (IsGoalOf b) goal [] here (All-nil (IsGoalOf b));
     })
@@ -70,15 +69,11 @@ missed set name (g ∷ gs) others zero line lt at named =
 missed set name (g ∷ gs) others (suc k) line lt at named = missed set name gs (All-tail (OtherName set name) g gs others) k line (omega arith) at named
 
 -- none has the name
-pub none_found : (b : Pair) (name : List ℕ) (left : List (Goal Line)) → FindLoop b name left → length left ≡ 0 → LacksLine b.set (w.One name) f.NoLine
+pub none_found : (b : Pair) (name : List ℕ) (left : List (Goal Line)) → FindLoop b name left → length left ≡ 0 → LacksName b.set name f.NoLine
 none_found b name [] loop none =
-    let whole : map line_of loop.before ≡ all_lines b.set = ap (map line_of) (sym (loop.split ∙ append-nil loop.before)) ∙ loop.are.lines_are in (
-      name,
-      refl,
-      λ line is_line.
-          let among = subst (λ (ls : List Line). Contains ls line) (sym whole) is_line.among in
-          missed b.set name loop.before loop.others among.0 line among.1 among.2 is_line.named,
-    )
+    let whole : map line_of loop.before ≡ all_lines b.set = ap (map line_of) (sym (loop.split ∙ append-nil loop.before)) ∙ loop.are.lines_are in λ line is_line.
+        let among = subst (λ (ls : List Line). Contains ls line) (sym whole) is_line.among in
+        missed b.set name loop.before loop.others among.0 line among.1 among.2 is_line.named
 none_found b name (g ∷ left) loop none = absurd (omega arith)
 
 -- whether a line has a name, as it was asked

@@ -1,6 +1,7 @@
 pub mod Carrying
 pub mod Deciding
 pub mod Finding
+pub mod Lessening
 pub mod Promising
 pub mod Showing
 pub mod Telling

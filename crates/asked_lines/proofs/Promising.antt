@@ -103,6 +103,7 @@ signed_off budget ms b sound w.All lines ds asked h all =
     reports_sign_off ms b.set.block b.set sound
     (subst (λ (ls : List Line). All (λ line. ¬ IsRefutable ms b.set.block b.set line) ls) asked (none_refutable budget ms b lines ds h all))
 signed_off budget ms b sound (w.One name) lines ds asked h all = not_all (SignsOff ms b.set.block b.set) all
+signed_off budget ms b sound (w.Least name) lines ds asked h all = not_all (SignsOff ms b.set.block b.set) all
 
 pub proved_lines_promise : ProvedLinesPromise
 proved_lines_promise budget ms b sound which lines ds asked h = record {

@@ -1,5 +1,5 @@
 -- The goals that are asked for.
-use Rattle.std.specs.Prelude.{◌≡◌, ℕ, Bool, List, map}
+use Rattle.std.specs.Prelude.{◌≡◌, ◌⊎◌, ℕ, Bool, List, map}
 use Rattle.std.specs.List.{All}
 use Rattle.std.specs.Str.{bytes_eq}
 use Rattle.set_tree.specs.declared.line.Line.{Line}
@@ -15,7 +15,7 @@ use Rattle.reports.specs.declared.which.Which.TheVariants as w
 use Rattle.line_obs.specs.Obligations.{IsObOf}
 use Rattle.asked_lines.specs.declared.fault.LineFault.{LineFault}
 use Rattle.asked_lines.specs.declared.fault.LineFault.TheVariants as f
-use Rattle.asked_lines.specs.Decided.{AreAsked, IsLineNamed}
+use Rattle.asked_lines.specs.Decided.{AreAsked, IsLineNamed, IsOnlyLine}
 
 abbrev pub line_of : Goal Line → Line
 line_of goal = goal.line
@@ -41,9 +41,24 @@ pub record Asks (b : Pair) (which : Which) (goals : List (Goal Line)) : Type 0 w
 abbrev pub has_name : Set → List ℕ → Line → Bool
 has_name set name line = bytes_eq (line_name set line) name
 
+-- a goal of the line of a name
+pub record AsksOne (b : Pair) (name : List ℕ) (goals : List (Goal Line)) : Type 0 where
+  pub asked : IsOnlyLine b.set name (map line_of goals)
+  pub each : All (IsGoalOf b) goals
+
+-- no line has the name
+abbrev pub LacksName : Set → List ℕ → LineFault → Type 0
+LacksName set name f.NoLine = (line : Line) → IsLineNamed set name line → ⊥
+LacksName set name f.Keeper = ⊥
+LacksName set name f.Memory = Unit {0}
+
+-- the name of the line that is asked for alone
+abbrev pub Names : Which → List ℕ → Type 0
+Names which name = (which ≡ w.One name) ⊎ (which ≡ w.Least name)
+
 -- no line has the name that is asked for
 abbrev pub LacksLine : Set → Which → LineFault → Type 0
-LacksLine set which f.NoLine = (name : List ℕ) × (which ≡ w.One name) × ((line : Line) → IsLineNamed set name line → ⊥)
+LacksLine set which f.NoLine = (name : List ℕ) × Names which name × LacksName set name f.NoLine
 LacksLine set which f.Keeper = ⊥
 LacksLine set which f.Memory = Unit {0}
 

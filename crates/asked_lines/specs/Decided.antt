@@ -26,11 +26,16 @@ pub record IsLineNamed (set : Set) (name : List ℕ) (line : Line) : Type 0 wher
   pub among : Contains (all_lines set) line
   pub named : line_name set line ≡ name
 
+-- it alone
+abbrev pub IsOnlyLine : Set → List ℕ → List Line → Type 0
+IsOnlyLine set name lines = (line : Line) × IsLineNamed set name line × (lines ≡ line ∷ [])
+
 -- the lines that are asked for
 abbrev pub AreAsked : Which → Set → List Line → Type 0
 AreAsked w.Ops set lines = lines ≡ design_lines set
 AreAsked w.All set lines = lines ≡ all_lines set
-AreAsked (w.One name) set lines = (line : Line) × IsLineNamed set name line × (lines ≡ line ∷ [])
+AreAsked (w.One name) set lines = IsOnlyLine set name lines
+AreAsked (w.Least name) set lines = IsOnlyLine set name lines
 
 -- a proved line can't be violated, and a refuted one is
 abbrev pub Says : Type 0 → Verdict → Type 0

@@ -3,3 +3,4 @@ pub mod Decided
 pub mod Asked
 pub mod Settled
 pub mod Laws
+pub mod Least

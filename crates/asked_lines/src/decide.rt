@@ -4,10 +4,12 @@ ghost use Rattle.std.specs.List.{All, AllZip};
 ghost use Rattle.proof_store.specs.Provers.{IsSame, Proceeds, asked_by, counts, kept_by};
 ghost use Rattle.asked_lines.specs.Asked.{IsGoalDecided, RefusesLines};
 ghost use Rattle.asked_lines.specs.Decided.{AreDecided, Tells};
+ghost use Rattle.asked_lines.specs.Least.{HasLeast};
 ghost use Rattle.asked_lines.specs.Settled.{AddsProofsOf, AreObsOf, AreSettled};
 
 use crate::fault::LineFault;
 use crate::goals::asked_goals;
+use crate::lessen::{Lessened, with_least};
 use crate::trace::trace_of;
 use binding::Bound;
 use helper_box::Helper;
@@ -56,7 +58,8 @@ fn lines_of(
     Ok(lines)
 }
 
-/// Decides the lines that are asked for: whether something on the design, or in windows, violates the line; a refuted line has a counterexample.
+/// Decides the lines that are asked for: whether something on the design, or in windows, violates the line; a refuted line has a counterexample,
+/// which is the least one where that is asked for and the budget lasts for each bit.
 /// Refused where no line of the set's report has the name that was asked for, where the keeper failed in this call, and for want of memory. Then each
 /// proof of the keeper that differs from before is one of an obligation of these lines.
 pub fn decide_lines<R: Threads + Sync, K: Keeper, H: Helper, G: Gate + Sync>(
@@ -67,6 +70,7 @@ pub fn decide_lines<R: Threads + Sync, K: Keeper, H: Helper, G: Gate + Sync>(
     ensures lines { IfOk result (λ book. AreDecided prover.old.settings.budget bound.now which.now book.lines.items) }
     ensures settled { IfOk result (λ book. AreSettled prover.old.settings.workers book
         (kept_by K.tables prover.old) (kept_by K.tables prover.new) (asked_by H.asked prover.old) (asked_by H.asked prover.new)) }
+    ensures least { IfOk result (HasLeast which.now prover.old.settings.budget) }
     ensures err { IfErr result (RefusesLines bound.now.set which.now) }
     ensures left { AddsProofsOf (AreObsOf bound.now which.now) (kept_by K.tables prover.old) (kept_by K.tables prover.new) }
     ensures proceeds { Proceeds (result ≡ Err LineFault.Keeper) (counts K.faults H.asked prover.old) (counts K.faults H.asked prover.new) }
@@ -85,6 +89,8 @@ pub fn decide_lines<R: Threads + Sync, K: Keeper, H: Helper, G: Gate + Sync>(
         solved,
         draws,
     } = settled;
+    let lessened = with_least(prover.alloc, which, prover.settings.budget, decided)?;
+    let Lessened { decided, least } = lessened;
     let lines = lines_of(prover.alloc, bound, decided)?;
     Ok(Book {
         lines,
@@ -92,5 +98,6 @@ pub fn decide_lines<R: Threads + Sync, K: Keeper, H: Helper, G: Gate + Sync>(
         helped,
         solved,
         draws,
+        least,
     })
 }

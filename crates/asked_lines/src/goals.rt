@@ -3,8 +3,7 @@ ghost use Rattle.std.specs.Prelude.{◌≡◌, ◌∷◌, [], IfErr, IfOk};
 ghost use Rattle.std.specs.List.{AllZip};
 ghost use Rattle.set_tree.specs.Report.{design_lines};
 ghost use Rattle.line_obs.specs.Obligations.{IsObOf, all_lines};
-ghost use Rattle.reports.specs.declared.which.Which.TheVariants.{One};
-ghost use Rattle.asked_lines.specs.Asked.{AreGoalsOf, Asks, LacksLine, has_name};
+ghost use Rattle.asked_lines.specs.Asked.{AreGoalsOf, Asks, AsksOne, LacksLine, LacksName, has_name};
 
 use crate::fault::LineFault;
 use binding::Bound;
@@ -19,8 +18,8 @@ use twin_tests::lines_of as set_lines;
 use unroll::lines_of as design_lines;
 use word_dag::Named;
 
-// All lines, in the order of a report.
-fn all_lines(alloc: Global, bound: &Bound) -> Result<Vec<Line>, AllocError>
+/// All lines, in the order of a report. Refused for want of memory alone.
+pub fn all_lines(alloc: Global, bound: &Bound) -> Result<Vec<Line>, AllocError>
     ensures { IfOk result (λ lines. lines.items ≡ all_lines bound.now.set) }
 {
     let set = bound.set().set();
@@ -86,8 +85,8 @@ pub fn only<L: Drop>(alloc: Global, goal: Goal<L>) -> Result<Vec<Goal<L>>, Alloc
 
 // The goal of the line of this name.
 fn one_goal(alloc: Global, bound: &Bound, name: &Text) -> Result<Vec<Goal<Line>>, LineFault>
-    ensures ok { IfOk result (λ goals. Asks bound.now (One name.now) goals.items) }
-    ensures err { IfErr result (LacksLine bound.now.set (One name.now)) }
+    ensures ok { IfOk result (λ goals. AsksOne bound.now name.now goals.items) }
+    ensures err { IfErr result (LacksName bound.now.set name.now) }
 {
     let set = bound.set().set();
     let all = all_goals(alloc, bound)?;
@@ -111,6 +110,6 @@ pub(crate) fn asked_goals(
     match which {
         Which::Ops => Ok(design_goals(alloc, bound)?),
         Which::All => Ok(all_goals(alloc, bound)?),
-        Which::One(name) => one_goal(alloc, bound, name),
+        Which::One(name) | Which::Least(name) => one_goal(alloc, bound, name),
     }
 }

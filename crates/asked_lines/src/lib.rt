@@ -5,9 +5,10 @@ mod decide;
 mod fault;
 mod goals;
 mod law;
+mod lessen;
 mod trace;
 
 pub use decide::decide_lines;
 pub use fault::LineFault;
-pub use goals::only;
+pub use goals::{all_lines, only};
 pub use law::{decided_of_modules, proved_lines_promise};

@@ -3,8 +3,10 @@ use Rattle.std.specs.Prelude.{ℕ, ◌<◌, ◌≤◌, List, [], ◌∷◌, code
 use Rattle.std.specs.Option.{option_map}
 use Rattle.std.specs.Str.{bytes_eq}
 use Rattle.command_words.specs.declared.action.Action.{Action}
-use Rattle.command_words.specs.declared.action.Action.TheVariants.{Ops, Check, Trace, Meet, Demo, Serve, Migrate}
-use Rattle.command_words.specs.declared.action.Asked.TheVariants as a
+use Rattle.command_words.specs.declared.action.Action.TheVariants.{Texts, Demo, Serve, Migrate}
+use Rattle.command_words.specs.declared.action.Verb.{Verb}
+use Rattle.command_words.specs.declared.action.Verb.TheVariants.{Ops, Check, Trace, Least, Meet, Machine, Walk, Lines}
+use Rattle.reports.specs.declared.which.Which.TheVariants as w
 use Rattle.command_words.specs.declared.action.Command.{Command}
 use Rattle.command_words.specs.declared.action.Command.TheVariants as c
 use Rattle.command_words.specs.declared.action.Job.{Job}
@@ -18,9 +20,36 @@ use Rattle.command_words.specs.Numbers.{number_within}
 abbrev pub job_of : Task → List ℕ → List ℕ → Choices → Job
 job_of task m s c = record { task = task; «module» = m; set = s; budget = unwrap_or c.budget 20000; workers = unwrap_or c.workers 4; store = c.store }
 
--- a check of two files takes no options of serving
-abbrev pub texts_of : Task → List ℕ → List ℕ → Choices → Option Command
-texts_of task m s choices = if serves_by_default choices then Some (c.Texts (job_of task m s choices)) else None
+-- where no line is decided there are no options, and else none of serving
+abbrev pub takes : Task → Choices → Bool
+takes (t.Decide which) c = serves_by_default c
+takes (t.Meet name) c = serves_by_default c
+takes t.Machine c = serves_by_default c
+takes (t.Walk rows) c = serves_by_default c
+takes t.Lines c = has_no_options c
+
+-- what is done with two texts, by the words behind their files: the name of a line, which may stand for what can be met too; or a file of rows
+abbrev pub task_of : Verb → List (List ℕ) → Option Task
+task_of Ops [] = Some (t.Decide w.Ops)
+task_of Check [] = Some (t.Decide w.All)
+task_of Trace (n ∷ []) = Some (t.Decide (w.One n))
+task_of Least (n ∷ []) = Some (t.Decide (w.Least n))
+task_of Meet [] = Some (t.Meet None)
+task_of Meet (n ∷ []) = Some (t.Meet (Some n))
+task_of Machine [] = Some t.Machine
+task_of Walk (rows ∷ []) = Some (t.Walk rows)
+task_of Lines [] = Some t.Lines
+task_of verb words = None
+
+abbrev pub job_with : Option Task → List ℕ → List ℕ → Choices → Option Command
+job_with None m s choices = None
+job_with (Some task) m s choices = if takes task choices then Some (c.Texts (job_of task m s choices)) else None
+
+-- the first words are the two files
+abbrev pub texts_of : Verb → Choices → List (List ℕ) → Option Command
+texts_of verb choices [] = None
+texts_of verb choices (m ∷ []) = None
+texts_of verb choices (m ∷ s ∷ words) = job_with (task_of verb words) m s choices
 
 -- a generated check takes no options
 abbrev pub demo_of : Choices → List ℕ → Option Command
@@ -43,14 +72,10 @@ abbrev pub serve_of : Choices → List ℕ → List ℕ → List ℕ → Option 
 serve_of choices port count file =
     if is_none choices.store then serve_within (number_within 1 65535 port) (number_within 1 1000000 count) file choices else None
 
--- the plain words are two files, for a trace also the name of a line, which may stand for what can be met too; for a generated check its number of stages; a port, a number of connections and
--- a file; for a move of kept proofs one file
+-- the plain words are two files and what is done with them; for a generated check its number of stages; a port, a number of connections and a file; for a
+-- move of kept proofs one file
 abbrev pub with_plain_words : Action → Choices → List (List ℕ) → Option Command
-with_plain_words Ops choices (m ∷ s ∷ []) = texts_of (t.Decide a.Ops) m s choices
-with_plain_words Check choices (m ∷ s ∷ []) = texts_of (t.Decide a.Check) m s choices
-with_plain_words Trace choices (m ∷ s ∷ n ∷ []) = texts_of (t.Decide (a.Trace n)) m s choices
-with_plain_words Meet choices (m ∷ s ∷ []) = texts_of (t.Meet None) m s choices
-with_plain_words Meet choices (m ∷ s ∷ n ∷ []) = texts_of (t.Meet (Some n)) m s choices
+with_plain_words (Texts verb) choices words = texts_of verb choices words
 with_plain_words Demo choices (n ∷ []) = demo_of choices n
 with_plain_words Serve choices (p ∷ n ∷ file ∷ []) = serve_of choices p n file
 with_plain_words Migrate choices (file ∷ []) = migrate_of choices file
@@ -60,16 +85,24 @@ abbrev pub made_of : Action → Option Choices → Option Command
 made_of action None = None
 made_of action (Some c) = with_plain_words action c c.plain
 
-abbrev pub action_of : List ℕ → Option Action
-action_of name =
+abbrev pub verb_of : List ℕ → Option Verb
+verb_of name =
     if bytes_eq name (codes "ops") then Some Ops
     else if bytes_eq name (codes "check") then Some Check
     else if bytes_eq name (codes "trace") then Some Trace
+    else if bytes_eq name (codes "least") then Some Least
     else if bytes_eq name (codes "meet") then Some Meet
-    else if bytes_eq name (codes "demo") then Some Demo
+    else if bytes_eq name (codes "machine") then Some Machine
+    else if bytes_eq name (codes "walk") then Some Walk
+    else if bytes_eq name (codes "lines") then Some Lines
+    else None
+
+abbrev pub action_of : List ℕ → Option Action
+action_of name =
+    if bytes_eq name (codes "demo") then Some Demo
     else if bytes_eq name (codes "serve") then Some Serve
     else if bytes_eq name (codes "migrate") then Some Migrate
-    else None
+    else option_map Texts (verb_of name)
 
 abbrev pub command_by : Option Action → List (List ℕ) → Option Command
 command_by None ws = None

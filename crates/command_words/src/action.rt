@@ -1,36 +1,42 @@
 // Commands.
 use outside::Text;
+use reports::Which;
 
-/// The name of a command.
-#[derive(Clone, Copy)]
-pub enum Action {
+/// What is done with two texts.
+#[derive(Clone, Copy, Debug)]
+pub enum Verb {
     Ops,
     Check,
     Trace,
+    Least,
     Meet,
+    Machine,
+    Walk,
+    Lines,
+}
+
+/// The name of a command.
+#[derive(Clone, Copy, Debug)]
+pub enum Action {
+    Texts(Verb),
     Demo,
     Serve,
     Migrate,
 }
 
-/// Which lines of a report are asked for.
-#[derive(Drop)]
-pub enum Asked {
-    /// The lines on the design are decided.
-    Ops,
-    /// All lines are.
-    Check,
-    /// The line of this name is, and its counterexample is shown.
-    Trace(Text),
-}
-
 /// What is done with a module's text and a set's.
 #[derive(Drop)]
 pub enum Task {
-    /// Lines of the report are decided.
-    Decide(Asked),
+    /// Lines of the report are decided: those on the design, all, or the one of a name, whose counterexample is shown, or the least one.
+    Decide(Which),
     /// What can be met is: `reset` and each operation, or the one of this name, of which the segment that meets it is shown.
     Meet(Option<Text>),
+    /// All lines are decided, and the operations of a set that is signed off are shown as a machine.
+    Machine,
+    /// So they are, and the path is shown that the run takes whose inputs stand in the file of this name.
+    Walk(Text),
+    /// The names of the lines are shown, and none is decided.
+    Lines,
 }
 
 /// What is done, the names of the two files, the most steps of the solver for a line (1 to 10,000,000, 20,000 where no option says), how many

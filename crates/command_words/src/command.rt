@@ -1,34 +1,52 @@
 // Commands.
 ghost use Rattle.std.specs.Prelude.{◌≡◌, ◌≤◌, map, option_map, string_bytes, IfOk, IfSome};
-ghost use Rattle.command_words.specs.Commands.{HasBounds, IsBounded, action_of, command_of, demo_of, job_of, migrate_of, port_of, serve_of, service_of, store_of, texts_of, timeout_of, with_plain_words, IsServed};
+ghost use Rattle.command_words.specs.Commands.{HasBounds, IsBounded, action_of, command_of, demo_of, job_of, migrate_of, port_of, serve_of, service_of, store_of, takes, task_of, texts_of, timeout_of, verb_of, with_plain_words, IsServed};
 ghost use Rattle.command_words.specs.Seen.{AreBounded, choices_of};
 
-use crate::action::{Action, Asked, Command, Job, Service, Task, Wants};
+use crate::action::{Action, Command, Job, Service, Task, Verb, Wants};
 use crate::choices::choices_in;
 use crate::chosen::Chosen;
 use crate::number::number_within;
 use outside::Text;
+use reports::Which;
 use std::alloc::{AllocError, Global};
+
+fn verb_of(name: &[u8]) -> Option<Verb>
+    ensures { result ≡ verb_of name.now }
+{
+    if name == b"ops".as_slice() {
+        Some(Verb::Ops)
+    } else if name == b"check".as_slice() {
+        Some(Verb::Check)
+    } else if name == b"trace".as_slice() {
+        Some(Verb::Trace)
+    } else if name == b"least".as_slice() {
+        Some(Verb::Least)
+    } else if name == b"meet".as_slice() {
+        Some(Verb::Meet)
+    } else if name == b"machine".as_slice() {
+        Some(Verb::Machine)
+    } else if name == b"walk".as_slice() {
+        Some(Verb::Walk)
+    } else if name == b"lines".as_slice() {
+        Some(Verb::Lines)
+    } else {
+        None
+    }
+}
 
 fn action_of(name: &[u8]) -> Option<Action>
     ensures { result ≡ action_of name.now }
 {
-    if name == b"ops".as_slice() {
-        Some(Action::Ops)
-    } else if name == b"check".as_slice() {
-        Some(Action::Check)
-    } else if name == b"trace".as_slice() {
-        Some(Action::Trace)
-    } else if name == b"meet".as_slice() {
-        Some(Action::Meet)
-    } else if name == b"demo".as_slice() {
+    if name == b"demo".as_slice() {
         Some(Action::Demo)
     } else if name == b"serve".as_slice() {
         Some(Action::Serve)
     } else if name == b"migrate".as_slice() {
         Some(Action::Migrate)
     } else {
-        None
+        let verb = verb_of(name)?;
+        Some(Action::Texts(verb))
     }
 }
 
@@ -58,23 +76,58 @@ fn job_of(
     })
 }
 
-// A check of two files, which takes no options of serving.
+// Whether a task may have these options: where no line is decided there are none, and else none of serving.
+fn takes(task: &Task, choices: &Chosen) -> bool
+    ensures { result ≡ takes task.now (choices_of choices.now) }
+{
+    match task {
+        Task::Decide(_) | Task::Meet(_) | Task::Machine | Task::Walk(_) => {
+            choices.serves_by_default()
+        }
+        Task::Lines => choices.has_no_options(),
+    }
+}
+
+// What is done with two texts, by the words behind their files.
+fn task_of(alloc: Global, verb: Verb, words: &[Text]) -> Result<Option<Task>, AllocError>
+    ensures { IfOk result (λ o. o ≡ task_of verb words.now) }
+{
+    let task = match (verb, words) {
+        (Verb::Ops, []) => Task::Decide(Which::Ops),
+        (Verb::Check, []) => Task::Decide(Which::All),
+        (Verb::Trace, [line]) => Task::Decide(Which::One(Text::copy(alloc, line.bytes())?)),
+        (Verb::Least, [line]) => Task::Decide(Which::Least(Text::copy(alloc, line.bytes())?)),
+        (Verb::Meet, []) => Task::Meet(None),
+        (Verb::Meet, [line]) => Task::Meet(Some(Text::copy(alloc, line.bytes())?)),
+        (Verb::Machine, []) => Task::Machine,
+        (Verb::Walk, [rows]) => Task::Walk(Text::copy(alloc, rows.bytes())?),
+        (Verb::Lines, []) => Task::Lines,
+        _ => return Ok(None),
+    };
+    Ok(Some(task))
+}
+
+// What is done with the texts of two files, which are the first words.
 fn texts_of(
     alloc: Global,
-    task: Task,
-    module: &Text,
-    set: &Text,
+    verb: Verb,
     choices: &Chosen,
+    words: &[Text],
 ) -> Result<Option<Command>, AllocError>
     requires { AreBounded (choices_of choices.now) }
-    ensures is { IfOk result (λ o. o ≡ texts_of task «module».now set.now (choices_of choices.now)) }
+    ensures is { IfOk result (λ o. o ≡ texts_of verb (choices_of choices.now) words.now) }
     ensures bounded { IfOk result (λ o. IfSome o IsBounded) }
 {
-    if !choices.serves_by_default() {
+    let [module, set, rest @ ..] = words else {
         return Ok(None);
+    };
+    match task_of(alloc, verb, rest)? {
+        Some(task) if takes(&task, choices) => {
+            let job = job_of(alloc, task, module, set, choices)?;
+            Ok(Some(Command::Texts(job)))
+        }
+        _ => Ok(None),
     }
-    let job = job_of(alloc, task, module, set, choices)?;
-    Ok(Some(Command::Texts(job)))
 }
 
 // A generated check, which takes no options.
@@ -160,35 +213,7 @@ fn with_plain_words(
     ensures bounded { IfOk result (λ o. IfSome o IsBounded) }
 {
     match (action, choices.plain.as_slice()) {
-        (Action::Ops, [module, set]) => texts_of(
-            alloc,
-            Task::Decide(Asked::Ops),
-            module,
-            set,
-            choices,
-        ),
-        (Action::Check, [module, set]) => texts_of(
-            alloc,
-            Task::Decide(Asked::Check),
-            module,
-            set,
-            choices,
-        ),
-        (Action::Trace, [module, set, line]) => {
-            let line = Text::copy(alloc, line.bytes())?;
-            texts_of(
-                alloc,
-                Task::Decide(Asked::Trace(line)),
-                module,
-                set,
-                choices,
-            )
-        }
-        (Action::Meet, [module, set]) => texts_of(alloc, Task::Meet(None), module, set, choices),
-        (Action::Meet, [module, set, line]) => {
-            let line = Text::copy(alloc, line.bytes())?;
-            texts_of(alloc, Task::Meet(Some(line)), module, set, choices)
-        }
+        (Action::Texts(verb), words) => texts_of(alloc, verb, choices, words),
         (Action::Demo, [stages]) => Ok(demo_of(choices, stages)),
         (Action::Serve, [port, count, file]) => serve_of(alloc, choices, port, count, file),
         (Action::Migrate, [file]) => migrate_of(alloc, choices, file),
@@ -225,8 +250,7 @@ pub fn command_in(alloc: Global, words: &[String]) -> Result<Option<Command>, Al
     }
 }
 
-/// What the command that words spell wants opened: the file of proofs that the option `--store` of `ops`, `check`, `trace` and `meet` names, that `migrate` moves,
-/// or that holds the desk of `serve`, and the port of `serve` with the seconds that its option `--timeout` gives a peer (10 where it gives none). Neither
+/// What the command that words spell wants opened: the file of proofs that an option `--store` names, that `migrate` moves, or that holds the desk of `serve`, and the port of `serve` with the seconds that its option `--timeout` gives a peer (10 where it gives none). Neither
 /// file nor port where the words are no command, or it names none. Refused only for want of memory.
 pub fn wants(alloc: Global, words: &[String]) -> Result<Wants, AllocError>
     ensures store { IfOk result (λ w. w.store ≡ store_of (command_of (map string_bytes words.now))) }

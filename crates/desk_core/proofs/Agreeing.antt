@@ -24,7 +24,7 @@ use Rattle.reports.specs.declared.which.Which.{Which}
 use Rattle.reports.specs.declared.which.Which.TheVariants as w
 use Rattle.reports.specs.Lines.{all_proved, is_proved}
 use Rattle.reports.specs.Reports.{last_line, line_text, report_text, verdict_word}
-use Rattle.asked_lines.specs.Decided.{AreAsked, IsLineOf, Says}
+use Rattle.asked_lines.specs.Decided.{AreAsked, IsLineOf, IsOnlyLine, Says}
 use Rattle.desk_core.specs.Agreed.{Agree, IsUnspent, ReportsAgree}
 
 one_modules : (bytes : List ℕ) (ms ns : List Module) → SpellsModules bytes ms → SpellsModules bytes ns → ms ≡ ns
@@ -41,13 +41,18 @@ right budget ms b [] (d ∷ ds) h = h
 right budget ms b (x ∷ xs) [] h = h
 right budget ms b (x ∷ xs) (d ∷ ds) h = (record { name = h.0.decided.name; says = h.0.decided.says }, right budget ms b xs ds h.1)
 
+-- the line of a name of a set that a text spells is one
+one_line : (text : List ℕ) (set : Set) → Spells text set → (name : List ℕ) (xs ys : List Line) → IsOnlyLine set name xs → IsOnlyLine set name ys → xs ≡ ys
+one_line text set spelt name xs ys p q =
+    let same : p.0 ≡ q.0 = lines_have_names text set spelt p.0 q.0 p.1.among q.1.among (p.1.named ∙ sym q.1.named) in
+    p.2 ∙ (ap (λ (x : Line). x ∷ []) same ∙ sym q.2)
+
 -- what was asked for of a set that a text spells is one list
 same_asked : (text : List ℕ) (set : Set) → Spells text set → (which : Which) (xs ys : List Line) → AreAsked which set xs → AreAsked which set ys → xs ≡ ys
 same_asked text set spelt w.Ops xs ys p q = p ∙ sym q
 same_asked text set spelt w.All xs ys p q = p ∙ sym q
-same_asked text set spelt (w.One name) xs ys p q =
-    let same : p.0 ≡ q.0 = lines_have_names text set spelt p.0 q.0 p.1.among q.1.among (p.1.named ∙ sym q.1.named) in
-    p.2 ∙ (ap (λ (x : Line). x ∷ []) same ∙ sym q.2)
+same_asked text set spelt (w.One name) xs ys p q = one_line text set spelt name xs ys p q
+same_asked text set spelt (w.Least name) xs ys p q = one_line text set spelt name xs ys p q
 
 -- two right verdicts on one line that aren't spent are one
 one_verdict : (P : Type 0) (u w : Verdict) → Says P u → Says P w → u ≢ v.Spent → w ≢ v.Spent → u ≡ w

@@ -6,20 +6,18 @@ use Rattle.binding.specs.Binding.{Pair}
 use Rattle.check_faults.specs.declared.fault.CheckFault.{CheckFault}
 use Rattle.check_faults.specs.declared.fault.CheckFault.TheVariants as f
 use Rattle.check_stages.specs.Stages.{IsBoundOf, Refuses as StageRefuses}
-use Rattle.reports.specs.declared.book.Book.{Book}
 use Rattle.reports.specs.declared.book.Line.{Line as Told}
 use Rattle.reports.specs.declared.report.Report.{Report}
 use Rattle.reports.specs.declared.which.Which.{Which}
-use Rattle.reports.specs.Reports.{is_complete, report_text}
 use Rattle.asked_lines.specs.Decided.{AreDecided}
 use Rattle.asked_lines.specs.Settled.{AddsProofsOf, AreObsOf}
 use Rattle.line_designs.proofs.Existing.{bound_modules_run}
 use Rattle.asked_lines.proofs.Promising.{decided_of_modules, proved_lines_promise}
-use Rattle.desk_core.specs.Checks.{AreDecidedOf, AreObsOfTexts, IsReport, RefusesAsked, Refuses}
+use Rattle.desk_core.specs.Checks.{AreObsOfTexts, IsReport, IsReportOf, RefusesAsked, Refuses}
 
 pub is_report : (text set_text : List ℕ) (b : Pair) (which : Which) (budget : ℕ) (ds : List Told) (r : Report) → IsBoundOf text set_text b → AreDecided budget b which ds
-    → r.text ≡ report_text which ds → r.verdicts.items ≡ map (λ d. d.verdict) ds → r.complete ≡ is_complete which ds → IsReport text set_text which budget ds r
-is_report text set_text b which budget ds r bound decided told verdicts complete =
+    → IsReportOf which ds r → IsReport text set_text which budget ds r
+is_report text set_text b which budget ds r bound decided told =
     let design = bound.design_is in
     let each = decided_of_modules budget bound.modules design.flat b design.flat_of.keeps design.runs decided.lines ds decided.each in
     let promises = proved_lines_promise budget bound.modules b bound.set_is.sound which decided.lines ds decided.asked each in
@@ -29,12 +27,12 @@ is_report text set_text b which budget ds r bound decided told verdicts complete
       lines = decided.lines;
       asked = decided.asked;
       each = each;
-      text = told;
-      verdicts = verdicts;
-      complete = complete;
+      text = told.text;
+      verdicts = told.verdicts;
+      complete = told.complete;
       runs = bound_modules_run bound.modules b.set.block design.flat b.design b.set design.flat_of.keeps design.runs design.signals.design bound.fits;
       satisfied = promises.satisfied;
-      signed_off = λ is. promises.signed_off (sym complete ∙ is);
+      signed_off = λ is. promises.signed_off (sym told.complete ∙ is);
     }
 
 pub stage_refuses : (text set_text : List ℕ) (which : Which) (fault : CheckFault) → StageRefuses text set_text fault → Refuses text set_text which fault
@@ -53,11 +51,11 @@ asked_refuses text set_text b which (f.Module fault) bound h = absurd h
 asked_refuses text set_text b which (f.Set stop) bound h = absurd h
 asked_refuses text set_text b which (f.Bind fault) bound h = absurd h
 
--- what is decided of a set that is bound is of the two texts
-pub decided_of_texts : {E : Type 0} (text set_text : List ℕ) (b : Pair) (which : Which) (budget : ℕ) → IsBoundOf text set_text b → (r : Result Book E) → IfOk r (λ book. AreDecided budget b which book.lines.items)
-    → IfOk r (λ book. AreDecidedOf text set_text which budget book.lines.items)
-decided_of_texts text set_text b which budget bound (Ok book) h = (b, bound, h)
-decided_of_texts text set_text b which budget bound (Err fault) h = tt
+-- what is said of a set that is bound is of the two texts
+pub report_of_texts : {E : Type 0} (text set_text : List ℕ) (b : Pair) (which : Which) (budget : ℕ) (ds : List Told) → IsBoundOf text set_text b → (r : Result Report E) → IfOk r (λ _. AreDecided budget b which ds)
+    → IfOk r (IsReportOf which ds) → IfOk r (IsReport text set_text which budget ds)
+report_of_texts text set_text b which budget ds bound (Ok r) decided told = is_report text set_text b which budget ds r bound decided told
+report_of_texts text set_text b which budget ds bound (Err fault) decided told = tt
 
 pub refused_of_texts : {T : Type 0} (text set_text : List ℕ) (b : Pair) (which : Which) → IsBoundOf text set_text b → (r : Result T CheckFault) → IfErr r (RefusesAsked b.set which) → IfErr r (Refuses text set_text which)
 refused_of_texts text set_text b which bound (Ok t) h = tt

@@ -18,7 +18,13 @@ use Rattle.asked_lines.specs.declared.fault.LineFault.{LineFault}
 use Rattle.asked_lines.specs.declared.fault.LineFault.TheVariants as l
 use Rattle.asked_lines.specs.Asked.{RefusesLines}
 use Rattle.asked_lines.specs.Settled.{AreObsOf}
-use Rattle.asked_lines.specs.Decided.{AreAsked, AreDecided, IsLineOf, ProvesDesignLines}
+use Rattle.asked_lines.specs.Decided.{AreAsked, IsLineOf, ProvesDesignLines}
+
+-- The report of decided lines
+pub record IsReportOf (which : Which) (decided : List Told) (r : Report) : Type 0 where
+  pub text : r.text ≡ report_text which decided
+  pub verdicts : r.verdicts.items ≡ map (λ d. d.verdict) decided
+  pub complete : r.complete ≡ is_complete which decided
 
 -- The report of two texts: its lines are those asked for, each decided rightly, and its text tells them.
 pub record IsReport (module_text set_text : List ℕ) (which : Which) (budget : ℕ) (decided : List Told) (r : Report) : Type 0 where
@@ -63,7 +69,3 @@ Refuses text set_text which (f.Bind fault) = StageRefuses text set_text (f.Bind 
 -- obligations of the lines that are asked for of the set that two texts spell
 abbrev pub AreObsOfTexts : List ℕ → List ℕ → Which → List Parts → Type 0
 AreObsOfTexts text set_text which obs = (b : Pair) × IsBoundOf text set_text b × AreObsOf b which obs
-
--- lines that are asked for of the set that two texts spell, decided
-abbrev pub AreDecidedOf : List ℕ → List ℕ → Which → ℕ → List Told → Type 0
-AreDecidedOf text set_text which budget lines = (b : Pair) × IsBoundOf text set_text b × AreDecided budget b which lines

@@ -1,17 +1,19 @@
 // The check of two texts.
-ghost use Rattle.std.specs.Prelude.{◌≡◌, [], Err, IfOk, IfErr};
-ghost use Rattle.asked_lines.specs.Settled.{AddsProofsOf, AreSettled};
-ghost use Rattle.proof_store.specs.Provers.{IsSame as IsSameProver, Proceeds, asked_by, counts, kept_by};
+ghost use Rattle.std.specs.Prelude.{◌≡◌, [], None, Err, IfOk, IfErr};
+ghost use Rattle.asked_lines.specs.Least.{HasLeast};
+ghost use Rattle.asked_lines.specs.Decided.{AreDecided};
+ghost use Rattle.asked_lines.specs.Settled.{AddsProofsOf, AreObsOf, AreSettled};
+ghost use Rattle.proof_store.specs.Provers.{Proceeds, asked_by, counts, kept_by};
 ghost use Rattle.desk_core.specs.Checkers.{IsSame};
-ghost use Rattle.desk_core.specs.Checks.{AreDecidedOf, AreObsOfTexts, IsReport, Refuses, check_fault_of};
+ghost use Rattle.desk_core.specs.Checks.{AreObsOfTexts, IsReport, IsReportOf, Refuses, RefusesAsked, check_fault_of};
 
 use crate::checker::Checker;
 use asked_lines::{LineFault, decide_lines};
+use binding::Bound;
 use check_faults::CheckFault;
 use check_stages::bound_of;
 use helper_box::Helper;
 use outside::{Gate, Keeper};
-use proof_store::Prover;
 use reports::{Book, Report, Which, report_of};
 use std::thread::Threads;
 
@@ -26,36 +28,6 @@ pub fn check_fault_of(fault: LineFault) -> CheckFault
     }
 }
 
-// The lines of two texts that are asked for, decided.
-#[tactic(auto, using(crate::proofs::Checked::none_falls))]
-fn decide_texts<R: Threads + Sync, K: Keeper, H: Helper, G: Gate + Sync>(
-    prover: &mut Prover<'_, '_, '_, R, K, H, G>,
-    module: &[u8],
-    set: &[u8],
-    which: &Which,
-) -> Result<Book, CheckFault>
-    ensures lines { IfOk result (λ book. AreDecidedOf «module».now set.now which.now prover.old.settings.budget book.lines.items) }
-    ensures settled { IfOk result (λ book. AreSettled prover.old.settings.workers book
-        (kept_by K.tables prover.old) (kept_by K.tables prover.new) (asked_by H.asked prover.old) (asked_by H.asked prover.new)) }
-    ensures refuses { IfErr result (Refuses «module».now set.now which.now) }
-    ensures left { AddsProofsOf (AreObsOfTexts «module».now set.now which.now) (kept_by K.tables prover.old) (kept_by K.tables prover.new) }
-    ensures proceeds { Proceeds (result ≡ Err CheckFault.Keeper) (counts K.faults H.asked prover.old) (counts K.faults H.asked prover.new) }
-    ensures same { IsSameProver prover.old prover.new }
-{
-    match bound_of(prover.alloc, module, set) {
-        Ok(bound) => {
-            let answer = decide_lines(prover, &bound, which);
-            // a call, since a proof would write out the drop of all trees here
-            drop(bound);
-            match answer {
-                Ok(book) => Ok(book),
-                Err(fault) => Err(check_fault_of(fault)),
-            }
-        }
-        Err(fault) => Err(fault),
-    }
-}
-
 impl<'a, 'k, 'h, 'b, R: Threads + Sync, K: Keeper, H: Helper, G: Gate + Sync> Checker<
     'a,
     'k,
@@ -66,25 +38,63 @@ impl<'a, 'k, 'h, 'b, R: Threads + Sync, K: Keeper, H: Helper, G: Gate + Sync> Ch
     H,
     G,
 > {
+    /// Checks a set that is bound to a design: empties the book, decides the lines that are asked for, puts them into the book, and gives their report.
+    /// Refused where no line has the name that was asked for, where the keeper failed in this call, and for want of memory; then the book is empty.
+    /// Whatever is answered, each proof of the keeper that differs from before is one of an obligation of these lines, under its text.
+    #[tactic(auto, using(crate::proofs::Checked::none_falls))]
+    pub fn check_bound(&mut self, bound: &Bound, which: &Which) -> Result<Report, CheckFault>
+        ensures lines { IfOk result (λ _. AreDecided self.old.prover.settings.budget bound.now which.now self.new.book.now.lines.items) }
+        ensures report { IfOk result (IsReportOf which.now self.new.book.now.lines.items) }
+        ensures settled { IfOk result (λ _. AreSettled self.old.prover.settings.workers self.new.book.now (kept_by K.tables self.old.prover)
+            (kept_by K.tables self.new.prover) (asked_by H.asked self.old.prover) (asked_by H.asked self.new.prover)) }
+        ensures least { IfOk result (λ _. HasLeast which.now self.old.prover.settings.budget self.new.book.now) }
+        ensures refuses { IfErr result (RefusesAsked bound.now.set which.now) }
+        ensures empty { IfErr result (λ _. self.new.book.now.lines.items ≡ []) }
+        ensures no_least { IfErr result (λ _. self.new.book.now.least ≡ None) }
+        ensures left { AddsProofsOf (AreObsOf bound.now which.now) (kept_by K.tables self.old.prover) (kept_by K.tables self.new.prover) }
+        ensures proceeds { Proceeds (result ≡ Err CheckFault.Keeper) (counts K.faults H.asked self.old.prover) (counts K.faults H.asked self.new.prover) }
+        ensures same { IsSame self.old self.new }
+    {
+        *self.book = Book::new(self.prover.alloc);
+        match decide_lines(&mut self.prover, bound, which) {
+            Ok(book) => {
+                let report = report_of(self.prover.alloc, which, &book.lines)?;
+                *self.book = book;
+                Ok(report)
+            }
+            Err(fault) => Err(check_fault_of(fault)),
+        }
+    }
+
     /// Checks a module text with a set's text: empties the book, decides the lines that are asked for, puts them into the book, and gives their
-    /// report. Where the report is complete, the block is signed off: every constrained run of the modules from reset satisfies the set, and the set
-    /// fixes its outputs wherever it claims them. A refusal names the first stage that refuses, or says that no line has the name that was asked for,
-    /// that the keeper failed in this call, or that memory ran out; it leaves the book empty. Whatever is answered, each proof of the keeper that
-    /// differs from before is one of an obligation of these lines, under its text.
+    /// report. Where the least counterexample is asked for and the line is refuted, its values and its trace are the least ones, with what shows that
+    /// none are smaller, or where the budget was spent on a bit. Where the report is complete, the block is signed off: every constrained run of the
+    /// modules from reset satisfies the set and walks along its operations, and the set fixes its outputs wherever it claims them. A refusal names the
+    /// first stage that refuses, or says that no line has the name that was asked for, that the keeper failed in this call, or that memory ran out; it
+    /// leaves the book empty. Whatever is answered, each proof of the keeper that differs from before is one of an obligation of these lines, under its
+    /// text.
+    #[tactic(auto, using(crate::proofs::Checked::none_falls))]
     pub fn check(&mut self, module: &[u8], set: &[u8], which: &Which) -> Result<Report, CheckFault>
         ensures report { IfOk result (IsReport «module».now set.now which.now self.old.prover.settings.budget self.new.book.now.lines.items) }
         ensures settled { IfOk result (λ _. AreSettled self.old.prover.settings.workers self.new.book.now (kept_by K.tables self.old.prover)
             (kept_by K.tables self.new.prover) (asked_by H.asked self.old.prover) (asked_by H.asked self.new.prover)) }
+        ensures least { IfOk result (λ _. HasLeast which.now self.old.prover.settings.budget self.new.book.now) }
         ensures refuses { IfErr result (Refuses «module».now set.now which.now) }
         ensures empty { IfErr result (λ _. self.new.book.now.lines.items ≡ []) }
+        ensures no_least { IfErr result (λ _. self.new.book.now.least ≡ None) }
         ensures left { AddsProofsOf (AreObsOfTexts «module».now set.now which.now) (kept_by K.tables self.old.prover) (kept_by K.tables self.new.prover) }
         ensures proceeds { Proceeds (result ≡ Err CheckFault.Keeper) (counts K.faults H.asked self.old.prover) (counts K.faults H.asked self.new.prover) }
         ensures same { IsSame self.old self.new }
     {
         *self.book = Book::new(self.prover.alloc);
-        let decided = decide_texts(&mut self.prover, module, set, which)?;
-        let report = report_of(self.prover.alloc, which, &decided.lines)?;
-        *self.book = decided;
-        Ok(report)
+        match bound_of(self.prover.alloc, module, set) {
+            Ok(bound) => {
+                let answer = self.check_bound(&bound, which);
+                // a call, since a proof would write out the drop of all trees here
+                drop(bound);
+                answer
+            }
+            Err(fault) => Err(fault),
+        }
     }
 }

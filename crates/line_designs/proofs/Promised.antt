@@ -8,8 +8,9 @@ use Rattle.set_designs.specs.Designs.{design_from}
 use Rattle.completeness.proofs.Complete.{complete}
 use Rattle.completeness.proofs.Forever.{complete_forever}
 use Rattle.completeness.proofs.ReportLines.{are_design_lines_valid}
-use Rattle.completeness.proofs.SignedOff.{runs, set_valid}
+use Rattle.completeness.proofs.SignedOff.{runs, set_valid, walks}
 use Rattle.completeness.proofs.Sound.{runs_satisfy}
+use Rattle.completeness.proofs.Walks.{have_same_paths}
 use Rattle.line_designs.specs.Promises.{CleanDesignLinesHold, CleanReportsSignOff}
 
 reads : (set : Set) → ReadsWithin (meaning_of set)
@@ -23,5 +24,11 @@ pub reports_sign_off : CleanReportsSignOff
 reports_sign_off ms top set sound clean =
     let m = meaning_of set in
     let d = design_from ms top set in
-    let whole = complete m (reads set) set sound (set_valid d m (reads set) set sound clean) in
-    record { runs = runs d m (reads set) set sound clean; complete = whole; forever = complete_forever m (reads set) set sound whole }
+    let valid = set_valid d m (reads set) set sound clean in
+    let whole = complete m (reads set) set sound valid in record {
+      runs = runs d m (reads set) set sound clean;
+      complete = whole;
+      forever = complete_forever m (reads set) set sound whole;
+      walks = walks d m (reads set) set sound clean;
+      paths = have_same_paths m (reads set) set sound valid;
+    }

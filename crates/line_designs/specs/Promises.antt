@@ -8,6 +8,7 @@ use Rattle.set_tree.specs.declared.line.Line.{Line}
 use Rattle.set_tree.specs.declared.set.Set.{Set}
 use Rattle.set_tree.specs.Formulas.{meaning_of}
 use Rattle.set_tree.specs.Meaning.{Meaning}
+use Rattle.set_tree.specs.Paths.{HaveSamePaths, RunsWalk}
 use Rattle.set_tree.specs.Report.{AllValid, IsSignedOff, IsViolated, design_lines}
 use Rattle.set_tree.specs.Runs.{RunsSatisfy}
 use Rattle.set_tree.specs.Structure.{IsSound}
@@ -30,11 +31,13 @@ abbrev pub HoldsInRuns : List Module → Name → Set → Type 0
 HoldsInRuns ms top set = RunsSatisfy (design_from ms top set) (meaning_of set) set
 
 -- so it does, and any two constrained traces with the same inputs that satisfy the set, finite or infinite, have the same domains and the same
--- outputs within them at every cycle
+-- outputs within them at every cycle; each constrained run from reset is a walk along the operations, and two such traces have the same path
 pub record SignsOff (ms : List Module) (top : Name) (set : Set) : Type 0 where
   pub runs : HoldsInRuns ms top set
   pub complete : IsComplete (meaning_of set) set
   pub forever : IsCompleteForever (meaning_of set) set
+  pub walks : RunsWalk (design_from ms top set) (meaning_of set) set
+  pub paths : HaveSamePaths (meaning_of set) set
 
 abbrev pub CleanDesignLinesHold : Type 0
 CleanDesignLinesHold =

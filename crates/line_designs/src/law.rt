@@ -9,7 +9,7 @@ pub fn lines_are_the_modules()
 {}
 
 /// Where no line of a sound set's report is violated, every constrained run of the modules from reset satisfies the set, and the set is complete
-/// (J. Bormann, Vollständige funktionale Verifikation, 2009). Where none of the lines on the design is, the former holds.
+/// (J. Bormann, Vollständige funktionale Verifikation, 2009); its runs walk along the operations. Where none of the lines on the design is, the former holds.
 pub fn reports_are_promises()
     ensures design { CleanDesignLinesHold }
     ensures report { CleanReportsSignOff }

@@ -110,5 +110,6 @@ pub(crate) fn decide_lines<R: Threads + Sync, K: Keeper, H: Helper, G: Gate + Sy
         helped,
         solved,
         draws,
+        least: None,
     })
 }

@@ -21,6 +21,7 @@ abbrev pub last_line : Which → Bool → List ℕ
 last_line w.Ops b = if b then codes "satisfied\n" else codes "not satisfied\n"
 last_line w.All b = if b then codes "signed off\n" else codes "not signed off\n"
 last_line (w.One name) b = []
+last_line (w.Least name) b = []
 
 abbrev pub report_text : Which → List Line → List ℕ
 report_text which lines = flat_map line_text lines ++ last_line which (all_proved lines)
@@ -29,6 +30,7 @@ abbrev pub is_all : Which → Bool
 is_all w.Ops = false
 is_all w.All = true
 is_all (w.One name) = false
+is_all (w.Least name) = false
 
 -- all lines of the report were asked for and proved
 abbrev pub is_complete : Which → List Line → Bool

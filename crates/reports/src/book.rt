@@ -1,8 +1,9 @@
 // The lines that a check decided.
-ghost use Rattle.std.specs.Prelude.{◌≡◌, []};
+ghost use Rattle.std.specs.Prelude.{◌≡◌, [], None};
 ghost use Rattle.reports.specs.Lines.{verdict_of};
 
 use job_pool::Evidence;
+use least_trace::LeastEnd;
 use outside::Text;
 use replay::Shown;
 use std::alloc::Global;
@@ -42,6 +43,8 @@ pub struct Book {
     pub solved: u64,
     /// The numbers that the workers drew, in ascending order.
     pub draws: Vec<u64>,
+    /// Where the least counterexample was asked for and the line is refuted: what shows that none is smaller, or where the search for it stopped.
+    pub least: Option<LeastEnd>,
 }
 
 impl Book {
@@ -49,6 +52,7 @@ impl Book {
     pub fn new(alloc: Global) -> Book
         ensures lines { result.lines.items ≡ [] }
         ensures draws { result.draws.items ≡ [] }
+        ensures least { result.least ≡ None }
     {
         Book {
             lines: Vec::new(alloc),
@@ -56,6 +60,7 @@ impl Book {
             helped: 0,
             solved: 0,
             draws: Vec::new(alloc),
+            least: None,
         }
     }
 }

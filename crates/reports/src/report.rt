@@ -58,7 +58,7 @@ fn last_line(which: &Which, all: bool) -> &'static [u8]
         } else {
             b"not signed off\n"
         },
-        Which::One(_) => b"",
+        Which::One(_) | Which::Least(_) => b"",
     }
 }
 
@@ -98,7 +98,7 @@ fn is_all(which: &Which) -> bool
     match which {
         Which::Ops => false,
         Which::All => true,
-        Which::One(_) => false,
+        Which::One(_) | Which::Least(_) => false,
     }
 }
 

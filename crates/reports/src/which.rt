@@ -10,4 +10,6 @@ pub enum Which {
     All,
     /// The line of this name.
     One(Text),
+    /// The line of this name, and of its counterexamples the least one.
+    Least(Text),
 }

@@ -1,1 +1,4 @@
+pub mod Answers
+pub mod Tasks
+pub mod Bound
 pub mod Run

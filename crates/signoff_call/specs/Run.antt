@@ -27,8 +27,6 @@ use Rattle.desk_core.specs.Checks.{AreObsOfTexts, IsReport, Refuses}
 use Rattle.meet_lines.specs.Meetings.{AreObsOfTexts as AreMeetObsOfTexts, IsMeetReport, Refuses as RefusesMeet}
 use Rattle.reports.specs.Lines.{is_proved}
 use Rattle.reports.specs.Reports.{last_line}
-use Rattle.command_words.specs.declared.action.Asked.{Asked}
-use Rattle.command_words.specs.declared.action.Asked.TheVariants as a
 use Rattle.command_words.specs.declared.action.Command.{Command}
 use Rattle.command_words.specs.declared.action.Command.TheVariants as c
 use Rattle.command_words.specs.declared.action.Job.{Job}
@@ -43,144 +41,24 @@ use Rattle.desk_http.specs.Serving.{Line as Wires, ServesMany, ServesQuota, Stat
 use Rattle.signoff_call.specs.declared.answer.Answer.{Answer}
 use Rattle.signoff_call.specs.declared.texts.Counts.{Counts}
 use Rattle.signoff_call.specs.declared.files.Read.{Read}
-use Rattle.signoff_call.specs.declared.files.Read.TheVariants.{NoModule, NoSet, Both}
+use Rattle.signoff_call.specs.declared.files.Read.TheVariants.{NoModule, NoSet, NoMore, All}
+use Rattle.signoff_call.specs.Answers.{counted_word, done, moved_text, refusal, summary}
+use Rattle.signoff_call.specs.Tasks.{AnswersTask, AnswersTexts, AreObsOfTask, RefusesBy, Stores, stores}
 
--- ---- reports
+-- the name of the third file, where there is one
+abbrev pub more_name : Task → List ℕ
+more_name (t.Decide which) = []
+more_name (t.Meet name) = []
+more_name t.Machine = []
+more_name (t.Walk rows) = rows
+more_name t.Lines = []
 
-abbrev pub is_refuted : Verdict → Bool
-is_refuted v.Proved = false
-is_refuted v.Refuted = true
-is_refuted v.Spent = false
-
-abbrev pub is_spent : Verdict → Bool
-is_spent v.Proved = false
-is_spent v.Refuted = false
-is_spent v.Spent = true
-
--- 1 where a line is refuted, else 10 where one is spent, else 0
-abbrev pub status_from : List Verdict → ℕ
-status_from vs = if list_any is_refuted vs then 1 else if list_any is_spent vs then 10 else 0
-
--- a refuted line's counterexample stands for the report
-abbrev pub traced : Option Shown → List ℕ → List ℕ → List ℕ
-traced None name text = text
-traced (Some shown) name text = trace_text name shown
-
-abbrev pub first_traced : List Line → List ℕ → List ℕ
-first_traced [] text = text
-first_traced (l ∷ lines) text = traced l.trace l.name text
-
-abbrev pub report_bytes : Asked → List Line → Report → List ℕ
-report_bytes a.Ops lines r = r.text
-report_bytes a.Check lines r = r.text
-report_bytes (a.Trace name) lines r = first_traced lines r.text
-
--- a number and a word
-abbrev pub counted_word : ℕ → List ℕ → List ℕ
-counted_word n word = decimal n ++ word
-
--- the summary of a generated check
-abbrev pub summary_line : ℕ → List Verdict → List ℕ
-summary_line n vs =
-    (((((codes "demo " ++ counted_word n (codes ": ")) ++ counted_word (length vs) (codes " lines, ")) ++ counted_word (count_by is_proved vs) (codes " proved, "))
-    ++ counted_word (count_by is_refuted vs) (codes " refuted, ")) ++ counted_word (count_by is_spent vs) (codes " spent\n"))
-
-abbrev pub summary : ℕ → Report → List ℕ
-summary n r = summary_line n r.verdicts.items ++ last_line w.All r.complete
-
-abbrev pub counted : List Verdict → Counts
-counted vs = record { proved = count_by is_proved vs; refuted = count_by is_refuted vs; spent = count_by is_spent vs }
-
--- what became of the rows of kept proofs
-abbrev pub moved_line : Moved → List ℕ
-moved_line m =
-    counted_word m.moved (codes ", left ") ++ (counted_word m.left (codes "\n") ++ (if m.more then codes "more\n" else []))
-
-abbrev pub moved_text : Moved → List ℕ
-moved_text m = codes "migrated " ++ moved_line m
-
--- ---- answers
-
-abbrev pub refusal : ℕ → List ℕ → Answer
-refusal status line = record { status = status; bytes = line ++ 10 ∷ []; reports = false }
-
-abbrev pub reported : List Verdict → List ℕ → Answer
-reported vs bytes = record { status = status_from vs; bytes = bytes; reports = true }
-
--- 1 where a line is met by nothing, else 10 where one is spent, else 0
-abbrev pub meet_status : List Verdict → ℕ
-meet_status vs = if list_any is_proved vs then 1 else if list_any is_spent vs then 10 else 0
-
--- what is said of what can be met
-abbrev pub met : Report → Answer
-met r = record { status = meet_status r.verdicts.items; bytes = r.text; reports = true }
-
--- status 0 and these bytes
-abbrev pub done : List ℕ → Answer
-done bytes = record { status = 0; bytes = bytes; reports = true }
-
-abbrev pub which_of : Asked → Which
-which_of a.Ops = w.Ops
-which_of a.Check = w.All
-which_of (a.Trace name) = w.One name
-
--- what a keeper holds before and after, where it is told, and how often each helper was asked before
-pub record Stores : Type 0 where
-  pub before : Option Tables
-  pub after : Option Tables
-  pub asked : List ℕ
-
-abbrev pub stores : Option Tables → Option Tables → List ℕ → Stores
-stores before after asked = record { before = before; after = after; asked = asked }
-
--- a fault refuses two texts, or the keeper failed; the proofs that differ are of obligations of the call
-pub record RefusesTexts (Refuses : CheckFault → Type 0) (OfCall : List Parts → Type 0) (book : Book) (st : Stores) (answer : Answer) : Type 0 where
-  pub fault : CheckFault
-  pub refuses : Refuses fault
-  pub no_memory : fault ≢ f.Memory
-  pub empty : book.lines.items ≡ []
-  pub left : AddsProofsOf OfCall st.before st.after
-  pub answer_is : answer ≡ refusal (status_of fault) (fault_line fault)
-
--- the answer is what is said of the report of two texts, whose lines are those of the book, settled over the keeper
-pub record ReportsTexts (IsReport : Report → Type 0) (workers : ℕ) (said : Report → Answer) (book : Book) (st : Stores) (answer : Answer) : Type 0 where
-  pub report : Report
-  pub is_report : IsReport report
-  pub asked : List ℕ
-  pub settled : AreSettled workers book st.before st.after st.asked asked
-  pub answer_is : answer ≡ said report
-
--- the lines of two texts that are asked for, or why there are none
-abbrev pub AnswersTexts : List ℕ → List ℕ → Which → ℕ → ℕ → (Report → List ℕ) → Book → Stores → Answer → Type 0
-AnswersTexts m s which budget workers said book st answer =
-    RefusesTexts (Refuses m s which) (AreObsOfTexts m s which) book st answer
-    ⊎ ReportsTexts (IsReport m s which budget book.lines.items) workers (λ r. reported r.verdicts.items (said r)) book st answer
-
--- what can be met in them, or why that isn't told
-abbrev pub AnswersMeet : List ℕ → List ℕ → Option (List ℕ) → ℕ → ℕ → Book → Stores → Answer → Type 0
-AnswersMeet m s name budget workers book st answer =
-    RefusesTexts (RefusesMeet m s name) (AreMeetObsOfTexts m s name) book st answer
-    ⊎ ReportsTexts (IsMeetReport m s name budget book.lines.items) workers met book st answer
-
-abbrev pub AnswersTask : Task → List ℕ → List ℕ → ℕ → ℕ → Book → Stores → Answer → Type 0
-AnswersTask (t.Decide asked) m s budget workers book st answer = AnswersTexts m s (which_of asked) budget workers (report_bytes asked book.lines.items) book st answer
-AnswersTask (t.Meet name) m s budget workers book st answer = AnswersMeet m s name budget workers book st answer
-
--- the obligations of what is done with two texts
-abbrev pub AreObsOfTask : Task → List ℕ → List ℕ → List Parts → Type 0
-AreObsOfTask (t.Decide asked) m s = AreObsOfTexts m s (which_of asked)
-AreObsOfTask (t.Meet name) m s = AreMeetObsOfTexts m s name
-
--- a refusal of what has this name, no line in the book, and nothing new at the keeper
-pub record RefusesBy (status : ℕ) (line : List ℕ) (book : Book) (st : Stores) (answer : Answer) : Type 0 where
-  pub empty : book.lines.items ≡ []
-  pub same : st.after ≡ st.before
-  pub answer_is : answer ≡ refusal status line
-
+-- the answer to two texts that were read, or to a file that wasn't
 abbrev pub AnswersJob : Job → Read → Book → Stores → Answer → Type 0
 AnswersJob j NoModule book st answer = RefusesBy 6 (codes "read: " ++ j.module) book st answer
 AnswersJob j NoSet book st answer = RefusesBy 6 (codes "read: " ++ j.set) book st answer
-AnswersJob j (Both m s) book st answer = AnswersTask j.task m s j.budget j.workers book st answer
+AnswersJob j NoMore book st answer = RefusesBy 6 (codes "read: " ++ more_name j.task) book st answer
+AnswersJob j (All texts) book st answer = AnswersTask j.task texts.module texts.set texts.more j.budget j.workers book st answer
 
 -- the keeper failed while rows were moved, or the answer tells what became of them, no line in the book
 pub record AnswersMove (book : Book) (st : Stores) (answer : Answer) : Type 0 where
@@ -241,11 +119,20 @@ pub record LeavesServed (s : Service) (a b : Around) : Type 0 where
 abbrev pub IsFile : Option (List ℕ → Option (List ℕ)) → List ℕ → List ℕ → Type 0
 IsFile shelf name text = IfSome shelf (λ files. IsSomeAnd (files name) (λ file. text ≡ take (1048576 + 1) file))
 
--- what was read is what the shelf has; it failed only where its count rose, and the module is read first
+-- the third file, where there is one, and else no bytes
+abbrev pub IsMore : Option (List ℕ → Option (List ℕ)) → Task → List ℕ → Type 0
+IsMore shelf (t.Decide which) text = text ≡ []
+IsMore shelf (t.Meet name) text = text ≡ []
+IsMore shelf t.Machine text = text ≡ []
+IsMore shelf (t.Walk rows) text = IsFile shelf rows text
+IsMore shelf t.Lines text = text ≡ []
+
+-- what was read is what the shelf has; it failed only where its count rose, and the files are read in this order
 abbrev pub IsRead : Option (List ℕ → Option (List ℕ)) → ℕ → ℕ → Job → Read → Type 0
 IsRead shelf before now j NoModule = Rose before now
 IsRead shelf before now j NoSet = Rose before now
-IsRead shelf before now j (Both m s) = IsFile shelf j.module m × IsFile shelf j.set s
+IsRead shelf before now j NoMore = Rose before now
+IsRead shelf before now j (All texts) = IsFile shelf j.module texts.module × IsFile shelf j.set texts.set × IsMore shelf j.task texts.more
 
 -- what was read for a command; without files nothing is
 abbrev pub Reads : Option (List ℕ → Option (List ℕ)) → ℕ → ℕ → Option Command → Read → Type 0
@@ -262,7 +149,8 @@ Reads shelf before now (Some (c.Migrate file)) read = now ≡ before
 abbrev pub LeavesRead : Job → Read → Option Tables → Option Tables → Type 0
 LeavesRead j NoModule before after = after ≡ before
 LeavesRead j NoSet before after = after ≡ before
-LeavesRead j (Both m s) before after = AddsProofsOf (AreObsOfTask j.task m s) before after
+LeavesRead j NoMore before after = after ≡ before
+LeavesRead j (All texts) before after = AddsProofsOf (AreObsOfTask j.task texts.module texts.set) before after
 
 -- nothing is new, or what is left comes of two texts that the shelf has under the names of the job
 abbrev pub LeavesTexts : Option (List ℕ → Option (List ℕ)) → Job → Option Tables → Option Tables → Type 0

@@ -1,8 +1,9 @@
 // What a run answers.
-ghost use Rattle.std.specs.Prelude.{◌≡◌, ◌++◌, IfOk, if◌then◌else◌};
+ghost use Rattle.std.specs.Prelude.{◌≡◌, ◌≢◌, ◌++◌, IfOk, if◌then◌else◌};
 ghost use Rattle.std.specs.List.{list_any};
 ghost use Rattle.fault_texts.specs.Texts.{fault_line, status_of};
-ghost use Rattle.signoff_call.specs.Run.{done, is_refuted, is_spent, meet_status, met as met_of, refusal as refusal_of, reported, status_from};
+ghost use Rattle.check_faults.specs.declared.fault.CheckFault.TheVariants.{Memory};
+ghost use Rattle.signoff_call.specs.Answers.{done, is_refuted, is_spent, meet_status, met as met_of, refusal as refusal_of, reported, status_from};
 ghost use Rattle.reports.specs.Lines.{is_proved};
 
 use check_faults::CheckFault;
@@ -145,10 +146,23 @@ pub fn refusal(alloc: Global, status: u8, line: &[u8], name: &[u8]) -> Result<An
     })
 }
 
-/// The line of a fault, with its status.
-pub fn refused(alloc: Global, fault: &CheckFault) -> Result<Answer, AllocError>
+// The line of a fault, with its status.
+fn refused(alloc: Global, fault: &CheckFault) -> Result<Answer, AllocError>
     ensures { IfOk result (λ a. a ≡ refusal_of (status_of fault.now) (fault_line fault.now)) }
 {
     let line = fault_line(alloc, fault)?;
     refusal(alloc, status_of(fault), line.bytes(), b"")
+}
+
+/// The answer where a stage refuses; want of memory is none.
+pub fn turned_down(alloc: Global, fault: CheckFault) -> Result<Answer, AllocError>
+    ensures memory { IfOk result (λ _. fault ≢ Memory) }
+    ensures line { IfOk result (λ a. a ≡ refusal_of (status_of fault) (fault_line fault)) }
+{
+    if let CheckFault::Memory = fault {
+        return Err(AllocError);
+    }
+    let answer = refused(alloc, &fault);
+    drop(fault);
+    answer
 }

@@ -2,23 +2,32 @@
 ghost use Rattle.std.specs.Prelude.{IfOk};
 ghost use Rattle.signoff_call.specs.Run.{IsRead};
 
-use command_words::Job;
+use command_words::{Job, Task};
 use outside::{OutFault, Shelf, Text};
 use std::alloc::{AllocError, Global};
 
-/// What was read. The module is read first.
+/// The text of a module, that of a set, and that of a third file, which is empty where a command has none.
+#[derive(Drop)]
+pub struct Texts {
+    pub module: Text,
+    pub set: Text,
+    pub more: Text,
+}
+
+/// What was read. The files are read in the order of the words.
 #[derive(Drop)]
 pub enum Read {
     NoModule,
     NoSet,
-    Both(Text, Text),
+    NoMore,
+    All(Texts),
 }
 
 /// The most bytes of a text.
 const LIMIT: usize = 1048576;
 
-/// Reads the module, and then the set.
-pub fn read_both<F: Shelf>(alloc: Global, shelf: &mut F, job: &Job) -> Result<Read, AllocError>
+/// Reads the module, then the set, and then the third file, where the command has one.
+pub fn read_all<F: Shelf>(alloc: Global, shelf: &mut F, job: &Job) -> Result<Read, AllocError>
     ensures { IfOk result (λ read. IsRead (F.files shelf.old) (F.faults shelf.old) (F.faults shelf.new) job.now read) }
 {
     let module = match shelf.read(alloc, job.module.bytes(), LIMIT) {
@@ -31,5 +40,15 @@ pub fn read_both<F: Shelf>(alloc: Global, shelf: &mut F, job: &Job) -> Result<Re
         Err(OutFault::Failed) => return Ok(Read::NoSet),
         Err(OutFault::Memory) => return Err(AllocError),
     };
-    Ok(Read::Both(module, set))
+    let more = match &job.task {
+        Task::Walk(rows) => match shelf.read(alloc, rows.bytes(), LIMIT) {
+            Ok(bytes) => Text::new(bytes),
+            Err(OutFault::Failed) => return Ok(Read::NoMore),
+            Err(OutFault::Memory) => return Err(AllocError),
+        },
+        Task::Decide(_) | Task::Meet(_) | Task::Machine | Task::Lines => {
+            Text::new(Vec::new(alloc))
+        }
+    };
+    Ok(Read::All(Texts { module, set, more }))
 }

@@ -4,7 +4,9 @@
 mod answer;
 mod files;
 mod lines;
+mod listing;
 mod moved;
+mod paths;
 mod run;
 mod serving;
 mod texts;

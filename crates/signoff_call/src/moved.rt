@@ -4,7 +4,9 @@ ghost use Rattle.std.specs.Fmt.{decimal};
 ghost use Rattle.outside.specs.Faults.{Rose};
 ghost use Rattle.proof_store.specs.Moves.{MovesRows};
 ghost use Rattle.proof_store.specs.Stored.{Told};
-ghost use Rattle.signoff_call.specs.Run.{AnswersMove, moved_line, moved_text, stores};
+ghost use Rattle.signoff_call.specs.Answers.{moved_line, moved_text};
+ghost use Rattle.signoff_call.specs.Run.{AnswersMove};
+ghost use Rattle.signoff_call.specs.Tasks.{stores};
 
 use crate::answer::{Answer, done, refusal};
 use outside::{Keeper, Text};

@@ -5,17 +5,18 @@ ghost use Rattle.outside.specs.Faults.{Rose};
 ghost use Rattle.command_words.specs.Commands.{IsBounded, HasBounds, command_of};
 ghost use Rattle.proof_store.specs.Provers.{asked_by, kept_by};
 ghost use Rattle.desk_http.specs.Serving.{line, state, state_of};
-ghost use Rattle.signoff_call.specs.Run.{Answers, AnswersJob, Delivers, HasSame, LeavesRead, LeavesRows, Reads, around, stores};
+ghost use Rattle.signoff_call.specs.Run.{Answers, AnswersJob, Delivers, HasSame, LeavesRead, LeavesRows, Reads, around, more_name};
+ghost use Rattle.signoff_call.specs.Tasks.{stores};
 ghost use Rattle.signoff_call.specs.declared.answer.Answer.{Answer};
 ghost use Rattle.signoff_call.specs.declared.files.Read.{Read};
 
 use crate::answer::{Answer, refusal};
-use crate::files::{Read, read_both};
+use crate::files::{Read, read_all};
 use crate::lines::put_lines;
 use crate::moved::moved;
 use crate::serving::served;
 use crate::texts::{demonstrated, judged};
-use command_words::{Command, Job, command_in};
+use command_words::{Command, Job, Task, command_in};
 use desk_core::{Checker, Prover, Settings};
 use helper_box::Helper;
 use outside::{Gate, Keeper, OutFault, Port, Shelf, Sink};
@@ -25,15 +26,19 @@ use std::thread::Threads;
 
 /// The top call: answers the words, and puts the answer; the lines that it decides stand in the book. The commands are `ops M S`, which decides the
 /// lines on the design of the module in the file M with the set in the file S, `check M S`, which decides all lines, `trace M S NAME`, which decides the
-/// line of this name and puts its counterexample where it is refuted, `meet M S` and `meet M S NAME`, which say what can be met, each with the options `--budget B`, `--workers W` and `--store FILE`, `demo N`, which
-/// checks the generated texts of N stages, `serve PORT COUNT FILE`, which serves the desk that FILE holds to COUNT connections at PORT, and `migrate FILE`,
-/// which puts the proofs that FILE keeps again as records of the newest form. Lines whose proofs the keeper holds aren't solved again, and new proofs are
+/// line of this name and puts its counterexample where it is refuted, `least M S NAME`, which puts the least one, `meet M S` and `meet M S NAME`, which
+/// say what can be met, `machine M S`, which decides all lines and puts the operations of a set that is signed off as a machine, and `walk M S ROWS`,
+/// which puts the path of the run from reset whose registers are 0 at first and whose inputs the file ROWS gives, each with the options `--budget B`,
+/// `--workers W` and `--store FILE`; `lines M S`, which puts the names of all lines and decides none, `demo N`, which checks the generated texts of N
+/// stages, `serve PORT COUNT FILE`, which serves the desk that FILE holds to COUNT connections at PORT, and `migrate FILE`, which puts the proofs that
+/// FILE keeps again as records of the newest form. Lines whose proofs the keeper holds aren't solved again, and new proofs are
 /// put to it; the helpers are asked before the workers. The status is
 ///
 /// - 2 where the words are no command, or no line has the name, with the line `usage`;
-/// - 6 where a file can't be read, with the line `read: ` and its name, the module's first;
+/// - 6 where a file can't be read, with the line `read: ` and its name, the first in the order of the words;
 /// - 3 where the module text is refused, `module: ` and the fault; 4 where the set's text is, `set: ` and the fault; 5 where the set doesn't fit the
 ///   design, `bind: ` and the fault. The first stage that refuses is answered: the module text is read, then the set's, then the modules are made a design;
+/// - 11 where rows are refused or their run breaks a constraint, with the line `rows: ` and the fault or the cycle;
 /// - 8 where the keeper fails, with the line `keeper`; while the desk is served a peer is told so;
 /// - 9 where the port has no next connection, with the line `port`;
 /// - 7 where the sink refuses a report;
@@ -118,12 +123,22 @@ fn answered<R: Threads + Sync, F: Shelf, K: Keeper, P: Port, H: Helper, G: Gate 
     match command_in(alloc, words)? {
         None => refusal(alloc, 2, b"usage", b""),
         Some(Command::Texts(job)) => {
-            let read = read_both(alloc, shelf, &job)?;
+            let read = read_all(alloc, shelf, &job)?;
             job_answer(checker, &job, &read)
         }
         Some(Command::Demo(stages)) => demonstrated(checker, stages),
         Some(Command::Serve(service)) => served(checker, port, &service),
         Some(Command::Migrate(_)) => moved(alloc, checker.prover.keeper, checker.book),
+    }
+}
+
+// The name of the third file, where there is one.
+fn more_name(task: &Task) -> &[u8]
+    ensures { result.now ≡ more_name task.now }
+{
+    match task {
+        Task::Decide(_) | Task::Meet(_) | Task::Machine | Task::Lines => b"",
+        Task::Walk(rows) => rows.bytes(),
     }
 }
 
@@ -144,7 +159,8 @@ fn job_answer<R: Threads + Sync, K: Keeper, H: Helper, G: Gate + Sync>(
     match read {
         Read::NoModule => refusal(alloc, 6, b"read: ", job.module.bytes()),
         Read::NoSet => refusal(alloc, 6, b"read: ", job.set.bytes()),
-        Read::Both(module, set) => judged(checker, job, module, set),
+        Read::NoMore => refusal(alloc, 6, b"read: ", more_name(&job.task)),
+        Read::All(texts) => judged(checker, job, texts),
     }
 }
 

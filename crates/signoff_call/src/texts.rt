@@ -1,11 +1,11 @@
 // What is answered to two texts.
-ghost use Rattle.std.specs.Prelude.{◌≡◌, ◌≢◌, ◌≤◌, ◌++◌, [], IfOk, OnOk, option_map};
+ghost use Rattle.std.specs.Prelude.{◌≡◌, ◌≤◌, ◌++◌, [], IfOk, OnOk, option_map};
 ghost use Rattle.std.specs.Fmt.{decimal};
 ghost use Rattle.command_words.specs.Commands.{HasBounds};
-ghost use Rattle.check_faults.specs.declared.fault.CheckFault.TheVariants.{Memory};
-ghost use Rattle.fault_texts.specs.Texts.{fault_line, status_of};
 ghost use Rattle.outside.specs.Faults.{Rose};
-ghost use Rattle.signoff_call.specs.Run.{AnswersMeet, AnswersTask, AnswersTexts, AreObsOfTask, HasSame, counted, first_traced, refusal, report_bytes, stores, summary, summary_line, which_of};
+ghost use Rattle.signoff_call.specs.Answers.{counted, first_traced, least_line, report_bytes, summary, summary_line};
+ghost use Rattle.signoff_call.specs.Run.{HasSame};
+ghost use Rattle.signoff_call.specs.Tasks.{AnswersMeet, AnswersTask, AnswersTexts, AreObsOfTask, stores};
 ghost use Rattle.reports.specs.Reports.{last_line};
 ghost use Rattle.asked_lines.specs.Settled.{AddsProofsOf};
 ghost use Rattle.proof_store.specs.Provers.{asked_by, kept_by};
@@ -14,29 +14,22 @@ ghost use Rattle.meet_lines.specs.Meetings.{AreObsOfTexts as AreMeetObsOfTexts};
 ghost use Rattle.demo_gen.specs.Texts.{module_text, set_text};
 ghost use Rattle.reports.specs.declared.which.Which.TheVariants as w;
 
-use crate::answer::{Answer, met, refused, reported};
-use check_faults::CheckFault;
-use command_words::{Asked, Job, Task};
+use crate::answer::{Answer, met, reported, turned_down};
+use crate::files::Texts;
+use crate::listing::lines_listed;
+use crate::paths::{machine_of, walk_of};
+use command_words::{Job, Task};
 use demo_gen::{module_text, set_text};
 use desk_core::Checker;
 use helper_box::Helper;
+use least_trace::LeastEnd;
 use meet_lines::meet;
 use outside::{Gate, Keeper, Text};
 use proof_store::Settings;
 use replay::trace_text;
-use reports::{Line, Report, Verdict, Which};
+use reports::{Book, Line, Report, Verdict, Which};
 use std::alloc::{AllocError, Global};
 use std::thread::Threads;
-
-fn which_of(alloc: Global, asked: &Asked) -> Result<Which, AllocError>
-    ensures { IfOk result (λ which. which ≡ which_of asked.now) }
-{
-    match asked {
-        Asked::Ops => Ok(Which::Ops),
-        Asked::Check => Ok(Which::All),
-        Asked::Trace(name) => Ok(Which::One(Text::copy(alloc, name.bytes())?)),
-    }
-}
 
 // The counterexample of the first line, if it has one, for a report.
 fn first_traced(alloc: Global, lines: &[Line], text: &Text) -> Result<Text, AllocError>
@@ -51,54 +44,62 @@ fn first_traced(alloc: Global, lines: &[Line], text: &Text) -> Result<Text, Allo
     }
 }
 
-// What is put of a report.
-fn report_bytes(
-    alloc: Global,
-    asked: &Asked,
-    lines: &[Line],
-    report: &Report,
-) -> Result<Text, AllocError>
-    ensures { IfOk result (λ bytes. bytes ≡ report_bytes asked.now lines.now report.now) }
+// Whether what is shown is the least counterexample.
+fn least_line(least: &Option<LeastEnd>) -> &'static [u8]
+    ensures { result.now ≡ least_line least.now }
 {
-    match asked {
-        Asked::Ops | Asked::Check => Text::copy(alloc, report.text.bytes()),
-        Asked::Trace(_) => first_traced(alloc, lines, &report.text),
+    match least {
+        None => b"",
+        Some(LeastEnd::Found { .. }) => b"least\n",
+        Some(LeastEnd::Stopped { .. }) => b"not least\n",
     }
 }
 
-// The answer where a stage refuses; want of memory is none.
-fn turned_down(alloc: Global, fault: CheckFault) -> Result<Answer, AllocError>
-    ensures memory { IfOk result (λ _. fault ≢ Memory) }
-    ensures line { IfOk result (λ a. a ≡ refusal (status_of fault) (fault_line fault)) }
+// The counterexample of the first line, and whether it is the least one.
+fn least_traced(alloc: Global, book: &Book, text: &Text) -> Result<Text, AllocError>
+    ensures { IfOk result (λ bytes. bytes ≡ first_traced book.now.lines.items text.now ++ least_line book.now.least) }
 {
-    if let CheckFault::Memory = fault {
-        return Err(AllocError);
+    let traced = first_traced(alloc, &book.lines, text)?;
+    let mut bytes = traced.bytes().to_vec(alloc)?;
+    bytes.extend_from_slice(least_line(&book.least))?;
+    Ok(Text::new(bytes))
+}
+
+// What is put of a report.
+fn report_bytes(
+    alloc: Global,
+    which: &Which,
+    book: &Book,
+    report: &Report,
+) -> Result<Text, AllocError>
+    ensures { IfOk result (λ bytes. bytes ≡ report_bytes which.now book.now report.now) }
+{
+    match which {
+        Which::Ops | Which::All => Text::copy(alloc, report.text.bytes()),
+        Which::One(_) => first_traced(alloc, &book.lines, &report.text),
+        Which::Least(_) => least_traced(alloc, book, &report.text),
     }
-    let answer = refused(alloc, &fault);
-    drop(fault);
-    answer
 }
 
 // The answer to two texts whose lines are asked for.
 fn decided<R: Threads + Sync, K: Keeper, H: Helper, G: Gate + Sync>(
     checker: &mut Checker<'_, '_, '_, '_, R, K, H, G>,
-    asked: &Asked,
+    which: &Which,
     module: &Text,
     set: &Text,
 ) -> Result<Answer, AllocError>
     requires empty { checker.old.book.now.lines.items ≡ [] }
-    ensures answer { IfOk result (AnswersTexts «module».now set.now (which_of asked.now) checker.old.prover.settings.budget checker.old.prover.settings.workers
-        (report_bytes asked.now checker.new.book.now.lines.items) checker.new.book.now
+    ensures answer { IfOk result (AnswersTexts «module».now set.now which.now checker.old.prover.settings.budget checker.old.prover.settings.workers
+        (report_bytes which.now checker.new.book.now) checker.new.book.now
         (stores (kept_by K.tables checker.old.prover) (kept_by K.tables checker.new.prover) (asked_by H.asked checker.old.prover))) }
-    ensures left { AddsProofsOf (AreObsOfTexts «module».now set.now (which_of asked.now)) (kept_by K.tables checker.old.prover) (kept_by K.tables checker.new.prover) }
+    ensures left { AddsProofsOf (AreObsOfTexts «module».now set.now which.now) (kept_by K.tables checker.old.prover) (kept_by K.tables checker.new.prover) }
     ensures keeper { IfOk result (λ a. a.status ≡ 8 → Rose (K.faults checker.old.prover.keeper.now) (K.faults checker.new.prover.keeper.now)) }
     ensures same { HasSame checker.old checker.new }
 {
     let alloc = checker.prover.alloc;
-    let which = which_of(alloc, asked)?;
-    match checker.check(module.bytes(), set.bytes(), &which) {
+    match checker.check(module.bytes(), set.bytes(), which) {
         Ok(report) => {
-            let bytes = report_bytes(alloc, asked, &checker.book.lines, &report)?;
+            let bytes = report_bytes(alloc, which, checker.book, &report)?;
             Ok(reported(&report.verdicts, bytes))
         }
         Err(fault) => turned_down(alloc, fault),
@@ -125,18 +126,17 @@ fn met_in<R: Threads + Sync, K: Keeper, H: Helper, G: Gate + Sync>(
     }
 }
 
-/// The answer to two texts.
+/// The answer to two texts, and to a third file's where the command has one.
 pub fn judged<R: Threads + Sync, K: Keeper, H: Helper, G: Gate + Sync>(
     checker: &mut Checker<'_, '_, '_, '_, R, K, H, G>,
     job: &Job,
-    module: &Text,
-    set: &Text,
+    texts: &Texts,
 ) -> Result<Answer, AllocError>
     requires bounds { HasBounds job.now }
     requires empty { checker.old.book.now.lines.items ≡ [] }
-    ensures answer { IfOk result (AnswersTask job.now.task «module».now set.now job.now.budget job.now.workers checker.new.book.now
+    ensures answer { IfOk result (AnswersTask job.now.task texts.now.module texts.now.set texts.now.more job.now.budget job.now.workers checker.new.book.now
         (stores (kept_by K.tables checker.old.prover) (kept_by K.tables checker.new.prover) (asked_by H.asked checker.old.prover))) }
-    ensures left { AddsProofsOf (AreObsOfTask job.now.task «module».now set.now) (kept_by K.tables checker.old.prover) (kept_by K.tables checker.new.prover) }
+    ensures left { AddsProofsOf (AreObsOfTask job.now.task texts.now.module texts.now.set) (kept_by K.tables checker.old.prover) (kept_by K.tables checker.new.prover) }
     ensures keeper { IfOk result (λ a. a.status ≡ 8 → Rose (K.faults checker.old.prover.keeper.now) (K.faults checker.new.prover.keeper.now)) }
     ensures same { HasSame checker.old checker.new }
 {
@@ -144,9 +144,14 @@ pub fn judged<R: Threads + Sync, K: Keeper, H: Helper, G: Gate + Sync>(
         budget: job.budget,
         workers: job.workers,
     };
+    let module = &texts.module;
+    let set = &texts.set;
     match &job.task {
-        Task::Decide(asked) => decided(checker, asked, module, set),
+        Task::Decide(which) => decided(checker, which, module, set),
         Task::Meet(name) => met_in(checker, name.as_ref(), module, set),
+        Task::Machine => machine_of(checker, module, set),
+        Task::Walk(_) => walk_of(checker, module, set, &texts.more),
+        Task::Lines => lines_listed(checker.prover.alloc, module, set),
     }
 }
 

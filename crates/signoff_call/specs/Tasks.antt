@@ -1,0 +1,177 @@
+-- What is answered to two texts, by what is done with them.
+use Rattle.std.specs.Prelude.{◌≡◌, ◌≢◌, ℕ, ◌⊎◌, ◌++◌, Bool, true, false, List, [], ◌∷◌, Option, Some, None, codes, if◌then◌else◌}
+use Rattle.std.specs.Fmt.{decimal}
+use Rattle.std.specs.List.{flat_map}
+use Rattle.outside.specs.Tables.{Tables}
+use Rattle.check_faults.specs.declared.fault.CheckFault.{CheckFault}
+use Rattle.check_faults.specs.declared.fault.CheckFault.TheVariants as f
+use Rattle.check_stages.specs.Stages.{IsBoundOf, Refuses as RefusesStage}
+use Rattle.fault_texts.specs.Texts.{fault_line, status_of}
+use Rattle.set_tree.specs.declared.path.Path.{Path}
+use Rattle.set_tree.specs.declared.line.Line.{Line}
+use Rattle.set_tree.specs.declared.set.Set.{Set}
+use Rattle.set_tree.specs.Formulas.{meaning_of}
+use Rattle.set_tree.specs.Meaning.{Row}
+use Rattle.set_tree.specs.Paths.{IsPath}
+use Rattle.set_designs.specs.Designs.{design_from}
+use Rattle.line_laws.specs.Names.{line_name}
+use Rattle.line_obs.specs.Obligations.{all_lines}
+use Rattle.binding.specs.Binding.{Pair}
+use Rattle.path_machine.specs.declared.rows.RowFault.{RowFault}
+use Rattle.path_machine.specs.declared.rows.RowFault.TheVariants.{Memory}
+use Rattle.path_machine.specs.Rows.{IsRead, Stands}
+use Rattle.path_machine.specs.Runs.{IsRunTrace}
+use Rattle.path_machine.specs.Texts.{fault_text, machine_text, path_text}
+use Rattle.path_machine.specs.Unmet.{IsUnmet}
+use Rattle.word_dag.specs.Nodes.{Parts}
+use Rattle.reports.specs.declared.book.Book.{Book}
+use Rattle.reports.specs.declared.report.Report.{Report}
+use Rattle.reports.specs.declared.which.Which.{Which}
+use Rattle.reports.specs.declared.which.Which.TheVariants as w
+use Rattle.asked_lines.specs.Least.{HasLeast}
+use Rattle.asked_lines.specs.Settled.{AddsProofsOf, AreSettled}
+use Rattle.desk_core.specs.Checks.{AreObsOfTexts, IsReport, Refuses}
+use Rattle.meet_lines.specs.Meetings.{AreObsOfTexts as AreMeetObsOfTexts, IsMeetReport, Refuses as RefusesMeet}
+use Rattle.command_words.specs.declared.action.Task.{Task}
+use Rattle.command_words.specs.declared.action.Task.TheVariants as t
+use Rattle.signoff_call.specs.declared.answer.Answer.{Answer}
+use Rattle.signoff_call.specs.Answers.{done, met, refusal, report_bytes, reported}
+
+-- what a keeper holds before and after, where it is told, and how often each helper was asked before
+pub record Stores : Type 0 where
+  pub before : Option Tables
+  pub after : Option Tables
+  pub asked : List ℕ
+
+abbrev pub stores : Option Tables → Option Tables → List ℕ → Stores
+stores before after asked = record { before = before; after = after; asked = asked }
+
+-- a fault refuses two texts, or the keeper failed; the proofs that differ are of obligations of the call
+pub record RefusesTexts (Refuses : CheckFault → Type 0) (OfCall : List Parts → Type 0) (book : Book) (st : Stores) (answer : Answer) : Type 0 where
+  pub fault : CheckFault
+  pub refuses : Refuses fault
+  pub no_memory : fault ≢ f.Memory
+  pub empty : book.lines.items ≡ []
+  pub left : AddsProofsOf OfCall st.before st.after
+  pub answer_is : answer ≡ refusal (status_of fault) (fault_line fault)
+
+-- the answer is what is said of the report of two texts, whose lines are those of the book, settled over the keeper
+pub record ReportsTexts (IsReport : Report → Type 0) (workers : ℕ) (Says : Report → Answer → Type 0) (book : Book) (st : Stores) (answer : Answer) : Type 0 where
+  pub report : Report
+  pub is_report : IsReport report
+  pub asked : List ℕ
+  pub settled : AreSettled workers book st.before st.after st.asked asked
+  pub answer_is : Says report answer
+
+-- a refusal of what has this name, no line in the book, and nothing new at the keeper
+pub record RefusesBy (status : ℕ) (line : List ℕ) (book : Book) (st : Stores) (answer : Answer) : Type 0 where
+  pub empty : book.lines.items ≡ []
+  pub same : st.after ≡ st.before
+  pub answer_is : answer ≡ refusal status line
+
+-- ---- lines that are decided
+
+-- the report of the lines that are asked for, and the least counterexample where it is
+abbrev pub IsChecked : List ℕ → List ℕ → Which → ℕ → Book → Report → Type 0
+IsChecked m s which budget book r = IsReport m s which budget book.lines.items r × HasLeast which budget book
+
+-- these bytes are said of a report
+abbrev pub Reports : (Report → List ℕ) → Report → Answer → Type 0
+Reports said r answer = answer ≡ reported r.verdicts.items (said r)
+
+-- the lines of two texts that are asked for, or why there are none
+abbrev pub AnswersTexts : List ℕ → List ℕ → Which → ℕ → ℕ → (Report → List ℕ) → Book → Stores → Answer → Type 0
+AnswersTexts m s which budget workers said book st answer =
+    RefusesTexts (Refuses m s which) (AreObsOfTexts m s which) book st answer
+    ⊎ ReportsTexts (IsChecked m s which budget book) workers (Reports said) book st answer
+
+abbrev pub Meets : Report → Answer → Type 0
+Meets r answer = answer ≡ met r
+
+-- what can be met in them, or why that isn't told
+abbrev pub AnswersMeet : List ℕ → List ℕ → Option (List ℕ) → ℕ → ℕ → Book → Stores → Answer → Type 0
+AnswersMeet m s name budget workers book st answer =
+    RefusesTexts (RefusesMeet m s name) (AreMeetObsOfTexts m s name) book st answer
+    ⊎ ReportsTexts (IsMeetReport m s name budget book.lines.items) workers Meets book st answer
+
+-- ---- the operations of a set as a machine
+
+-- this text where the set is signed off, and else the report
+abbrev pub signed_text : List ℕ → Report → Answer
+signed_text text r = if r.complete then done (text ++ codes "signed off\n") else reported r.verdicts.items r.text
+
+-- the machine of the set, where it is signed off
+abbrev pub ShowsMachine : List ℕ → List ℕ → Report → Answer → Type 0
+ShowsMachine m s r answer = (b : Pair) × IsBoundOf m s b × (answer ≡ signed_text (machine_text b.set) r)
+
+abbrev pub AnswersMachine : List ℕ → List ℕ → ℕ → ℕ → Book → Stores → Answer → Type 0
+AnswersMachine m s budget workers book st answer =
+    RefusesTexts (Refuses m s w.All) (AreObsOfTexts m s w.All) book st answer
+    ⊎ ReportsTexts (IsChecked m s w.All budget book) workers (ShowsMachine m s) book st answer
+
+-- ---- the path of a run
+
+-- the trace of the run of the modules whose inputs the rows give
+pub record HasTrace (m s text : List ℕ) : Type 0 where
+  pub bound : Pair
+  pub from : IsBoundOf m s bound
+  pub rows : List Row
+  pub read : IsRead bound.set text rows
+  pub trace : List Row
+  pub run : IsRunTrace (design_from from.modules bound.set.block bound.set) bound.design bound.set rows trace
+
+-- a constraint fails in it, first at this cycle
+abbrev pub IsUnmetAt : {m s text : List ℕ} → HasTrace m s text → Option ℕ → Type 0
+IsUnmetAt h t = IsUnmet (meaning_of h.bound.set) h.bound.set h.trace t
+
+-- the rows are refused, or the run that they give isn't constrained
+abbrev pub RefusesRows : List ℕ → List ℕ → List ℕ → Book → Stores → Answer → Type 0
+RefusesRows m s text book st answer =
+    ((b : Pair) × IsBoundOf m s b × (fault : RowFault) × (fault ≢ Memory) × Stands b.set text fault × RefusesBy 11 (codes "rows: " ++ fault_text fault) book st answer)
+    ⊎ ((h : HasTrace m s text) × (t : ℕ) × IsUnmetAt h (Some t) × RefusesBy 11 (codes "rows: Unmet " ++ decimal t) book st answer)
+
+-- the path of the trace, where the set is signed off
+abbrev pub ShowsPath : {m s text : List ℕ} → HasTrace m s text → Report → Answer → Type 0
+ShowsPath h r answer = (path : Path) × IsPath (meaning_of h.bound.set) h.bound.set h.trace path × (answer ≡ signed_text (path_text h.bound.set path) r)
+
+-- a stage refuses the texts; or the rows are refused; or all lines are decided
+abbrev pub AnswersWalk : List ℕ → List ℕ → List ℕ → ℕ → ℕ → Book → Stores → Answer → Type 0
+AnswersWalk m s text budget workers book st answer =
+    RefusesTexts (RefusesStage m s) (λ obs. ⊥) book st answer
+    ⊎ (RefusesRows m s text book st answer
+    ⊎ ((h : HasTrace m s text) × IsUnmetAt h None
+    × (RefusesTexts (Refuses m s w.All) (AreObsOfTexts m s w.All) book st answer ⊎ ReportsTexts (IsChecked m s w.All budget book) workers (ShowsPath h) book st answer)))
+
+-- ---- lines that aren't decided
+
+-- the names of all lines, in the order of a report
+abbrev pub names_text : Set → List ℕ
+names_text set = flat_map (λ (line : Line). line_name set line ++ 10 ∷ []) (all_lines set)
+
+pub record ListsLines (m s : List ℕ) (book : Book) (st : Stores) (answer : Answer) : Type 0 where
+  pub bound : Pair
+  pub from : IsBoundOf m s bound
+  pub empty : book.lines.items ≡ []
+  pub same : st.after ≡ st.before
+  pub answer_is : answer ≡ done (names_text bound.set)
+
+abbrev pub AnswersLines : List ℕ → List ℕ → Book → Stores → Answer → Type 0
+AnswersLines m s book st answer = RefusesTexts (RefusesStage m s) (λ obs. ⊥) book st answer ⊎ ListsLines m s book st answer
+
+-- ---- all of them
+
+-- of two texts, and of the text of the third file
+abbrev pub AnswersTask : Task → List ℕ → List ℕ → List ℕ → ℕ → ℕ → Book → Stores → Answer → Type 0
+AnswersTask (t.Decide which) m s more budget workers book st answer = AnswersTexts m s which budget workers (report_bytes which book) book st answer
+AnswersTask (t.Meet name) m s more budget workers book st answer = AnswersMeet m s name budget workers book st answer
+AnswersTask t.Machine m s more budget workers book st answer = AnswersMachine m s budget workers book st answer
+AnswersTask (t.Walk rows) m s more budget workers book st answer = AnswersWalk m s more budget workers book st answer
+AnswersTask t.Lines m s more budget workers book st answer = AnswersLines m s book st answer
+
+-- the obligations of what is done with two texts
+abbrev pub AreObsOfTask : Task → List ℕ → List ℕ → List Parts → Type 0
+AreObsOfTask (t.Decide which) m s = AreObsOfTexts m s which
+AreObsOfTask (t.Meet name) m s = AreMeetObsOfTexts m s name
+AreObsOfTask t.Machine m s = AreObsOfTexts m s w.All
+AreObsOfTask (t.Walk rows) m s = AreObsOfTexts m s w.All
+AreObsOfTask t.Lines m s = λ obs. ⊥

@@ -1,0 +1,52 @@
+// The names of lines that aren't decided.
+ghost use Rattle.std.specs.Prelude.{◌≡◌, ◌++◌, ◌∷◌, [], List, Option, ℕ, IfOk, OnOk};
+ghost use Rattle.outside.specs.Tables.{Tables};
+ghost use Rattle.reports.specs.declared.book.Book.{Book};
+ghost use Rattle.line_laws.specs.Names.{line_name};
+ghost use Rattle.signoff_call.specs.Tasks.{AnswersLines, names_text, stores};
+
+use crate::answer::{Answer, done, turned_down};
+use asked_lines::all_lines;
+use binding::Bound;
+use check_stages::bound_of;
+use line_laws::line_name;
+use outside::Text;
+use set_tree::{Line, Set};
+use std::alloc::{AllocError, Global};
+
+// Adds the name of a line.
+fn add_name(alloc: Global, text: &mut Vec<u8>, set: &Set, line: Line) -> Result<(), AllocError>
+    ensures { OnOk result (text.new.items ≡ text.old.items ++ (line_name set.now line ++ 10 ∷ [])) }
+{
+    let name = line_name(alloc, set, line)?;
+    text.extend_from_slice(name.bytes())?;
+    text.push(b'\n')?;
+    Ok(())
+}
+
+// The names of all lines.
+fn names_text(alloc: Global, bound: &Bound) -> Result<Text, AllocError>
+    ensures { IfOk result (λ text. text ≡ names_text bound.now.set) }
+{
+    let mut text = Vec::new(alloc);
+    for line in &all_lines(alloc, bound)? {
+        add_name(alloc, &mut text, bound.set().set(), *line)?;
+    }
+    Ok(Text::new(text))
+}
+
+/// The names of all lines of two texts, in the order of a report.
+pub fn lines_listed(alloc: Global, module: &Text, set: &Text) -> Result<Answer, AllocError>
+    ensures answer { IfOk result (λ a. (book : Book) (tables : Option Tables) (asked : List ℕ) → book.lines.items ≡ [] → AnswersLines «module».now set.now book (stores tables tables asked) a) }
+    ensures keeper { IfOk result (λ a. a.status ≡ 8 → ⊥) }
+{
+    match bound_of(alloc, module.bytes(), set.bytes()) {
+        Ok(bound) => {
+            let names = names_text(alloc, &bound);
+            // a call, since a proof would write out the drop of all trees here
+            drop(bound);
+            Ok(done(names?))
+        }
+        Err(fault) => turned_down(alloc, fault),
+    }
+}

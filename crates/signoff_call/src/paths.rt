@@ -1,0 +1,176 @@
+// The operations of a set as a machine, and the path that a run takes through them.
+ghost use Rattle.std.specs.Prelude.{◌≡◌, ◌++◌, [], codes, IfOk};
+ghost use Rattle.std.specs.Fmt.{decimal};
+ghost use Rattle.outside.specs.Faults.{Rose};
+ghost use Rattle.set_tree.specs.Traces.{IsTrace};
+ghost use Rattle.asked_lines.specs.Settled.{AddsProofsOf, AreObsOf};
+ghost use Rattle.desk_core.specs.Checks.{AreObsOfTexts};
+ghost use Rattle.path_machine.specs.Texts.{fault_text};
+ghost use Rattle.proof_store.specs.Provers.{asked_by, kept_by};
+ghost use Rattle.reports.specs.declared.which.Which.TheVariants as w;
+ghost use Rattle.signoff_call.specs.Answers.{refusal};
+ghost use Rattle.signoff_call.specs.Bound.{SaysBound, SaysMachine, SaysPath, WalksBound};
+ghost use Rattle.signoff_call.specs.Run.{HasSame};
+ghost use Rattle.signoff_call.specs.Tasks.{AnswersMachine, AnswersWalk, signed_text, stores};
+
+use crate::answer::{Answer, done, refusal, reported, turned_down};
+use binding::Bound;
+use check_stages::bound_of;
+use desk_core::Checker;
+use helper_box::Helper;
+use outside::{Gate, Keeper, Text};
+use path_machine::{RowFault, fault_text, machine_text, path_of, path_text, read_rows, run_trace, unmet};
+use replay::Trace;
+use reports::{Report, Which};
+use std::alloc::{AllocError, Global};
+use std::thread::Threads;
+
+// The text, where the set is signed off, and else the report.
+fn signed_text(alloc: Global, text: &Text, report: &Report) -> Result<Answer, AllocError>
+    ensures { IfOk result (λ a. a ≡ signed_text text.now report.now) }
+{
+    if !report.complete {
+        let bytes = Text::copy(alloc, report.text.bytes())?;
+        return Ok(reported(&report.verdicts, bytes));
+    }
+    let mut bytes = text.bytes().to_vec(alloc)?;
+    bytes.extend_from_slice(b"signed off\n")?;
+    Ok(done(Text::new(bytes)))
+}
+
+// The machine of a set that is bound, where it is signed off.
+fn machine_shown<R: Threads + Sync, K: Keeper, H: Helper, G: Gate + Sync>(
+    checker: &mut Checker<'_, '_, '_, '_, R, K, H, G>,
+    bound: &Bound,
+) -> Result<Answer, AllocError>
+    ensures answer { IfOk result (SaysBound (SaysMachine bound.now.set) bound.now checker.old.prover.settings.budget checker.old.prover.settings.workers checker.new.book.now
+        (stores (kept_by K.tables checker.old.prover) (kept_by K.tables checker.new.prover) (asked_by H.asked checker.old.prover))) }
+    ensures left { AddsProofsOf (AreObsOf bound.now w.All) (kept_by K.tables checker.old.prover) (kept_by K.tables checker.new.prover) }
+    ensures keeper { IfOk result (λ a. a.status ≡ 8 → Rose (K.faults checker.old.prover.keeper.now) (K.faults checker.new.prover.keeper.now)) }
+    ensures same { HasSame checker.old checker.new }
+{
+    let alloc = checker.prover.alloc;
+    match checker.check_bound(bound, &Which::All) {
+        Ok(report) => {
+            let text = machine_text(alloc, bound.set())?;
+            signed_text(alloc, &text, &report)
+        }
+        Err(fault) => turned_down(alloc, fault),
+    }
+}
+
+/// The machine of the set of two texts, where it is signed off, and else the report.
+pub fn machine_of<R: Threads + Sync, K: Keeper, H: Helper, G: Gate + Sync>(
+    checker: &mut Checker<'_, '_, '_, '_, R, K, H, G>,
+    module: &Text,
+    set: &Text,
+) -> Result<Answer, AllocError>
+    requires empty { checker.old.book.now.lines.items ≡ [] }
+    ensures answer { IfOk result (AnswersMachine «module».now set.now checker.old.prover.settings.budget checker.old.prover.settings.workers checker.new.book.now
+        (stores (kept_by K.tables checker.old.prover) (kept_by K.tables checker.new.prover) (asked_by H.asked checker.old.prover))) }
+    ensures left { AddsProofsOf (AreObsOfTexts «module».now set.now w.All) (kept_by K.tables checker.old.prover) (kept_by K.tables checker.new.prover) }
+    ensures keeper { IfOk result (λ a. a.status ≡ 8 → Rose (K.faults checker.old.prover.keeper.now) (K.faults checker.new.prover.keeper.now)) }
+    ensures same { HasSame checker.old checker.new }
+{
+    let alloc = checker.prover.alloc;
+    match bound_of(alloc, module.bytes(), set.bytes()) {
+        Ok(bound) => {
+            let answer = machine_shown(checker, &bound);
+            // a call, since a proof would write out the drop of all trees here
+            drop(bound);
+            answer
+        }
+        Err(fault) => turned_down(alloc, fault),
+    }
+}
+
+// The refusal of rows.
+fn refused_rows(alloc: Global, fault: &RowFault) -> Result<Answer, AllocError>
+    ensures { IfOk result (λ a. a ≡ refusal 11 (codes "rows: " ++ fault_text fault.now)) }
+{
+    let text = fault_text(alloc, fault)?;
+    refusal(alloc, 11, b"rows: ", text.bytes())
+}
+
+// The refusal of rows whose run isn't constrained at a cycle.
+fn unmet_at(alloc: Global, cycle: u64) -> Result<Answer, AllocError>
+    ensures { IfOk result (λ a. a ≡ refusal 11 (codes "rows: Unmet " ++ decimal cycle)) }
+{
+    let number = cycle.to_string(alloc)?;
+    refusal(alloc, 11, b"rows: Unmet ", number.as_bytes())
+}
+
+// The path of a trace, where the set is signed off.
+fn path_shown<R: Threads + Sync, K: Keeper, H: Helper, G: Gate + Sync>(
+    checker: &mut Checker<'_, '_, '_, '_, R, K, H, G>,
+    bound: &Bound,
+    trace: &Trace,
+) -> Result<Answer, AllocError>
+    requires { IsTrace bound.now.set trace.now.rows }
+    ensures answer { IfOk result (SaysBound (SaysPath bound.now.set trace.now.rows) bound.now checker.old.prover.settings.budget checker.old.prover.settings.workers checker.new.book.now
+        (stores (kept_by K.tables checker.old.prover) (kept_by K.tables checker.new.prover) (asked_by H.asked checker.old.prover))) }
+    ensures left { AddsProofsOf (AreObsOf bound.now w.All) (kept_by K.tables checker.old.prover) (kept_by K.tables checker.new.prover) }
+    ensures keeper { IfOk result (λ a. a.status ≡ 8 → Rose (K.faults checker.old.prover.keeper.now) (K.faults checker.new.prover.keeper.now)) }
+    ensures same { HasSame checker.old checker.new }
+{
+    let alloc = checker.prover.alloc;
+    match checker.check_bound(bound, &Which::All) {
+        Ok(report) => {
+            let path = path_of(alloc, bound.set(), trace)?;
+            let text = path_text(alloc, bound.set(), &path)?;
+            signed_text(alloc, &text, &report)
+        }
+        Err(fault) => turned_down(alloc, fault),
+    }
+}
+
+// The path of the run that rows give to a set that is bound.
+fn walk_shown<R: Threads + Sync, K: Keeper, H: Helper, G: Gate + Sync>(
+    checker: &mut Checker<'_, '_, '_, '_, R, K, H, G>,
+    bound: &Bound,
+    text: &Text,
+) -> Result<Answer, AllocError>
+    requires empty { checker.old.book.now.lines.items ≡ [] }
+    ensures answer { IfOk result (WalksBound bound.now text.now checker.old.prover.settings.budget checker.old.prover.settings.workers checker.new.book.now
+        (stores (kept_by K.tables checker.old.prover) (kept_by K.tables checker.new.prover) (asked_by H.asked checker.old.prover))) }
+    ensures left { AddsProofsOf (AreObsOf bound.now w.All) (kept_by K.tables checker.old.prover) (kept_by K.tables checker.new.prover) }
+    ensures keeper { IfOk result (λ a. a.status ≡ 8 → Rose (K.faults checker.old.prover.keeper.now) (K.faults checker.new.prover.keeper.now)) }
+    ensures same { HasSame checker.old checker.new }
+{
+    let alloc = checker.prover.alloc;
+    let rows = match read_rows(alloc, text.bytes(), bound) {
+        Ok(rows) => rows,
+        Err(RowFault::Memory) => return Err(AllocError),
+        Err(fault) => return refused_rows(alloc, &fault),
+    };
+    let trace = run_trace(alloc, bound, &rows)?;
+    match unmet(alloc, bound.set(), &trace)? {
+        Some(cycle) => unmet_at(alloc, cycle),
+        None => path_shown(checker, bound, &trace),
+    }
+}
+
+/// The path that the run takes whose inputs are given by rows, through the operations of the set of two texts, where it is signed off.
+pub fn walk_of<R: Threads + Sync, K: Keeper, H: Helper, G: Gate + Sync>(
+    checker: &mut Checker<'_, '_, '_, '_, R, K, H, G>,
+    module: &Text,
+    set: &Text,
+    rows: &Text,
+) -> Result<Answer, AllocError>
+    requires empty { checker.old.book.now.lines.items ≡ [] }
+    ensures answer { IfOk result (AnswersWalk «module».now set.now rows.now checker.old.prover.settings.budget checker.old.prover.settings.workers checker.new.book.now
+        (stores (kept_by K.tables checker.old.prover) (kept_by K.tables checker.new.prover) (asked_by H.asked checker.old.prover))) }
+    ensures left { AddsProofsOf (AreObsOfTexts «module».now set.now w.All) (kept_by K.tables checker.old.prover) (kept_by K.tables checker.new.prover) }
+    ensures keeper { IfOk result (λ a. a.status ≡ 8 → Rose (K.faults checker.old.prover.keeper.now) (K.faults checker.new.prover.keeper.now)) }
+    ensures same { HasSame checker.old checker.new }
+{
+    let alloc = checker.prover.alloc;
+    match bound_of(alloc, module.bytes(), set.bytes()) {
+        Ok(bound) => {
+            let answer = walk_shown(checker, &bound, rows);
+            drop(bound);
+            answer
+        }
+        Err(fault) => turned_down(alloc, fault),
+    }
+}
