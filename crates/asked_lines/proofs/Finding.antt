@@ -72,8 +72,8 @@ missed set name (g ∷ gs) others (suc k) line lt at named = missed set name gs 
 pub none_found : (b : Pair) (name : List ℕ) (left : List (Goal Line)) → FindLoop b name left → length left ≡ 0 → LacksName b.set name f.NoLine
 none_found b name [] loop none =
     let whole : map line_of loop.before ≡ all_lines b.set = ap (map line_of) (sym (loop.split ∙ append-nil loop.before)) ∙ loop.are.lines_are in λ line is_line.
-        let among = subst (λ (ls : List Line). Contains ls line) (sym whole) is_line.among in
-        missed b.set name loop.before loop.others among.0 line among.1 among.2 is_line.named
+    let among = subst (λ (ls : List Line). Contains ls line) (sym whole) is_line.among in
+    missed b.set name loop.before loop.others among.0 line among.1 among.2 is_line.named
 none_found b name (g ∷ left) loop none = absurd (omega arith)
 
 -- whether a line has a name, as it was asked

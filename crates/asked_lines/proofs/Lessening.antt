@@ -1,6 +1,6 @@
 -- Goals whose values were replaced by the least ones.
-use Rattle.std.proofs.Common.{◌≡◌, ℕ, zero, suc, ◌<◌, List, [], ◌∷◌, map, length, Option, Some, None, Vec, Global, refl, sym, ap, ap₂, ◌∙◌, subst, arith}
-use Rattle.std.specs.Prelude.{Any, slice_index_or}
+use Rattle.std.proofs.Common.{◌≡◌, ℕ, zero, suc, List, [], ◌∷◌, map, Option, Some, None, Vec, Global, refl, sym, ap₂, ◌∙◌, subst, arith}
+use Rattle.std.specs.Prelude.{Any}
 use Rattle.std.specs.List.{All, AllZip}
 use Rattle.std.proofs.lemmas.List.Elements.{All-cons, All-head, All-nil, All-tail}
 use Rattle.outside.specs.Tables.{Tables}
@@ -10,7 +10,6 @@ use Rattle.word_dag.specs.Nodes.{Parts}
 use Rattle.job_pool.specs.Shown.{IsShown}
 use Rattle.job_pool.specs.declared.evidence.Evidence.{Evidence}
 use Rattle.proof_store.specs.Goals.{Ended, IsDecided, ended}
-use Rattle.proof_store.specs.Kept.{IsKept, key_of}
 use Rattle.proof_store.specs.Stored.{AddsProofs, IsNew, IsProved, MayBeKept, StoresNew, Told, ended_ob}
 use Rattle.proof_store.specs.declared.goal.Decided.{Decided}
 use Rattle.proof_store.specs.declared.goal.Goal.{Goal}
@@ -71,24 +70,24 @@ module _ (budget : ℕ) where
         subst (λ (x : Ended). IsNew before key x) (sym both) n
 
     any_there : (ds es : List (Decided Line)) → AllZip (IsReplaced budget) ds es → Any (IsNew before key) (map ended ds) → Any (IsNew before key) (map ended es)
-    any_there [] es r any = absurd (let lt = any.2 in let none = lt.0 in omega (arith, none))
+    any_there [] es r any = absurd (let none = any.2 in omega (arith, none))
     any_there (d ∷ ds) [] r any = absurd r
     any_there (d ∷ ds) (e ∷ es) r (zero, x, lt, at, new) =
         let here : IsNew before key (ended d) = subst (λ (y : Ended). IsNew before key y) (sym at) new in
         (zero, ended e, omega arith, refl, new_as d e r.0.goal (λ steps may. (r.0.derived steps).1 may.has ∙ sym may.has) here)
     any_there (d ∷ ds) (e ∷ es) r (suc k, x, lt, at, new) =
         let rest = any_there ds es r.1 (k, x, omega (arith, lt), at, new) in
-        (suc rest.0, rest.1, (let more = rest.2.0 in omega (arith, more)), rest.2.1, rest.2.2)
+        (suc rest.0, rest.1, (let more = rest.2 in omega (arith, more)), rest.3, rest.4)
 
     any_back : (ds es : List (Decided Line)) → AllZip (IsReplaced budget) ds es → Any (IsNew before key) (map ended es) → Any (IsNew before key) (map ended ds)
-    any_back ds [] r any = absurd (let lt = any.2 in let none = lt.0 in omega (arith, none))
+    any_back ds [] r any = absurd (let none = any.2 in omega (arith, none))
     any_back [] (e ∷ es) r any = absurd r
     any_back (d ∷ ds) (e ∷ es) r (zero, x, lt, at, new) =
         let here : IsNew before key (ended e) = subst (λ (y : Ended). IsNew before key y) (sym at) new in
         (zero, ended d, omega arith, refl, new_as e d (sym r.0.goal) (λ steps may. (r.0.derived steps).0 may.has ∙ sym may.has) here)
     any_back (d ∷ ds) (e ∷ es) r (suc k, x, lt, at, new) =
         let rest = any_back ds es r.1 (k, x, omega (arith, lt), at, new) in
-        (suc rest.0, rest.1, (let more = rest.2.0 in omega (arith, more)), rest.2.1, rest.2.2)
+        (suc rest.0, rest.1, (let more = rest.2 in omega (arith, more)), rest.3, rest.4)
 
   -- the same derivations are put
   stores_replaced : (ds es : List (Decided Line)) → AllZip (IsReplaced budget) ds es → (before after : Tables) → StoresNew (map ended ds) before after → StoresNew (map ended es) before after

@@ -9,7 +9,7 @@ ghost use Rattle.asked_lines.specs.Settled.{AddsProofsOf, AreObsOf, AreSettled};
 
 use crate::fault::LineFault;
 use crate::goals::asked_goals;
-use crate::lessen::{Lessened, with_least};
+use crate::lessen::{WithLeast, with_least};
 use crate::trace::trace_of;
 use binding::Bound;
 use helper_box::Helper;
@@ -76,6 +76,7 @@ pub fn decide_lines<R: Threads + Sync, K: Keeper, H: Helper, G: Gate + Sync>(
     ensures proceeds { Proceeds (result ≡ Err LineFault.Keeper) (counts K.faults H.asked prover.old) (counts K.faults H.asked prover.new) }
     ensures same { IsSame prover.old prover.new }
 {
+    let budget = prover.settings.budget;
     let goals = asked_goals(prover.alloc, bound, which)?;
     // a set has at most 8,643 lines
     if goals.len() >= 1 << 32 {
@@ -89,8 +90,8 @@ pub fn decide_lines<R: Threads + Sync, K: Keeper, H: Helper, G: Gate + Sync>(
         solved,
         draws,
     } = settled;
-    let lessened = with_least(prover.alloc, which, prover.settings.budget, decided)?;
-    let Lessened { decided, least } = lessened;
+    let found = with_least(prover.alloc, which, budget, decided)?;
+    let WithLeast { decided, least } = found;
     let lines = lines_of(prover.alloc, bound, decided)?;
     Ok(Book {
         lines,

@@ -14,7 +14,7 @@ use word_dag::Ob;
 
 /// Goals as they were decided, and where the least counterexample of the only one was asked for, how the search for it ended.
 #[derive(Drop)]
-pub(crate) struct Lessened {
+pub(crate) struct WithLeast {
     pub decided: Vec<Decided<Line>>,
     pub least: Option<LeastEnd>,
 }
@@ -30,7 +30,7 @@ fn values_of(alloc: Global, end: &LeastEnd) -> Result<Vec<u64>, AllocError>
 }
 
 // Evidence with the least values in place of those that it has.
-fn lessened(
+fn least_evidence(
     alloc: Global,
     budget: u64,
     ob: &Ob,
@@ -52,7 +52,7 @@ fn lessened(
 }
 
 // A goal with the least values that refute it.
-fn lessened_goal(
+fn least_goal(
     alloc: Global,
     budget: u64,
     one: Decided<Line>,
@@ -67,7 +67,7 @@ fn lessened_goal(
         evidence,
         source,
     } = one;
-    let (evidence, least) = lessened(alloc, budget, &goal.ob, evidence)?;
+    let (evidence, least) = least_evidence(alloc, budget, &goal.ob, evidence)?;
     let one = Decided {
         goal,
         evidence,
@@ -91,22 +91,28 @@ pub(crate) fn with_least(
     which: &Which,
     budget: u64,
     decided: Vec<Decided<Line>>,
-) -> Result<Lessened, AllocError>
+) -> Result<WithLeast, AllocError>
     requires budget { 1 ≤ budget }
     requires shown { All (λ d. IsShown budget d.goal.ob d.evidence) decided.items }
     ensures replaced { IfOk result (λ l. AllZip (IsReplaced budget) decided.items l.decided.items) }
     ensures least { IfOk result (λ l. Lessens which.now budget l.decided.items l.least) }
 {
-    let mut decided = decided;
-    if asks_least(which) && decided.len() == 1 {
-        if let Some(one) = decided.pop() {
-            let (one, least) = lessened_goal(alloc, budget, one)?;
-            decided.push(one)?;
-            return Ok(Lessened { decided, least });
-        }
+    if !asks_least(which) || decided.len() != 1 {
+        return Ok(WithLeast {
+            decided,
+            least: None,
+        });
     }
-    Ok(Lessened {
-        decided,
-        least: None,
-    })
+    let mut decided = decided;
+    match decided.pop() {
+        Some(one) => {
+            let (one, least) = least_goal(alloc, budget, one)?;
+            decided.push(one)?;
+            Ok(WithLeast { decided, least })
+        }
+        None => Ok(WithLeast {
+            decided,
+            least: None,
+        }),
+    }
 }

@@ -14,28 +14,28 @@ returns-in_err-goals-clause-proceeds g c = proceeds_same _ _ (λ is. no_keeper c
 pub returns-then-len-clause-proceeds : goal.returns-then-len-clause-proceeds
 returns-then-len-clause-proceeds g c = proceeds_same _ _ (λ is. cc)
 
-pub with_least-requires-shown : goal.with_least-requires-shown
-with_least-requires-shown g c = all_shown c.args.prover.now.settings.budget c.in_ok-goals.goals.items c.in_ok-settled.settled.decided.items c.in_ok-settled.ensures.decided
+pub with_least-requires-clause-shown : goal.with_least-requires-clause-shown
+with_least-requires-clause-shown g c = all_shown c.args.prover.now.settings.budget c.in_ok-goals.goals.items c.in_ok-settled.settled.decided.items c.in_ok-settled.ensures.decided
 
 pub lines_of-requires : goal.lines_of-requires
 lines_of-requires g c =
     let budget = c.args.prover.now.settings.budget in
     let goals = c.in_ok-goals.goals.items in
     let ds = c.in_ok-settled.settled.decided.items in
-    let es = c.in_ok-lessened.lessened.decided.items in
-    (budget, goals_decided budget c.args.bound.now goals es c.in_ok-goals.ensures.ok.each (replaced_decided budget goals ds es c.in_ok-settled.ensures.decided c.in_ok-lessened.ensures.replaced))
+    let es = c.in_ok-found.found.decided.items in
+    (budget, goals_decided budget c.args.bound.now goals es c.in_ok-goals.ensures.ok.each (replaced_decided budget goals ds es c.in_ok-settled.ensures.decided c.in_ok-found.ensures.replaced))
 
 pub returns-clause-lines : goal.returns-clause-lines
 returns-clause-lines g c =
     let budget = c.args.prover.now.settings.budget in
     let goals = c.in_ok-goals.goals.items in
     let ds = c.in_ok-settled.settled.decided.items in
-    let es = c.in_ok-lessened.lessened.decided.items in
+    let es = c.in_ok-found.found.decided.items in
     record {
       lines = map line_of goals;
       asked = c.in_ok-goals.ensures.ok.asked;
       each = lines_decided budget c.args.bound.now goals es c.in_ok-lines.lines.items c.in_ok-goals.ensures.ok.each
-          (replaced_decided budget goals ds es c.in_ok-settled.ensures.decided c.in_ok-lessened.ensures.replaced) c.in_ok-lines.ensures;
+          (replaced_decided budget goals ds es c.in_ok-settled.ensures.decided c.in_ok-found.ensures.replaced) c.in_ok-lines.ensures;
     }
 
 pub returns-clause-settled : goal.returns-clause-settled
@@ -43,13 +43,13 @@ returns-clause-settled g c =
     let budget = c.args.prover.now.settings.budget in
     let goals = c.in_ok-goals.goals.items in
     let ds = c.in_ok-settled.settled.decided.items in
-    let es = c.in_ok-lessened.lessened.decided.items in
-    are_settled budget c.args.prover.now.settings.workers goals es _ (replaced_decided budget goals ds es c.in_ok-settled.ensures.decided c.in_ok-lessened.ensures.replaced)
+    let es = c.in_ok-found.found.decided.items in
+    are_settled budget c.args.prover.now.settings.workers goals es _ (replaced_decided budget goals ds es c.in_ok-settled.ensures.decided c.in_ok-found.ensures.replaced)
     (same_ended c.args.bound.now es c.in_ok-lines.lines.items c.in_ok-lines.ensures) _ _ _ _
     c.in_ok-settled.ensures.counts c.in_ok-settled.ensures.kept c.in_ok-settled.ensures.draws
-    (told_replaced budget ds es c.in_ok-lessened.ensures.replaced _ _ c.in_ok-settled.ensures.stored) c.in_ok-settled.ensures.first
+    (told_replaced budget ds es c.in_ok-found.ensures.replaced _ _ c.in_ok-settled.ensures.stored) c.in_ok-settled.ensures.first
 
 pub returns-clause-least : goal.returns-clause-least
 returns-clause-least g c =
-    has_least c.args.prover.now.settings.budget c.args.bound.now c.args.which.now c.in_ok-goals.goals.items c.in_ok-settled.settled.decided.items c.in_ok-lessened.lessened.decided.items _
-    c.in_ok-goals.ensures.ok.asked c.in_ok-settled.ensures.decided c.in_ok-lessened.ensures.replaced c.in_ok-lines.ensures c.in_ok-lessened.ensures.least
+    has_least c.args.prover.now.settings.budget c.args.bound.now c.args.which.now c.in_ok-goals.goals.items c.in_ok-settled.settled.decided.items c.in_ok-found.found.decided.items _
+    c.in_ok-goals.ensures.ok.asked c.in_ok-settled.ensures.decided c.in_ok-found.ensures.replaced c.in_ok-lines.ensures c.in_ok-found.ensures.least
