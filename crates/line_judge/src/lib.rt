@@ -6,6 +6,6 @@ mod judge;
 mod property;
 mod trace;
 
-pub use formula::{all_hold, holds};
+pub use formula::{all_hold, holds, rows_from};
 pub use judge::{is_constrained, is_violated};
-pub use property::{is_assumed, is_committed, meets_constraints};
+pub use property::{end_of, is_assumed, is_committed, meets_constraints, property_at};

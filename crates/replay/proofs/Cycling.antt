@@ -26,9 +26,7 @@ use Rattle.segment_laws.specs.Tests.{after, held, level, number_in, register_at,
 use Rattle.segment_laws.proofs.Fitting.{name_there}
 use Rattle.unroll.specs.Copies.{IsPlaceOf}
 use Rattle.unroll.proofs.Rowing.{place_is, rows_push}
-use Rattle.replay.specs.declared.values.Values.{Values}
 use Rattle.replay.specs.Segments.{AreWordsAt, AreWordsBefore, register_name, register_next}
-use Rattle.replay.specs.Values.{AreOf}
 
 -- ---- the value of a register or an input
 
@@ -62,10 +60,10 @@ module _ (d : Parts) (set : Set) (k : ℕ) (e : Naming) (x : Name) where
   at_free (suc i) miss none = rw (miss, none) refl
 
 -- what the cycle before leaves in a register
-pub at_register : (d : Parts) (set : Set) (k : ℕ) (values : Values) (words : List Bits) (i n : ℕ) (e : Naming) (x : Name) → 0 < i → AreWordsBefore d set k i values words → AreOf e values → bytes_eq x set.reset ≡ false →
+pub at_register : (d : Parts) (set : Set) (k : ℕ) (gives : Naming → Type 0) (words : List Bits) (i n : ℕ) (e : Naming) (x : Name) → 0 < i → AreWordsBefore d set k i gives words → gives e → bytes_eq x set.reset ≡ false →
     option_map register_next (register_at d.registers x) ≡ Some n → (word_at words n).value ≡ held d set k e i x
-at_register d set k values words zero n e x past before of miss some = absurd (omega (arith, past))
-at_register d set k values words (suc i) n e x past before of miss some =
+at_register d set k gives words zero n e x past before of miss some = absurd (omega (arith, past))
+at_register d set k gives words (suc i) n e x past before of miss some =
     let c = held d set k e i in
     let here : (word_at words n).value ≡ number_in d c n = ap (λ (ws : List Bits). (word_at ws n).value) (before.named e of) in
     rw miss (here ∙ by (register_at d.registers x) some)
@@ -116,23 +114,23 @@ widths_push [] w = refl
 widths_push (v ∷ ws) w = ap (λ r. v.width ∷ r) (widths_push ws w)
 
 -- the words of the first j nodes
-pub record WordsLoop (d : Parts) (set : Set) (k i : ℕ) (values : Values) (j : ℕ) (words : List Bits) : Type 0 where
+pub record WordsLoop (d : Parts) (set : Set) (k i : ℕ) (gives : Naming → Type 0) (j : ℕ) (words : List Bits) : Type 0 where
   pub count : length words ≡ j
   pub fit : FitFrom (widths_of words) (drop j d.nodes)
-  pub so_far : (e : Naming) → AreOf e values → dag_values (naming_of (held d set k e i)) words (drop j d.nodes) ≡ dag_values (naming_of (held d set k e i)) [] d.nodes
+  pub so_far : (e : Naming) → gives e → dag_values (naming_of (held d set k e i)) words (drop j d.nodes) ≡ dag_values (naming_of (held d set k e i)) [] d.nodes
 
-module _ (d : Parts) (set : Set) (k i : ℕ) (values : Values) where
-  pub words_begin : IsDesign d → (words : List Bits) → words ≡ [] → WordsLoop d set k i values 0 words
-  words_begin h words none = subst (λ (ws : List Bits). WordsLoop d set k i values 0 ws) (sym none) (record { count = refl; fit = h.fit; so_far = λ e of. refl })
+module _ (d : Parts) (set : Set) (k i : ℕ) (gives : Naming → Type 0) where
+  pub words_begin : IsDesign d → (words : List Bits) → words ≡ [] → WordsLoop d set k i gives 0 words
+  words_begin h words none = subst (λ (ws : List Bits). WordsLoop d set k i gives 0 ws) (sym none) (record { count = refl; fit = h.fit; so_far = λ e of. refl })
 
-  pub node_fits : (j : ℕ) (words : List Bits) (nodes : List Node) (n : Node) → nodes ≡ d.nodes → j < length nodes → n ≡ get_or nodes j n → WordsLoop d set k i values j words → FitsNode (widths_of words) n
+  pub node_fits : (j : ℕ) (words : List Bits) (nodes : List Node) (n : Node) → nodes ≡ d.nodes → j < length nodes → n ≡ get_or nodes j n → WordsLoop d set k i gives j words → FitsNode (widths_of words) n
   node_fits j words nodes n same lt is l =
       let at = drop_at nodes j n lt is in
       let fit = subst (λ (ns : List Node). FitFrom (widths_of words) (drop j ns)) (sym same) l.fit in
       (subst (λ (ns : List Node). FitFrom (widths_of words) ns) at fit).0
 
   pub words_step : (j : ℕ) (words new : List Bits) (nodes : List Node) (n : Node) (w : Bits) → nodes ≡ d.nodes → j < length nodes → n ≡ get_or nodes j n → new ≡ words ++ w ∷ [] → w.width ≡ width_of n →
-      ((e : Naming) → AreOf e values → w ≡ node_value (named (naming_of (held d set k e i)) n) words n) → WordsLoop d set k i values j words → WordsLoop d set k i values (j + 1) new
+      ((e : Naming) → gives e → w ≡ node_value (named (naming_of (held d set k e i)) n) words n) → WordsLoop d set k i gives j words → WordsLoop d set k i gives (j + 1) new
   words_step j words new nodes n w same lt is made wide value l =
       let at : drop j d.nodes ≡ n ∷ drop (j + 1) d.nodes = ap (λ (ns : List Node). drop j ns) (sym same) ∙ (drop_at nodes j n lt is ∙ ap (λ (ns : List Node). n ∷ drop (j + 1) ns) same) in
       let fit = subst (λ (ns : List Node). FitFrom (widths_of words) ns) at l.fit in
@@ -146,10 +144,11 @@ module _ (d : Parts) (set : Set) (k i : ℕ) (values : Values) where
             ap (λ (ws : List Bits). dag_values g ws (drop (j + 1) d.nodes)) new_is ∙ (sym (ap (λ (ns : List Node). dag_values g words ns) at) ∙ l.so_far e of);
       }
 
-  pub words_end : (j : ℕ) (words : List Bits) (nodes : List Node) → nodes ≡ d.nodes → length nodes ≤ j → j ≤ length nodes → WordsLoop d set k i values j words → AreWordsAt d set k i values words
-  words_end j words nodes same least most l =
+  pub words_end : IsDesign d → (j : ℕ) (words : List Bits) (nodes : List Node) → nodes ≡ d.nodes → length nodes ≤ j → j ≤ length nodes → WordsLoop d set k i gives j words → AreWordsAt d set k i gives words
+  words_end h j words nodes same least most l =
       let longer : length nodes ≡ length d.nodes = ap (λ (ns : List Node). length ns) same in
       let none : drop j d.nodes ≡ [] = drop_all d.nodes j (omega (arith, least, longer)) in record {
+        design = h;
         count = l.count ∙ (let at : j ≡ length d.nodes = omega (arith, least, most, longer) in at);
         named = λ e of. sym (ap (λ (ns : List Node). dag_values (naming_of (held d set k e i)) words ns) none) ∙ l.so_far e of;
       }
@@ -157,11 +156,11 @@ module _ (d : Parts) (set : Set) (k i : ℕ) (values : Values) where
 -- ---- the rows of a segment
 
 -- the first rows, and the words of the last cycle so far
-pub record SegmentLoop (d : Parts) (set : Set) (k : ℕ) (values : Values) (n : ℕ) (words : List Bits) (rows : List Row) : Type 0 where
-  pub before : AreWordsBefore d set k n values words
-  pub shown : (e : Naming) → AreOf e values → rows ≡ rows_from d set k e 0 n
+pub record SegmentLoop (d : Parts) (set : Set) (k : ℕ) (gives : Naming → Type 0) (n : ℕ) (words : List Bits) (rows : List Row) : Type 0 where
+  pub before : AreWordsBefore d set k n gives words
+  pub shown : (e : Naming) → gives e → rows ≡ rows_from d set k e 0 n
 
-module _ (d : Parts) (h : IsDesign d) (set : Set) (fits : Fits d set) where
+module _ (d : Parts) (set : Set) (fits : Fits d set) where
   row_seen : (c : Cycle) (names : List Declared) (places : List ℕ) → ((x : Declared) → Among names x → Among set.names x) → AllZip (IsPlaceOf d) names places →
       map (λ place. (word_at (dag_values (naming_of c) [] d.nodes) place).value) places ≡ map (λ (n : Declared). seen d c n.name) names
   row_seen c [] [] all at = refl
@@ -175,13 +174,13 @@ module _ (d : Parts) (h : IsDesign d) (set : Set) (fits : Fits d set) where
       let rest = row_seen c names places (λ y m. all y (inr m)) at.1 in
       cc
 
-  pub segment_begin : (k : ℕ) (values : Values) (words : List Bits) (rows : List Row) → rows ≡ [] → SegmentLoop d set k values 0 words rows
-  segment_begin k values words rows none = record { before = tt; shown = λ e of. none }
+  pub segment_begin : (k : ℕ) (gives : Naming → Type 0) (words : List Bits) (rows : List Row) → rows ≡ [] → SegmentLoop d set k gives 0 words rows
+  segment_begin k gives words rows none = record { before = tt; shown = λ e of. none }
 
-  pub segment_step : (k : ℕ) (values : Values) (n : ℕ) (old words : List Bits) (places : List ℕ) (rows new : List Row) (row : Row) → AllZip (IsPlaceOf d) set.names places → AreWordsAt d set k n values words → row ≡ map (λ place. (word_at words place).value) places →
-      new ≡ rows ++ row ∷ [] → SegmentLoop d set k values n old rows → SegmentLoop d set k values (n + 1) words new
-  segment_step k values n old words places rows new row at are made pushed l =
-      let before : AreWordsBefore d set k (n + 1) values words = rw add-one are in record {
+  pub segment_step : (k : ℕ) (gives : Naming → Type 0) (n : ℕ) (old words : List Bits) (places : List ℕ) (rows new : List Row) (row : Row) → AllZip (IsPlaceOf d) set.names places → AreWordsAt d set k n gives words → row ≡ map (λ place. (word_at words place).value) places →
+      new ≡ rows ++ row ∷ [] → SegmentLoop d set k gives n old rows → SegmentLoop d set k gives (n + 1) words new
+  segment_step k gives n old words places rows new row at are made pushed l =
+      let before : AreWordsBefore d set k (n + 1) gives words = rw add-one are in record {
         before = before;
         shown = λ e of.
             let c = held d set k e n in

@@ -1,5 +1,5 @@
 -- The segment that values name, and that it violates the line.
-use Rattle.std.proofs.Common.{◌≡◌, ℕ, ◌+◌, ◌<◌, true, List, [], ◌∷◌, ◌++◌, None, length, get_or, map, refl, sym, ap, ◌∙◌, subst, arith, length-append}
+use Rattle.std.proofs.Common.{◌≡◌, ℕ, ◌+◌, ◌<◌, true, List, [], ◌∷◌, ◌++◌, length, get_or, map, refl, sym, ap, ◌∙◌, subst, arith, length-append}
 use Rattle.std.proofs.lemmas.List.{length-map}
 use Rattle.std.proofs.lemmas.List.Elements.{All-nil}
 use Rattle.set_tree.specs.declared.line.Line.{Line}
@@ -30,7 +30,6 @@ use Rattle.segment_laws.proofs.Running.{all_hold, levels_of, map_agree, rows_hol
 use Rattle.unroll.proofs.Leaving.{among_at, source_wide}
 use Rattle.replay.specs.declared.shown.Shown.{Shown}
 use Rattle.replay.specs.Segments.{AreViolatingCycles, ShowsNamed, ShowsSegment, first_values, last_cycle, named_start, resets_of, started}
-use Rattle.replay.specs.Windows.{declared_names}
 
 module _ (d : Parts) (h : IsDesign d) (set : Set) (fits : Fits d set) (e : Naming) where
   abbrev Segment : Type 0

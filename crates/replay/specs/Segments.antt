@@ -11,14 +11,12 @@ use Rattle.vlog_runs.specs.Places.{Cycle, Name}
 use Rattle.word_core.specs.Words.{Bits}
 use Rattle.word_dag.specs.Nodes.{Naming, dag_values}
 use Rattle.word_design.specs.declared.design.Register.{Register}
-use Rattle.word_design.specs.Designs.{Parts, naming_of}
+use Rattle.word_design.specs.Designs.{IsDesign, Parts, naming_of}
 use Rattle.word_design.specs.Laws.{DesignCycle, word_design}
 use Rattle.segment_laws.specs.Segments.{IsNamedBy, cycle_number}
 use Rattle.segment_laws.specs.Tests.{held, rows_from}
 use Rattle.replay.specs.declared.shown.Shown.{Shown}
 use Rattle.replay.specs.declared.shown.Start.{Start}
-use Rattle.replay.specs.declared.values.Values.{Values}
-use Rattle.replay.specs.Values.{AreOf}
 use Rattle.replay.specs.Windows.{declared_names}
 
 -- ---- what is shown
@@ -101,12 +99,13 @@ pub record ShowsNamed (d : Parts) (set : Set) (e : Naming) (k end : ℕ) (shown 
   pub rows : shown.first.rows ≡ rows_from d set k e 0 (k + end + 1)
   pub second : shown.second ≡ None
 
--- the words of all nodes at a position of the segment that the values name
-pub record AreWordsAt (d : Parts) (set : Set) (k i : ℕ) (values : Values) (words : List Bits) : Type 0 where
+-- the words of all nodes of a design at a position of the segment that each of these values names
+pub record AreWordsAt (d : Parts) (set : Set) (k i : ℕ) (gives : Naming → Type 0) (words : List Bits) : Type 0 where
+  pub design : IsDesign d
   pub count : length words ≡ length d.nodes
-  pub named : (e : Naming) → AreOf e values → words ≡ dag_values (naming_of (held d set k e i)) [] d.nodes
+  pub named : (e : Naming) → gives e → words ≡ dag_values (naming_of (held d set k e i)) [] d.nodes
 
 -- those of the cycle before, where there is one
-abbrev pub AreWordsBefore : Parts → Set → ℕ → ℕ → Values → List Bits → Type 0
-AreWordsBefore d set k zero values words = Unit {0}
-AreWordsBefore d set k (suc i) values words = AreWordsAt d set k i values words
+abbrev pub AreWordsBefore : Parts → Set → ℕ → ℕ → (Naming → Type 0) → List Bits → Type 0
+AreWordsBefore d set k zero gives words = Unit {0}
+AreWordsBefore d set k (suc i) gives words = AreWordsAt d set k i gives words

@@ -1,21 +1,19 @@
-// The words of a design's nodes in the cycles of a segment that values name.
-ghost use Rattle.std.specs.Prelude.{◌≡◌, map, IfOk};
+// The words of a design's nodes in the cycles of a segment whose values a source has.
+ghost use Rattle.std.specs.Prelude.{◌≡◌, ◌<◌, map, IfOk};
 ghost use Rattle.std.specs.Option.{option_map};
 ghost use Rattle.flat_scopes.specs.Borrowed.{name_meant};
 ghost use Rattle.word_dag.specs.Given.{widths_of};
 ghost use Rattle.word_dag.specs.Nodes.{FitsNode, Naming, named, node_value, width_of, word_at};
-ghost use Rattle.word_design.specs.Designs.{IsDesign, naming_of};
-ghost use Rattle.segment_laws.specs.Segments.{cycle_number};
+ghost use Rattle.word_design.specs.Designs.{naming_of};
 ghost use Rattle.segment_laws.specs.Tests.{held, register_at};
 ghost use Rattle.replay.specs.Segments.{AreWordsAt, AreWordsBefore, register_name, register_next};
-ghost use Rattle.replay.specs.Values.{AreOf};
 
-use crate::values::{Values, value_at};
+use crate::source::{Position, Source};
 use crate::window::cut;
 use binding::Bound;
 use flat_scopes::Names;
 use std::alloc::{AllocError, Global};
-use unroll::{Moment, cycle_of, level};
+use unroll::level;
 use word_core::Word;
 use word_dag::{Node, value_of};
 use word_design::Design;
@@ -55,34 +53,27 @@ pub fn value_in(words: &[Word], node: u64) -> u64
     }
 }
 
-// The value of a free word in a cycle.
-fn free_value(values: &Values<'_>, name: &[u8], moment: Moment) -> u64
-    ensures { (e : Naming) → AreOf e values.now → result ≡ e name.now 0 (cycle_number moment.resets moment.position) }
-{
-    value_at(values, name, 0, cycle_of(moment))
-}
-
 // The value of a register or an input in a cycle: at first its free word's, then what the cycle before leaves in a register, and a free word's in
 // an input; the reset has its level.
-fn held(
+fn held<S: Source>(
     bound: &Bound,
-    values: &Values<'_>,
+    source: &S,
     registers: &Names<'_>,
-    moment: Moment,
+    position: Position,
     before: &[Word],
     name: &[u8],
 ) -> u64
-    requires design { IsDesign bound.now.design }
     requires registers { registers.now ≡ map register_name bound.now.design.registers }
-    requires before { AreWordsBefore bound.now.design bound.now.set moment.resets moment.position values.now before.now }
-    ensures { (e : Naming) → AreOf e values.now → result ≡ held bound.now.design bound.now.set moment.resets e moment.position name.now }
+    requires counts { position.at < S.count source.now }
+    requires before { AreWordsBefore bound.now.design bound.now.set position.resets position.at (S.gives source.now) before.now }
+    ensures { (e : Naming) → S.gives source.now e → result ≡ held bound.now.design bound.now.set position.resets e position.at name.now }
 {
     let set = bound.set().set();
     if name == set.reset.bytes() {
-        return level(set, moment.position < moment.resets);
+        return level(set, position.at < usize::from(position.resets));
     }
-    let free = free_value(values, name, moment);
-    if moment.position == 0 {
+    let free = source.value(name, position);
+    if position.at == 0 {
         return free;
     }
     match next_of(bound.design(), registers, name) {
@@ -92,54 +83,54 @@ fn held(
 }
 
 // The word of a node in a cycle, from those of the nodes before it.
-fn node_word(
+fn node_word<S: Source>(
     bound: &Bound,
-    values: &Values<'_>,
+    source: &S,
     registers: &Names<'_>,
-    moment: Moment,
+    position: Position,
     before: &[Word],
     node: &Node,
     words: &[Word],
 ) -> Word
-    requires design { IsDesign bound.now.design }
     requires registers { registers.now ≡ map register_name bound.now.design.registers }
-    requires before { AreWordsBefore bound.now.design bound.now.set moment.resets moment.position values.now before.now }
+    requires counts { position.at < S.count source.now }
+    requires before { AreWordsBefore bound.now.design bound.now.set position.resets position.at (S.gives source.now) before.now }
     requires fits { FitsNode (widths_of words.now) node.now }
-    ensures value { (e : Naming) → AreOf e values.now → result ≡ node_value (named (naming_of (held bound.now.design bound.now.set moment.resets e moment.position)) node.now) words.now node.now }
+    ensures value { (e : Naming) → S.gives source.now e → result ≡ node_value (named (naming_of (held bound.now.design bound.now.set position.resets e position.at)) node.now) words.now node.now }
     ensures width { result.width ≡ width_of node.now }
 {
     match node {
         Node::Free { name, width, .. } => {
-            let value = held(bound, values, registers, moment, before, name.bytes());
+            let value = held(bound, source, registers, position, before, name.bytes());
             Word::new(*width, cut(value, *width))
         }
         _ => value_of(node, 0, words),
     }
 }
 
-/// The words of all nodes of a design in a cycle of the segment that values name, from those of the cycle before, where there is one. It is
-/// refused for want of memory alone.
-pub fn words_at(
+/// The words of all nodes of a design in a cycle of the segment whose values the source has, from those of the cycle before, where there is
+/// one. It is refused for want of memory alone.
+pub fn words_at<S: Source>(
     alloc: Global,
     bound: &Bound,
-    values: &Values<'_>,
+    source: &S,
     registers: &Names<'_>,
-    moment: Moment,
+    position: Position,
     before: &[Word],
 ) -> Result<Vec<Word>, AllocError>
-    requires design { IsDesign bound.now.design }
     requires registers { registers.now ≡ map register_name bound.now.design.registers }
-    requires before { AreWordsBefore bound.now.design bound.now.set moment.resets moment.position values.now before.now }
-    ensures { IfOk result (λ words. AreWordsAt bound.now.design bound.now.set moment.resets moment.position values.now words.items) }
+    requires counts { position.at < S.count source.now }
+    requires before { AreWordsBefore bound.now.design bound.now.set position.resets position.at (S.gives source.now) before.now }
+    ensures { IfOk result (λ words. AreWordsAt bound.now.design bound.now.set position.resets position.at (S.gives source.now) words.items) }
 {
     let nodes = bound.design().dag().nodes();
     let mut words = Vec::with_capacity(alloc, nodes.len())?;
     for node in nodes {
         let word = node_word(
             bound,
-            values,
+            source,
             registers,
-            moment,
+            position,
             before,
             node,
             words.as_slice(),

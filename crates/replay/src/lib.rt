@@ -3,14 +3,17 @@
 
 mod cycle;
 mod printing;
-mod put;
 mod segment;
 mod shown;
+mod sinking;
+mod source;
 mod twin;
 mod values;
 mod window;
 
 pub use printing::{print_trace, shown_text, trace_text};
-pub use segment::{Reach, replay, shown_segment};
+pub use segment::{Reach, replay, rows_of_source, shown_segment};
 pub use shown::{Shown, Start, Trace};
-pub use twin::twin_trace;
+pub use sinking::{put, put_number, put_word};
+pub use source::{Position, Source};
+pub use twin::{trace_of, twin_trace};

@@ -5,8 +5,8 @@ ghost use Rattle.word_dag.specs.Text.{line, spaced};
 ghost use Rattle.replay.specs.Puts.{Put, Refused};
 ghost use Rattle.replay.specs.Texts.{cycle_number, row_line, row_lines, shown_text, start_line, start_lines, table, tables, trace_text};
 
-use crate::put::{put, put_number, put_value, put_word};
 use crate::shown::{Shown, Start, Trace};
+use crate::sinking::{put, put_number, put_value, put_word};
 use outside::{MemSink, OutFault, Sink, Text};
 use set_tree::Rows;
 use std::alloc::{AllocError, Global};

@@ -5,24 +5,22 @@ ghost use Rattle.vlog_tree.specs.Valuation.{IsLength};
 ghost use Rattle.set_tree.specs.Formulas.{meaning_of};
 ghost use Rattle.word_core.specs.Words.{Bits};
 ghost use Rattle.word_dag.specs.Nodes.{Naming, root_value, word_at};
-ghost use Rattle.word_design.specs.Designs.{IsDesign};
 ghost use Rattle.word_design.specs.declared.design.Register.{Register as Registers};
 ghost use Rattle.word_names.specs.Names.{HasOneWordEach, naming_from};
-ghost use Rattle.binding.specs.Binding.{Fits};
 ghost use Rattle.segment_laws.specs.Lines.{IsOf};
 ghost use Rattle.segment_laws.specs.Tests.{rows_from};
 ghost use Rattle.twin_tests.specs.Framing.{SpeaksOf};
 ghost use Rattle.unroll.specs.Copies.{IsPlaceOf};
-ghost use Rattle.replay.specs.Segments.{ShowsNamed, ShowsSegment, last_cycle, named_start, register_name, resets_of};
+ghost use Rattle.replay.specs.Segments.{ShowsNamed, ShowsSegment, last_cycle, named_start, resets_of};
 ghost use Rattle.replay.specs.Values.{AreOf};
 
 use crate::cycle::{register_names, value_in, words_at};
 use crate::shown::{Shown, Start};
+use crate::source::{Position, Source};
 use crate::twin::{trace_of, window_of};
 use crate::values::{Values, value_at, values_of};
 use crate::window::cut;
 use binding::Bound;
-use flat_scopes::Names;
 use outside::Text;
 use set_sound::Sound;
 use set_tree::{Line, Rows};
@@ -81,26 +79,24 @@ fn row_of(alloc: Global, words: &[Word], places: &[u64]) -> Result<Rows<u64>, Al
     Ok(row)
 }
 
-// The first rows of a segment, its reset cycles among them.
-fn segment_rows(
+/// The first rows of the segment whose values a source has, its reset cycles among them. It is refused for want of memory alone.
+pub fn rows_of_source<S: Source>(
     alloc: Global,
     bound: &Bound,
-    values: &Values<'_>,
-    registers: &Names<'_>,
+    source: &S,
     resets: u8,
-    count: u8,
+    count: usize,
 ) -> Result<Rows<Rows<u64>>, AllocError>
-    requires design { IsDesign bound.now.design }
-    requires fits { Fits bound.now.design bound.now.set }
-    requires registers { registers.now ≡ map register_name bound.now.design.registers }
-    ensures { IfOk result (λ rows. (e : Naming) → AreOf e values.now → rows ≡ rows_from bound.now.design bound.now.set resets e 0 count) }
+    requires { count ≤ S.count source.now }
+    ensures { IfOk result (λ rows. (e : Naming) → S.gives source.now e → rows ≡ rows_from bound.now.design bound.now.set resets e 0 count) }
 {
+    let registers = register_names(alloc, bound.design())?;
     let places = places_of(alloc, bound)?;
     let mut words = Vec::new(alloc);
     let mut rows = Rows::new(alloc);
-    for position in 0..count {
-        let moment = Moment { position, resets };
-        words = words_at(alloc, bound, values, registers, moment, words.as_slice())?;
+    for at in 0..count {
+        let position = Position { at, resets };
+        words = words_at(alloc, bound, source, &registers, position, words.as_slice())?;
         let row = row_of(alloc, words.as_slice(), places.as_slice())?;
         rows.push(row)?;
     }
@@ -170,11 +166,10 @@ pub fn shown_segment(
     // the nodes of a design fit
     let _fit = design.dag();
     let values = values_of(alloc, ob.nodes(), values)?;
-    let registers = register_names(alloc, design)?;
     let set = bound.set();
     let before = reach.resets;
     let count = before + reach.last + 1;
-    let rows = segment_rows(alloc, bound, &values, &registers, before, count)?;
+    let rows = rows_of_source(alloc, bound, &values, before, usize::from(count))?;
     Ok(Shown {
         start: starts_of(alloc, design.registers(), &values, before)?,
         before: u32::from(before),

@@ -3,4 +3,4 @@ use Rattle.replay.proofs.cycle.words_at.Given as goal
 
 -- the words of the nodes so far
 abbrev pub invariant-loop-node : goal.invariant-loop-node
-invariant-loop-node l = WordsLoop l.bound.design l.bound.set l.moment.resets l.moment.position l.values l.node-index l.words.items
+invariant-loop-node g l = WordsLoop l.bound.design l.bound.set l.position.resets l.position.at (g.S.Source.gives l.source) l.node-index l.words.items

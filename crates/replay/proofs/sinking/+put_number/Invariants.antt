@@ -1,4 +1,4 @@
-use Rattle.replay.proofs.put.+put_number.Given as goal
+use Rattle.replay.proofs.sinking.+put_number.Given as goal
 
 -- what is left
 abbrev pub decreases-put_number : goal.decreases-put_number
