@@ -1,5 +1,5 @@
 -- The report of texts whose set is bound, and refusals.
-use Rattle.std.proofs.Common.{◌≡◌, ℕ, List, map, sym, ◌∙◌, Option, inl, inr, ⊎_elim}
+use Rattle.std.proofs.Common.{ℕ, List, sym, ◌∙◌, Option, inl, inr, ⊎_elim}
 use Rattle.std.specs.Prelude.{Result, Ok, Err, IfOk, IfErr}
 use Rattle.outside.specs.Tables.{Tables}
 use Rattle.binding.specs.Binding.{Pair}

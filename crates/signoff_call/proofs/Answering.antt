@@ -1,6 +1,7 @@
 -- What is answered, and with which status.
 use Rattle.std.proofs.Common.{◌≡◌, ◌<◌, List, [], ℕ, sym, ap, ◌∙◌, subst, inl, inr, ⊎_elim, Ok, Err, Option, Some, None, Bool, true, false, refl, arith}
 use Rattle.std.specs.Prelude.{◌≢◌, ◌^◌, ◌++◌, ◌⊎◌, IfOk, Result, codes, if◌then◌else◌}
+use Rattle.std.specs.Fmt.{decimal}
 use Rattle.std.specs.List.{list_any}
 use Rattle.std.specs.Io.KnownBytes.{Appends}
 use Rattle.outside.specs.Faults.{Rose}
@@ -9,6 +10,12 @@ use Rattle.proof_store.specs.declared.moving.Moved.{Moved}
 use Rattle.proof_store.specs.Moves.{MovesRows, Walks}
 use Rattle.proof_store.specs.Stored.{AddsProofs, Told}
 use Rattle.word_dag.specs.Nodes.{Parts}
+use Rattle.binding.specs.Binding.{Pair}
+use Rattle.check_stages.specs.Stages.{IsBoundOf, Refuses as RefusesStage}
+use Rattle.path_machine.specs.declared.rows.RowFault.{RowFault}
+use Rattle.path_machine.specs.declared.rows.RowFault.TheVariants.{Memory as NoMemory}
+use Rattle.path_machine.specs.Rows.{Stands}
+use Rattle.path_machine.specs.Texts.{fault_text, machine_text, path_text}
 use Rattle.check_faults.specs.declared.fault.CheckFault.{CheckFault}
 use Rattle.check_faults.specs.declared.fault.CheckFault.TheVariants as f
 use Rattle.fault_texts.specs.Texts.{fault_line, status_of}
@@ -25,7 +32,6 @@ use Rattle.http_connection.specs.declared.serve.ServeFault.{ServeFault}
 use Rattle.http_connection.specs.declared.serve.ServeFault.TheVariants.{Memory, Next}
 use Rattle.desk_http.specs.Serving.{Line as Wires, ServesMany, ServesQuota, State, StopsWithin, none}
 use Rattle.demo_gen.specs.Texts.{module_text, set_text}
-use Rattle.command_words.specs.declared.action.Asked.{Asked}
 use Rattle.command_words.specs.declared.action.Command.{Command}
 use Rattle.command_words.specs.declared.action.Command.TheVariants as c
 use Rattle.command_words.specs.declared.action.Job.{Job}
@@ -34,12 +40,15 @@ use Rattle.command_words.specs.declared.action.Task.{Task}
 use Rattle.command_words.specs.declared.action.Task.TheVariants as t
 use Rattle.signoff_call.specs.declared.answer.Answer.{Answer}
 use Rattle.signoff_call.specs.declared.files.Read.{Read}
-use Rattle.signoff_call.specs.declared.files.Read.TheVariants.{Both, NoModule, NoSet}
-use Rattle.signoff_call.specs.Run.{Answers, AnswersJob, AnswersMeet, AnswersMove, AnswersService, AnswersTask, AnswersTexts, AppendsPrefix, AreObsOfTask, Around, Delivers, IsRead, LeavesRead, LeavesRows, LeavesServed, LeavesTexts, Reads, RefusesBy, RefusesTexts, ReportsTexts, Stores, around, done, is_refuted, is_spent, limits_for, met, moved_text, quota_of, refusal, refused_status, report_bytes, reported, served_text, stores, stores_of, summary, which_of}
+use Rattle.signoff_call.specs.declared.files.Read.TheVariants.{All, NoModule, NoMore, NoSet}
+use Rattle.signoff_call.specs.declared.files.Texts.{Texts}
+use Rattle.signoff_call.specs.Answers.{done, is_refuted, is_spent, met, moved_text, refusal, report_bytes, reported, summary}
+use Rattle.signoff_call.specs.Tasks.{AnswersLines, AnswersMachine, AnswersMeet, AnswersTask, AnswersTexts, AnswersWalk, AreObsOfTask, HasTrace, IsChecked, IsUnmetAt, ListsLines, Meets, RefusesBy, RefusesRows, RefusesTexts, Reports, ReportsTexts, ShowsMachine, ShowsPath, Stores, WalksRows, names_text, signed_text, stores}
+use Rattle.signoff_call.specs.Run.{Answers, AnswersJob, AnswersMove, AnswersService, AppendsPrefix, Around, Delivers, IsRead, LeavesRead, LeavesRows, LeavesServed, LeavesTexts, Reads, around, limits_for, more_name, quota_of, refused_status, served_text, stores_of}
 
-pub both_answered : {E : Type 0} (r : Result Answer E) (j : Job) (read : Read) (m s : List ℕ) (book : Book) (st : Stores) → read ≡ Both m s →
-    IfOk r (AnswersTask j.task m s j.budget j.workers book st) → IfOk r (AnswersJob j read book st)
-both_answered r j read m s book st is h = subst (λ (z : Read). IfOk r (AnswersJob j z book st)) (sym is) h
+pub texts_answered : {E : Type 0} (r : Result Answer E) (j : Job) (read : Read) (texts : Texts) (book : Book) (st : Stores) → read ≡ All texts →
+    IfOk r (AnswersTask j.task texts.module texts.set texts.more j.budget j.workers book st) → IfOk r (AnswersJob j read book st)
+texts_answered r j read texts book st is h = subst (λ (z : Read). IfOk r (AnswersJob j z book st)) (sym is) h
 
 pub turned_answered : {E : Type 0} (r : Result Answer E) (Refuses : CheckFault → Type 0) (OfCall : List Parts → Type 0) (Reports : Answer → Type 0) (book : Book) (st : Stores) (fault : CheckFault) →
     Refuses fault → book.lines.items ≡ [] → AddsProofsOf OfCall st.before st.after → IfOk r (λ _. fault ≢ f.Memory) →
@@ -89,21 +98,22 @@ met_keeper a r P same is = absurd (no_8 (list_any is_proved r.verdicts.items) (l
 
 -- ---- what is done with two texts
 
-pub decide_answered : {E : Type 0} (r : Result Answer E) (task : Task) (asked : Asked) (m s : List ℕ) (budget workers : ℕ) (book : Book) (st : Stores) → task ≡ t.Decide asked →
-    IfOk r (AnswersTexts m s (which_of asked) budget workers (report_bytes asked book.lines.items) book st) → IfOk r (AnswersTask task m s budget workers book st)
-decide_answered r task asked m s budget workers book st is h = subst (λ (z : Task). IfOk r (AnswersTask z m s budget workers book st)) (sym is) h
+-- the task is this one
+pub task_answered : {E : Type 0} (r : Result Answer E) (task other : Task) (m s more : List ℕ) (budget workers : ℕ) (book : Book) (st : Stores) → task ≡ other →
+    IfOk r (AnswersTask other m s more budget workers book st) → IfOk r (AnswersTask task m s more budget workers book st)
+task_answered r task other m s more budget workers book st is h = subst (λ (z : Task). IfOk r (AnswersTask z m s more budget workers book st)) (sym is) h
 
-pub meet_answered : {E : Type 0} (r : Result Answer E) (task : Task) (name other : Option (List ℕ)) (m s : List ℕ) (budget workers : ℕ) (book : Book) (st : Stores) → task ≡ t.Meet name → other ≡ name →
-    IfOk r (AnswersMeet m s other budget workers book st) → IfOk r (AnswersTask task m s budget workers book st)
-meet_answered r task name other m s budget workers book st is same h =
-    subst (λ (z : Task). IfOk r (AnswersTask z m s budget workers book st)) (sym is) (subst (λ (z : Option (List ℕ)). IfOk r (AnswersMeet m s z budget workers book st)) same h)
+pub meet_answered : {E : Type 0} (r : Result Answer E) (task : Task) (name other : Option (List ℕ)) (m s more : List ℕ) (budget workers : ℕ) (book : Book) (st : Stores) → task ≡ t.Meet name → other ≡ name →
+    IfOk r (AnswersMeet m s other budget workers book st) → IfOk r (AnswersTask task m s more budget workers book st)
+meet_answered r task name other m s more budget workers book st is same h =
+    task_answered r task (t.Meet name) m s more budget workers book st is (subst (λ (z : Option (List ℕ)). IfOk r (AnswersMeet m s z budget workers book st)) same h)
 
-pub decide_left : (task : Task) (asked : Asked) (m s : List ℕ) (before after : Option Tables) → task ≡ t.Decide asked → AddsProofsOf (AreObsOfTexts m s (which_of asked)) before after → AddsProofsOf (AreObsOfTask task m s) before after
-decide_left task asked m s before after is h = subst (λ (z : Task). AddsProofsOf (AreObsOfTask z m s) before after) (sym is) h
+pub task_left : (task other : Task) (m s : List ℕ) (before after : Option Tables) → task ≡ other → AddsProofsOf (AreObsOfTask other m s) before after → AddsProofsOf (AreObsOfTask task m s) before after
+task_left task other m s before after is h = subst (λ (z : Task). AddsProofsOf (AreObsOfTask z m s) before after) (sym is) h
 
 pub meet_left : (task : Task) (name other : Option (List ℕ)) (m s : List ℕ) (before after : Option Tables) → task ≡ t.Meet name → other ≡ name → AddsProofsOf (AreMeetObsOfTexts m s other) before after → AddsProofsOf (AreObsOfTask task m s) before after
 meet_left task name other m s before after is same h =
-    subst (λ (z : Task). AddsProofsOf (AreObsOfTask z m s) before after) (sym is) (subst (λ (z : Option (List ℕ)). AddsProofsOf (AreMeetObsOfTexts m s z) before after) same h)
+    task_left task (t.Meet name) m s before after is (subst (λ (z : Option (List ℕ)). AddsProofsOf (AreMeetObsOfTexts m s z) before after) same h)
 
 -- ---- what nothing adds
 
@@ -117,18 +127,20 @@ adds_none OfCall t = ([], inl refl, told_none t)
 pub read_none : (j : Job) (read : Read) (t : Option Tables) → LeavesRead j read t t
 read_none j NoModule t = refl
 read_none j NoSet t = refl
-read_none j (Both m s) t = adds_none (AreObsOfTask j.task m s) t
+read_none j NoMore t = refl
+read_none j (All texts) t = adds_none (AreObsOfTask j.task texts.module texts.set) t
 
--- what comes of two texts that were read
-pub both_left : (j : Job) (read : Read) (m s : List ℕ) (before after : Option Tables) → read ≡ Both m s → AddsProofsOf (AreObsOfTask j.task m s) before after →
+-- what comes of texts that were read
+pub read_left : (j : Job) (read : Read) (texts : Texts) (before after : Option Tables) → read ≡ All texts → AddsProofsOf (AreObsOfTask j.task texts.module texts.set) before after →
     LeavesRead j read before after
-both_left j read m s before after is h = subst (λ (z : Read). LeavesRead j z before after) (sym is) h
+read_left j read texts before after is h = subst (λ (z : Read). LeavesRead j z before after) (sym is) h
 
 texts_left : (shelf : Option (List ℕ → Option (List ℕ))) (faults now : ℕ) (j : Job) (read : Read) (before after : Option Tables) → IsRead shelf faults now j read →
     LeavesRead j read before after → LeavesTexts shelf j before after
 texts_left shelf faults now j NoModule before after read h = inl h
 texts_left shelf faults now j NoSet before after read h = inl h
-texts_left shelf faults now j (Both m s) before after read h = inr (m, s, read.0, read.1, h)
+texts_left shelf faults now j NoMore before after read h = inl h
+texts_left shelf faults now j (All texts) before after read h = inr (texts.module, texts.set, read.0, read.1, h)
 
 -- ---- statuses that a check of texts doesn't answer
 
@@ -169,28 +181,65 @@ usage_apart n p is = let low : 5 < n = p.low in omega arith
 status_is : (a b : Answer) (n : ℕ) → a ≡ b → a.status ≡ n → b.status ≡ n
 status_is a b n same is = sym (ap (λ (z : Answer). z.status) same) ∙ is
 
-whole_other : (Refuses : CheckFault → Type 0) (OfCall : List Parts → Type 0) (IsReport : Report → Type 0) (workers : ℕ) (said : Report → Answer) (book : Book) (st : Stores) (a : Answer) (n : ℕ) → IsApart n →
-    ((r : Report) → (said r).status ≡ n → ⊥) → RefusesTexts Refuses OfCall book st a ⊎ ReportsTexts IsReport workers said book st a → a.status ≡ n → ⊥
-whole_other Refuses OfCall IsReport workers said book st a n p other h is = ⊎_elim
+whole_other : (Refuses : CheckFault → Type 0) (OfCall : List Parts → Type 0) (IsReport : Report → Type 0) (workers : ℕ) (Says : Report → Answer → Type 0) (book : Book) (st : Stores) (a : Answer) (n : ℕ) → IsApart n →
+    ((r : Report) → Says r a → a.status ≡ n → ⊥) → RefusesTexts Refuses OfCall book st a ⊎ ReportsTexts IsReport workers Says book st a → a.status ≡ n → ⊥
+whole_other Refuses OfCall IsReport workers Says book st a n p other h is = ⊎_elim
     (λ (r : RefusesTexts Refuses OfCall book st a). fault_other r.fault n p (status_is a (refusal (status_of r.fault) (fault_line r.fault)) n r.answer_is is))
-    (λ (r : ReportsTexts IsReport workers said book st a). other r.report (status_is a (said r.report) n r.answer_is is)) h
+    (λ (r : ReportsTexts IsReport workers Says book st a). other r.report r.answer_is is) h
+
+reports_other : (vs : List Verdict) (bytes : List ℕ) (a : Answer) (n : ℕ) → IsApart n → a ≡ reported vs bytes → a.status ≡ n → ⊥
+reports_other vs bytes a n p same is = verdicts_other (list_any is_refuted vs) (list_any is_spent vs) n p (status_is a (reported vs bytes) n same is)
 
 texts_other : (m s : List ℕ) (which : Which) (budget workers : ℕ) (said : Report → List ℕ) (book : Book) (st : Stores) (a : Answer) (n : ℕ) → IsApart n →
     AnswersTexts m s which budget workers said book st a → a.status ≡ n → ⊥
 texts_other m s which budget workers said book st a n p h is =
-    whole_other (Refuses m s which) (AreObsOfTexts m s which) (IsReport m s which budget book.lines.items) workers (λ r. reported r.verdicts.items (said r)) book st a n p
-    (λ r. verdicts_other (list_any is_refuted r.verdicts.items) (list_any is_spent r.verdicts.items) n p) h is
+    whole_other (Refuses m s which) (AreObsOfTexts m s which) (IsChecked m s which budget book) workers (Reports said) book st a n p
+    (λ r same. reports_other r.verdicts.items (said r) a n p same) h is
 
-task_other : (task : Task) (m s : List ℕ) (budget workers : ℕ) (book : Book) (st : Stores) (a : Answer) (n : ℕ) → IsApart n → AnswersTask task m s budget workers book st a → a.status ≡ n → ⊥
-task_other (t.Decide asked) m s budget workers book st a n p h is = texts_other m s (which_of asked) budget workers (report_bytes asked book.lines.items) book st a n p h is
-task_other (t.Meet name) m s budget workers book st a n p h is =
-    whole_other (RefusesMeet m s name) (AreMeetObsOfTexts m s name) (IsMeetReport m s name budget book.lines.items) workers met book st a n p
-    (λ r. verdicts_other (list_any is_proved r.verdicts.items) (list_any is_spent r.verdicts.items) n p) h is
+signed_other : (text : List ℕ) (r : Report) (a : Answer) (n : ℕ) → IsApart n → a ≡ signed_text text r → a.status ≡ n → ⊥
+signed_other text r a n p same is = by r.complete same
+  where
+    by : (b : Bool) → a ≡ (if b then done (text ++ codes "signed off\n") else reported r.verdicts.items r.text) → ⊥
+    by true same = done_other n p (status_is a (done (text ++ codes "signed off\n")) n same is)
+    by false same = reports_other r.verdicts.items r.text a n p same is
+
+-- 11 is none of them
+rows_other : (line : List ℕ) (book : Book) (st : Stores) (a : Answer) (n : ℕ) → IsApart n → RefusesBy 11 line book st a → a.status ≡ n → ⊥
+rows_other line book st a n p r is = let eleven : 11 ≡ n = status_is a (refusal 11 line) n r.answer_is is in let high : n < 10 = p.high in omega arith
+
+walk_other : (m s text : List ℕ) (budget workers : ℕ) (book : Book) (st : Stores) (a : Answer) (n : ℕ) → IsApart n → AnswersWalk m s text budget workers book st a → a.status ≡ n → ⊥
+walk_other m s text budget workers book st a n p h is = ⊎_elim
+    (λ (r : RefusesTexts (RefusesStage m s) (λ obs. ⊥) book st a). fault_other r.fault n p (status_is a (refusal (status_of r.fault) (fault_line r.fault)) n r.answer_is is))
+    (λ rest. ⊎_elim (λ (r : RefusesRows m s text book st a). refused r) (λ (x : WalksRows m s text budget workers book st a). walked x) rest) h
+  where
+    refused : RefusesRows m s text book st a → ⊥
+    refused r = ⊎_elim
+        (λ (x : (b : Pair) × IsBoundOf m s b × (fault : RowFault) × (fault ≢ NoMemory) × Stands b.set text fault × RefusesBy 11 (codes "rows: " ++ fault_text fault) book st a). rows_other (codes "rows: " ++ fault_text x.2) book st a n p x.5 is)
+        (λ (x : (h : HasTrace m s text) × (t : ℕ) × IsUnmetAt h (Some t) × RefusesBy 11 (codes "rows: Unmet " ++ decimal t) book st a). rows_other (codes "rows: Unmet " ++ decimal x.1) book st a n p x.3 is) r
+
+    walked : WalksRows m s text budget workers book st a → ⊥
+    walked x =
+        whole_other (Refuses m s w.All) (AreObsOfTexts m s w.All) (IsChecked m s w.All budget book) workers (ShowsPath x.0) book st a n p
+        (λ r shows. signed_other (path_text x.0.bound.set shows.0) r a n p shows.2) x.2 is
+
+task_other : (task : Task) (m s more : List ℕ) (budget workers : ℕ) (book : Book) (st : Stores) (a : Answer) (n : ℕ) → IsApart n → AnswersTask task m s more budget workers book st a → a.status ≡ n → ⊥
+task_other (t.Decide which) m s more budget workers book st a n p h is = texts_other m s which budget workers (report_bytes which book) book st a n p h is
+task_other (t.Meet name) m s more budget workers book st a n p h is =
+    whole_other (RefusesMeet m s name) (AreMeetObsOfTexts m s name) (IsMeetReport m s name budget book.lines.items) workers Meets book st a n p
+    (λ r same is. verdicts_other (list_any is_proved r.verdicts.items) (list_any is_spent r.verdicts.items) n p (status_is a (met r) n same is)) h is
+task_other t.Machine m s more budget workers book st a n p h is =
+    whole_other (Refuses m s w.All) (AreObsOfTexts m s w.All) (IsChecked m s w.All budget book) workers (ShowsMachine m s) book st a n p
+    (λ r shows. signed_other (machine_text shows.0.set) r a n p shows.2) h is
+task_other (t.Walk rows) m s more budget workers book st a n p h is = walk_other m s more budget workers book st a n p h is
+task_other t.Lines m s more budget workers book st a n p h is = ⊎_elim
+    (λ (r : RefusesTexts (RefusesStage m s) (λ obs. ⊥) book st a). fault_other r.fault n p (status_is a (refusal (status_of r.fault) (fault_line r.fault)) n r.answer_is is))
+    (λ (l : ListsLines m s book st a). done_other n p (status_is a (done (names_text l.bound.set)) n l.answer_is is)) h
 
 job_other : (j : Job) (read : Read) (book : Book) (st : Stores) (a : Answer) (n : ℕ) → IsApart n → (6 ≡ n → ⊥) → AnswersJob j read book st a → a.status ≡ n → ⊥
 job_other j NoModule book st a n p not_6 h is = not_6 (status_is a (refusal 6 (codes "read: " ++ j.module)) n h.answer_is is)
 job_other j NoSet book st a n p not_6 h is = not_6 (status_is a (refusal 6 (codes "read: " ++ j.set)) n h.answer_is is)
-job_other j (Both m s) book st a n p not_6 h is = task_other j.task m s j.budget j.workers book st a n p h is
+job_other j NoMore book st a n p not_6 h is = not_6 (status_is a (refusal 6 (codes "read: " ++ more_name j.task)) n h.answer_is is)
+job_other j (All texts) book st a n p not_6 h is = task_other j.task texts.module texts.set texts.more j.budget j.workers book st a n p h is
 
 move_other : (book : Book) (st : Stores) (a : Answer) (n : ℕ) → IsApart n → AnswersMove book st a → a.status ≡ n → ⊥
 move_other book st a n p h is = ⊎_elim
@@ -217,7 +266,8 @@ job_6 : (shelf : Option (List ℕ → Option (List ℕ))) (before now : ℕ) (j 
     AnswersJob j read book st a → a.status ≡ 6 → Rose before now
 job_6 shelf before now j NoModule book st a read h is = read
 job_6 shelf before now j NoSet book st a read h is = read
-job_6 shelf before now j (Both m s) book st a read h is = absurd (task_other j.task m s j.budget j.workers book st a 6 apart_6 h is)
+job_6 shelf before now j NoMore book st a read h is = read
+job_6 shelf before now j (All texts) book st a read h is = absurd (task_other j.task texts.module texts.set texts.more j.budget j.workers book st a 6 apart_6 h is)
 
 -- the status 6 is a shelf's
 pub is_read : (shelf : Option (List ℕ → Option (List ℕ))) (before now : ℕ) (cmd : Option Command) (read : Read) (a b : Around) (x : Answer) → Reads shelf before now cmd read →
@@ -294,6 +344,11 @@ pub no_set_answered : {E : Type 0} (r : Result Answer E) (j : Job) (read : Read)
     IfOk r (λ a. a ≡ refusal 6 (codes "read: " ++ j.set)) → IfOk r (AnswersJob j read book st)
 no_set_answered (Ok a) j read book st is empty same h = subst (λ (z : Read). AnswersJob j z book st a) (sym is) (record { empty = empty; same = same; answer_is = h })
 no_set_answered (Err e) j read book st is empty same h = tt
+
+pub no_more_answered : {E : Type 0} (r : Result Answer E) (j : Job) (read : Read) (book : Book) (st : Stores) → read ≡ NoMore → book.lines.items ≡ [] → st.after ≡ st.before →
+    IfOk r (λ a. a ≡ refusal 6 (codes "read: " ++ more_name j.task)) → IfOk r (AnswersJob j read book st)
+no_more_answered (Ok a) j read book st is empty same h = subst (λ (z : Read). AnswersJob j z book st a) (sym is) (record { empty = empty; same = same; answer_is = h })
+no_more_answered (Err e) j read book st is empty same h = tt
 
 -- ---- the answer to a command
 

@@ -1,2 +1,3 @@
-mod Answering
-mod Putting
+pub mod Answering
+pub mod Putting
+pub mod Walking

@@ -134,13 +134,15 @@ RefusesRows m s text book st answer =
 abbrev pub ShowsPath : {m s text : List ℕ} → HasTrace m s text → Report → Answer → Type 0
 ShowsPath h r answer = (path : Path) × IsPath (meaning_of h.bound.set) h.bound.set h.trace path × (answer ≡ signed_text (path_text h.bound.set path) r)
 
--- a stage refuses the texts; or the rows are refused; or all lines are decided
+-- the run meets the constraints, and all lines are decided, or why not
+abbrev pub WalksRows : List ℕ → List ℕ → List ℕ → ℕ → ℕ → Book → Stores → Answer → Type 0
+WalksRows m s text budget workers book st answer = (h : HasTrace m s text) × IsUnmetAt h None
+    × (RefusesTexts (Refuses m s w.All) (AreObsOfTexts m s w.All) book st answer ⊎ ReportsTexts (IsChecked m s w.All budget book) workers (ShowsPath h) book st answer)
+
+-- a stage refuses the texts; or the rows are refused; or they give a run
 abbrev pub AnswersWalk : List ℕ → List ℕ → List ℕ → ℕ → ℕ → Book → Stores → Answer → Type 0
 AnswersWalk m s text budget workers book st answer =
-    RefusesTexts (RefusesStage m s) (λ obs. ⊥) book st answer
-    ⊎ (RefusesRows m s text book st answer
-    ⊎ ((h : HasTrace m s text) × IsUnmetAt h None
-    × (RefusesTexts (Refuses m s w.All) (AreObsOfTexts m s w.All) book st answer ⊎ ReportsTexts (IsChecked m s w.All budget book) workers (ShowsPath h) book st answer)))
+    RefusesTexts (RefusesStage m s) (λ obs. ⊥) book st answer ⊎ (RefusesRows m s text book st answer ⊎ WalksRows m s text budget workers book st answer)
 
 -- ---- lines that aren't decided
 

@@ -30,7 +30,7 @@ returns-clause-port g c = move_port c.moved.result c.args.checker.now.book.now (
 pub returns-in-Some-Texts-clause-answer : goal.returns-in-Some-Texts-clause-answer
 returns-in-Some-Texts-clause-answer g c =
     let known = sym c.in_ok-command_in.ensures.is ∙ (c.in-Some-Texts.is ∙ ap (λ (z : Command). Some z) c.in-Some-Texts.field-0-is) in
-    job_ran (g.F.Shelf.files c.args.shelf.now) (g.F.Shelf.faults c.args.shelf.now) (g.F.Shelf.faults c.read_both.new.shelf) (command_of (map (string_bytes {Z = Global}) c.args.words.now))
+    job_ran (g.F.Shelf.files c.args.shelf.now) (g.F.Shelf.faults c.args.shelf.now) (g.F.Shelf.faults c.read_all.new.shelf) (command_of (map (string_bytes {Z = Global}) c.args.words.now))
     (around (state_of g.K.Keeper.tables g.K.Keeper.faults g.H.Helper.asked c.args.checker.now) (line (g.P.Port.wire c.args.port.now) (g.P.Port.faults c.args.port.now)))
     (around (state_of g.K.Keeper.tables g.K.Keeper.faults g.H.Helper.asked c.job_answer.new.checker) (line (g.P.Port.wire c.args.port.now) (g.P.Port.faults c.args.port.now)))
     c.job_answer.result c.in-Some-Texts.job c.in_ok-read-in-Some-Texts.read known c.in_ok-read-in-Some-Texts.ensures refl c.job_answer.ensures.answer
@@ -46,7 +46,7 @@ returns-in-Some-Demo-clause-answer g c =
 pub returns-in-Some-Texts-clause-left : goal.returns-in-Some-Texts-clause-left
 returns-in-Some-Texts-clause-left g c =
     let known = sym c.in_ok-command_in.ensures.is ∙ (c.in-Some-Texts.is ∙ ap (λ (z : Command). Some z) c.in-Some-Texts.field-0-is) in
-    leaves_job (g.F.Shelf.files c.args.shelf.now) (g.F.Shelf.faults c.args.shelf.now) (g.F.Shelf.faults c.read_both.new.shelf) (command_of (map (string_bytes {Z = Global}) c.args.words.now))
+    leaves_job (g.F.Shelf.files c.args.shelf.now) (g.F.Shelf.faults c.args.shelf.now) (g.F.Shelf.faults c.read_all.new.shelf) (command_of (map (string_bytes {Z = Global}) c.args.words.now))
     c.in-Some-Texts.job c.in_ok-read-in-Some-Texts.read
     (around (state_of g.K.Keeper.tables g.K.Keeper.faults g.H.Helper.asked c.args.checker.now) (line (g.P.Port.wire c.args.port.now) (g.P.Port.faults c.args.port.now)))
     (around (state_of g.K.Keeper.tables g.K.Keeper.faults g.H.Helper.asked c.job_answer.new.checker) (line (g.P.Port.wire c.args.port.now) (g.P.Port.faults c.args.port.now)))

@@ -5,7 +5,7 @@ use Rattle.reports.specs.declared.book.Verdict.{Verdict}
 use Rattle.reports.specs.declared.which.Which.TheVariants as w
 use Rattle.asked_lines.specs.Settled.{AddsProofsOf}
 use Rattle.desk_core.specs.Checks.{AreObsOfTexts, IsReport, Refuses}
-use Rattle.signoff_call.specs.Run.{reported}
+use Rattle.signoff_call.specs.Answers.{reported}
 use Rattle.signoff_call.proofs.Answering.{left_of, reported_keeper, turned_answered, turned_keeper}
 use Rattle.signoff_call.proofs.texts.demonstrated.Goals as goal
 
@@ -18,7 +18,7 @@ returns-in-Ok-clause-answer g c =
     let is = subst (λ (s : List ℕ). IsReport (module_text n) s w.All 20000 lines r) (c.bytes-2.ensures ∙ c.in_ok-set.ensures) first in
     inr (record {
       report = r;
-      is_report = is;
+      is_report = (is, c.in-Ok.ensures.least);
       asked = _;
       settled = c.in-Ok.ensures.settled;
       answer_is = c.reported.ensures ∙ (ap (λ (vs : List Verdict). reported vs c.in_ok-text-in-Ok.text) c.deref.ensures.value ∙ ap (λ (bs : List ℕ). reported r.verdicts.items bs) c.in_ok-text-in-Ok.ensures);

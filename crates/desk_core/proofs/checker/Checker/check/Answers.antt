@@ -1,21 +1,6 @@
-use Rattle.std.proofs.Common.{◌≡◌, List, map, subst}
-use Rattle.reports.specs.declared.book.Line.{Line as Told}
-use Rattle.reports.specs.Reports.{is_complete, report_text}
-use Rattle.proof_store.proofs.Turns.{proceeds_well}
-use Rattle.desk_core.proofs.Reporting.{is_report}
+use Rattle.desk_core.proofs.Reporting.{report_of_texts}
 use Rattle.desk_core.proofs.checker.Checker.check.Goals as goal
 
-pub returns-clause-report : goal.returns-clause-report
-returns-clause-report g c =
-    let ds = c.in_ok-decided.decided.lines.items in
-    let which = c.args.which.now in
-    let r = c.in_ok-report.report in
-    let same = c.deref.ensures.value in
-    let text = subst (λ (z : List Told). r.text ≡ report_text which z) same c.in_ok-report.ensures.text in
-    let verdicts = subst (λ (z : List Told). r.verdicts.items ≡ map (λ (d : Told). d.verdict) z) same c.in_ok-report.ensures.verdicts in
-    let complete = subst (λ (z : List Told). r.complete ≡ is_complete which z) same c.in_ok-report.ensures.complete in
-    let of_texts = c.in_ok-decided.ensures.lines in
-    is_report c.args.module.now c.args.set.now of_texts.0 which c.args.self.now.prover.settings.budget ds r of_texts.1 of_texts.2 text verdicts complete
-
-pub returns-clause-proceeds : goal.returns-clause-proceeds
-returns-clause-proceeds g c = proceeds_well _ _ _ _ (λ is. cc) c.in_ok-decided.ensures.proceeds
+pub returns-in-Ok-clause-report : goal.returns-in-Ok-clause-report
+returns-in-Ok-clause-report g c =
+    report_of_texts c.args.module.now c.args.set.now c.in-Ok.bound c.args.which.now _ _ c.in-Ok.ensures.ok c.check_bound-answer.result c.check_bound-answer.ensures.lines c.check_bound-answer.ensures.report
