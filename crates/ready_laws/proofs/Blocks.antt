@@ -8,7 +8,6 @@ use Rattle.vlog_tree.specs.declared.stmt.Lval.{Lval}
 use Rattle.vlog_tree.specs.declared.stmt.Stmt.{Stmt, Row_of-Stmt, end_of-Stmt, more_of-Stmt, Row_of-CaseItem, end_of-CaseItem, more_of-CaseItem}
 use Rattle.vlog_tree.specs.declared.stmt.Stmt.TheVariants as s
 use Rattle.vlog_tree.specs.declared.valuation.Entry.{Entry}
-use Rattle.vlog_tree.specs.Valuation.{depth_of}
 use Rattle.vlog_tree.specs.Value.{width_of, Stands}
 use Rattle.vlog_runs.specs.Places.{Name, Among, Place, read, pieces, total}
 use Rattle.vlog_runs.specs.Blocks.{widest, all_signed, exprs_in, labels_in, case_width, case_sign, lefts, row_lefts, case_lefts}
@@ -19,8 +18,9 @@ use Rattle.flat_laws.proofs.Lists.{append_left, append_right, map_append, map_am
 use Rattle.flat_laws.proofs.Sides.{expr_moved}
 use Rattle.flat_faults.specs.Texts.{Compared, numbers_in, stores_in, row_stores_in, case_stores_in, alone_in, row_alone_in, case_alone_in, compared_in, row_compared_in, case_compared_in, all_labels_in}
 use Rattle.flat_faults.specs.Constants.{at_rest, Taken, alone, assigned_to, compared}
-use Rattle.elab_block.specs.Ready.{ArePlaced, IsReadyStore, IsReadyStmt, AreReadyStmts, AreReadyItems}
+use Rattle.elab_block.specs.Ready.{ArePlaced}
 use Rattle.ready_laws.specs.Fit.{IsFit, IsFitLeft, AreFit}
+use Rattle.ready_laws.specs.Sized.{IsSizedStore, IsSizedStmt, AreSizedStmts, AreSizedItems}
 use Rattle.ready_laws.proofs.Lengths.{formed_length}
 use Rattle.ready_laws.proofs.Standing.{labels_declared}
 use Rattle.ready_laws.proofs.Sides.{single, placed, left_ready, ready_store, moved_wide}
@@ -84,7 +84,7 @@ widest_most v (x ∷ xs) h =
 
 -- ---- statements
 
-module _ (p q : Place) (m : MovesInto p q) (stands : (x : Name) → IsSignal p x → Stands (at_rest q) (read (p.prefix ++ x))) (flat : (x : Name) → depth_of (at_rest q) (read x) ≡ 0) where
+module _ (p q : Place) (m : MovesInto p q) (stands : (x : Name) → IsSignal p x → Stands (at_rest q) (read (p.prefix ++ x))) where
   widest_moved : (xs : List Expr) → AllUseDeclared p xs → widest (at_rest q) (map (moved p.prefix p.params) xs) ≡ widest (at_rest p) xs
   widest_moved [] d = refl
   widest_moved (x ∷ xs) d = λ r. max (expr_moved p q (λ y. 0) x m d.0 r).width (widest_moved xs d.1 r)
@@ -121,13 +121,13 @@ module _ (p q : Place) (m : MovesInto p q) (stands : (x : Name) → IsSignal p x
       (subst (λ j. ArePlaced (at_rest q) as' j t) (sym wide) all))
 
   pub store_ready : (left : Lval) (right : Expr) → AssignsSignals p left → UsesDeclared p right → IsFit p (assigned_to p (record { left = left; right = right })) → IsFitLeft p left →
-      ((a : Expr) → Among (numbers_in left) a → IsFit p (alone (at_rest p) a)) → IsReadyStore (at_rest q) (moved_left p.prefix p.params left) (moved p.prefix p.params right)
+      ((a : Expr) → Among (numbers_in left) a → IsFit p (alone (at_rest p) a)) → IsSizedStore (at_rest q) (moved_left p.prefix p.params left) (moved p.prefix p.params right)
   store_ready left right d e f g n =
       ready_store p q m stands (moved_left p.prefix p.params left) right (total (pieces p (λ x. 0) left)) (left_ready p q m stands left d g.spans g.formed n)
-      (moved_wide p q m stands flat left d) g.length e f
+      (moved_wide p q m stands left d) g.length e f
 
   mutual
-    pub stmt_ready : (body : Stmt) → IsDeclared p body → AreFit p (stores_in body) (alone_in body) (compared_in body) (lefts body) → IsReadyStmt (at_rest q) (moved_stmt p.prefix p.params body)
+    pub stmt_ready : (body : Stmt) → IsDeclared p body → AreFit p (stores_in body) (alone_in body) (compared_in body) (lefts body) → IsSizedStmt (at_rest q) (moved_stmt p.prefix p.params body)
     stmt_ready s.Empty d f = tt
     stmt_ready (s.Block' n h row) d f = row_ready row d f
     stmt_ready (s.If' a h (more_of-Stmt x end_of-Stmt)) d f = (
@@ -151,7 +151,7 @@ module _ (p q : Place) (m : MovesInto p q) (stands : (x : Name) → IsSignal p x
     stmt_ready (s.Nonblocking left right) d f = store_ready left right d.0 d.1 (f.assigned (record { left = left; right = right }) (inl refl)) (f.left_sides left (inl refl)) f.single
 
     row_ready : {n : _} (row : Row_of-Stmt n) → AreDeclared p row → AreFit p (row_stores_in row) (row_alone_in row) (row_compared_in row) (row_lefts row) →
-        AreReadyStmts (at_rest q) (moved_stmts p.prefix p.params row)
+        AreSizedStmts (at_rest q) (moved_stmts p.prefix p.params row)
     row_ready end_of-Stmt d f = tt
     row_ready (more_of-Stmt a rest) d f = (
       stmt_ready a d.0 (first p (stores_in a) (row_stores_in rest) (alone_in a) (row_alone_in rest) (compared_in a) (row_compared_in rest) (lefts a) (row_lefts rest) f),
@@ -159,7 +159,7 @@ module _ (p q : Place) (m : MovesInto p q) (stands : (x : Name) → IsSignal p x
     )
 
     items_ready : {n : _} (row : Row_of-CaseItem n) → AreItemsDeclared p row → AreFit p (case_stores_in row) (case_alone_in row) (case_compared_in row) (case_lefts row) →
-        AreReadyItems (at_rest q) (moved_items p.prefix p.params row)
+        AreSizedItems (at_rest q) (moved_items p.prefix p.params row)
     items_ready end_of-CaseItem d f = tt
     items_ready (more_of-CaseItem labels body rest) d f = (
       stmt_ready body d.1 (first p (stores_in body) (case_stores_in rest) (alone_in body) (case_alone_in rest) (compared_in body) (case_compared_in rest) (lefts body) (case_lefts rest) f),

@@ -7,4 +7,4 @@ pub mod Signals
 pub mod Ports
 pub mod Sides
 pub mod Blocks
-pub mod Elaborating
+pub mod Sizing

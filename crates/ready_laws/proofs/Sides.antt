@@ -1,11 +1,12 @@
 -- A moved assignment may be taken where the assignment is fit.
-use Rattle.std.proofs.Common.{◌≡◌, ℕ, ◌+◌, ◌≤◌, max, Bool, IsTrue, nat_eq, List, [], ◌∷◌, ◌++◌, sym, ap, ◌∙◌, refl, subst, inl, inr, arith}
+use Rattle.std.proofs.Common.{◌≡◌, ℕ, ◌+◌, ◌≤◌, max, Bool, true, false, IsTrue, nat_eq, List, [], ◌∷◌, ◌++◌, sym, ap, ◌∙◌, refl, subst, inl, inr, arith}
 use Rattle.std.specs.Prelude.{if◌then◌else◌}
 use Rattle.vlog_tree.specs.declared.expr.Expr.{Expr}
 use Rattle.vlog_tree.specs.declared.expr.Span.{Span}
 use Rattle.vlog_tree.specs.declared.expr.Span.TheVariants as w
 use Rattle.vlog_tree.specs.declared.stmt.Lval.{Lval, Row_of-Lval, end_of-Lval, more_of-Lval}
 use Rattle.vlog_tree.specs.declared.stmt.Lval.TheVariants as l
+use Rattle.vlog_tree.specs.declared.valuation.Entry.{Entry}
 use Rattle.vlog_tree.specs.Valuation.{IsLength, named, depth_of}
 use Rattle.vlog_tree.specs.Value.{Operand, operand_of, own_defined, own_integer, part_width, width_of, sign_of, Stands, IsPartConstant}
 use Rattle.vlog_runs.specs.Places.{Name, Cycle, Among, Place, Piece, read, valuation, pieces, row_pieces, total, bit_piece, word_piece}
@@ -17,35 +18,44 @@ use Rattle.flat_laws.proofs.Lists.{append_left, append_right}
 use Rattle.flat_laws.proofs.Sides.{expr_moved, pieces_moved}
 use Rattle.flat_faults.specs.Texts.{numbers_in, row_numbers_in}
 use Rattle.flat_faults.specs.Constants.{at_rest, Taken, alone, stored, IsSpanConstant, HasConstantSpans, AllHaveConstantSpans, IsLeftFormed, AreLeftsFormed}
-use Rattle.elab_block.specs.Ready.{IsPlaced, IsSingle, left_width, row_width, IsReadyLeft, AreReadyLefts, IsReadyStore}
+use Rattle.elab_faults.specs.Drivers.{parts_of, row_parts_of}
+use Rattle.mem_laws.specs.Spread.{part_length, lefts_length}
+use Rattle.elab_block.specs.Ready.{IsPlaced, IsSingle, IsReadyLeft, AreReadyLefts}
 use Rattle.ready_laws.specs.Fit.{IsFit}
+use Rattle.ready_laws.specs.Sized.{left_length, IsSizedStore}
 use Rattle.ready_laws.proofs.Lengths.{formed_length, longer}
 use Rattle.ready_laws.proofs.Keeping.{part_fixed, parts_fixed, moved_formed}
 
 -- ---- the length of a left side
 
-more_none : (n : ℕ) → n + 0 ≡ n
-more_none n = omega arith
-
 total_append : (xs ys : List Piece) → total (xs ++ ys) ≡ total xs + total ys
 total_append [] ys = omega arith
 total_append (x ∷ xs) ys = ap (λ n. x.count + n) (total_append xs ys) ∙ omega arith
 
--- where no name is a memory's
-module _ (q : Place) (c : Cycle) (flat : (x : Name) → depth_of (valuation q c) (read x) ≡ 0) where
+lengths_append : (v : List Entry) (ps qs : List Lval) → lefts_length v (ps ++ qs) ≡ lefts_length v ps + lefts_length v qs
+lengths_append v [] qs = omega arith
+lengths_append v (p ∷ ps) qs = ap (λ n. part_length v p + n) (lengths_append v ps qs) ∙ omega arith
+
+chosen_count : (t : Bool) (x y : Piece) → (if t then x else y).count ≡ (if t then x.count else y.count)
+chosen_count true x y = refl
+chosen_count false x y = refl
+
+module _ (q : Place) (c : Cycle) where
   mutual
-    left_wide : (left : Lval) → total (pieces q c left) ≡ left_width (valuation q c) left
-    left_wide (l.Name x) = more_none (named (valuation q c) (read x)).width
+    left_wide : (left : Lval) → total (pieces q c left) ≡ left_length (valuation q c) left
+    left_wide (l.Name x) = refl
     left_wide (l.Select x a) =
-        ap (λ (d : ℕ). total ((if nat_eq d 0
-        then bit_piece (q.prefix ++ x) (named (valuation q c) (read x)) (operand_of (valuation q c) a)
-        else word_piece q.prefix x (valuation q c) (operand_of (valuation q c) a)) ∷ [])) (flat x)
-    left_wide (l.Part x span a b) = more_none (part_width span (own_integer (operand_of (valuation q c) a)) (own_integer (operand_of (valuation q c) b)))
+        let v = valuation q c in
+        ap (λ n. n + 0)
+        (chosen_count (nat_eq (depth_of v (read x)) 0) (bit_piece (q.prefix ++ x) (named v (read x)) (operand_of v a)) (word_piece q.prefix x v (operand_of v a)))
+    left_wide (l.Part x span a b) = refl
     left_wide (l.Concat' h row) = row_wide row
 
-    row_wide : {m : _} (row : Row_of-Lval m) → total (row_pieces q c row) ≡ row_width (valuation q c) row
+    row_wide : {m : _} (row : Row_of-Lval m) → total (row_pieces q c row) ≡ lefts_length (valuation q c) (row_parts_of row)
     row_wide end_of-Lval = refl
-    row_wide (more_of-Lval a rest) = total_append (pieces q c a) (row_pieces q c rest) ∙ (λ r. left_wide a r + row_wide rest r)
+    row_wide (more_of-Lval a rest) =
+        total_append (pieces q c a) (row_pieces q c rest)
+        ∙ ((λ r. left_wide a r + row_wide rest r) ∙ sym (lengths_append (valuation q c) (parts_of a) (row_parts_of rest)))
 
 -- ---- one place that moves into another one
 
@@ -103,21 +113,25 @@ module _ (p q : Place) (m : MovesInto p q) (stands : (x : Name) → IsSignal p x
       lefts_ready rest d.1 k.1 f.1 (λ b i. n b (append_right (numbers_in a) (row_numbers_in rest) b i)),
     )
 
-  -- a right side, whose left side may stand in another place
-  pub ready_store : (left : Lval) (right : Expr) (n : ℕ) → IsReadyLeft (at_rest q) left → n ≡ left_width (at_rest q) left → IsLength n →
-      UsesDeclared p right → IsFit p (stored (at_rest p) n right) → IsReadyStore (at_rest q) left (moved p.prefix p.params right)
-  ready_store left right n ready wide len d f =
+  -- a right side at the longer of its own and another length
+  pub right_placed : (right : Expr) (n : ℕ) → IsLength n → UsesDeclared p right → IsFit p (stored (at_rest p) n right) →
+      IsPlaced (at_rest q) (moved p.prefix p.params right) (max (width_of (at_rest q) (moved p.prefix p.params right)) n) (sign_of (at_rest q) (moved p.prefix p.params right))
+  right_placed right n len d f =
       let a = moved p.prefix p.params right in
       let k = longer (width_of (at_rest p) right) n (formed_length (at_rest p) right f.formed) len in
       let first = placed (stored (at_rest p) n right) d f (omega arith) k.1 in
-      let second : IsPlaced (at_rest q) a (max (width_of (at_rest q) a) n) (sign_of (at_rest q) a) =
-      subst (λ (o : Operand). IsPlaced (at_rest q) a (max o.width n) o.signed) (sym (same right d)) first in
+      subst (λ (o : Operand). IsPlaced (at_rest q) a (max o.width n) o.signed) (sym (same right d)) first
+
+  -- its left side may stand in another place
+  pub ready_store : (left : Lval) (right : Expr) (n : ℕ) → IsReadyLeft (at_rest q) left → n ≡ left_length (at_rest q) left → IsLength n →
+      UsesDeclared p right → IsFit p (stored (at_rest p) n right) → IsSizedStore (at_rest q) left (moved p.prefix p.params right)
+  ready_store left right n ready wide len d f =
+      let a = moved p.prefix p.params right in
       record {
         left_side = ready;
         length = subst IsLength wide len;
-        right_side = subst (λ j. IsPlaced (at_rest q) a (max (width_of (at_rest q) a) j) (sign_of (at_rest q) a)) wide second;
+        right_side = subst (λ j. IsPlaced (at_rest q) a (max (width_of (at_rest q) a) j) (sign_of (at_rest q) a)) wide (right_placed right n len d f);
       }
 
-  module _ (flat : (x : Name) → depth_of (at_rest q) (read x) ≡ 0) where
-    pub moved_wide : (left : Lval) → AssignsSignals p left → total (pieces p (λ x. 0) left) ≡ left_width (at_rest q) (moved_left p.prefix p.params left)
-    moved_wide left d = ap total (sym (pieces_moved p q (λ x. 0) left m d)) ∙ left_wide q (λ x. 0) flat (moved_left p.prefix p.params left)
+  pub moved_wide : (left : Lval) → AssignsSignals p left → total (pieces p (λ x. 0) left) ≡ left_length (at_rest q) (moved_left p.prefix p.params left)
+  moved_wide left d = ap total (sym (pieces_moved p q (λ x. 0) left m d)) ∙ left_wide q (λ x. 0) (moved_left p.prefix p.params left)

@@ -1,27 +1,30 @@
 -- The signals and ports of the module without instances.
-use Rattle.std.proofs.Common.{◌≡◌, Bool, true, false, nat_eq, List, [], ◌∷◌, ◌++◌, Option, Some, map, sym, ap, ◌∙◌, refl, subst, ◌⊎◌, inl, inr, ⊎_elim}
-use Rattle.std.specs.Prelude.{IsSomeAnd, unwrap_or}
+use Rattle.std.proofs.Common.{◌≡◌, ℕ, zero, suc, ◌&&◌, Bool, true, false, nat_eq, List, [], ◌∷◌, ◌++◌, Option, Some, map, sym, ap, ◌∙◌, refl, subst, ◌⊎◌, inl, inr, ⊎_elim}
+use Rattle.std.specs.Prelude.{IsSomeAnd, unwrap_or, if◌then◌else◌}
 use Rattle.std.specs.Option.{option_map}
 use Rattle.std.specs.List.{flat_map}
 use Rattle.std.specs.Str.{bytes_eq}
+use Rattle.std.proofs.lemmas.Bool.{eq-eqb}
 use Rattle.std.proofs.lemmas.List.{append_cancel_left}
 use Rattle.std.proofs.lemmas.Slice.Eq.{bytes_eq-Decides}
 use Rattle.vlog_tree.specs.declared.module.Module.{Module}
 use Rattle.vlog_tree.specs.declared.valuation.Entry.{Entry}
-use Rattle.vlog_tree.specs.Valuation.{IsLength, entry_at, meant, named, depth_of}
+use Rattle.vlog_tree.specs.Valuation.{IsLength, entry_at, is_named, meant, named}
 use Rattle.vlog_tree.specs.Value.{Stands}
 use Rattle.vlog_runs.specs.declared.flat.Signal.{Signal}
-use Rattle.vlog_runs.specs.Places.{Name, Cycle, Among, read, entries_of, held_entry}
+use Rattle.vlog_runs.specs.Places.{Name, Cycle, Among, read, words_from, entry_of, entries_of, held_entry}
 use Rattle.vlog_runs.specs.Contents.{Decl, decls_in, signals_in, once, joined, is_among}
 use Rattle.vlog_runs.specs.Scopes.{Scope, place_of, signal_of}
 use Rattle.flat_laws.specs.Moved.{moved_signal}
 use Rattle.flat_laws.specs.Uses.{has_signal, names_of, known}
 use Rattle.flat_laws.specs.Flattened.{flat_signals, AreApart}
+use Rattle.flat_laws.proofs.Entries.{known_is}
 use Rattle.flat_laws.proofs.Lists.{bool_cases, among_append, among_map, map_among, map_append, among_flat, flat_among}
 use Rattle.flat_faults.specs.Declaring.{Repeats}
-use Rattle.elab_step.specs.Solving.{AreDistinct, ArePlain}
+use Rattle.mem_laws.proofs.Finding.{AreSpreadable, entries, once_found}
+use Rattle.mem_laws.proofs.Names.{known_once}
+use Rattle.elab_step.specs.Solving.{AreDistinct}
 use Rattle.elab_step.proofs.Solving.{same_name}
-use Rattle.elab_step.proofs.Fitting.{one_entry, found_entry}
 use Rattle.ready_laws.proofs.Paths.{AreOnce, or_left, or_right}
 
 -- ---- names that stand once
@@ -70,12 +73,13 @@ once_distinct all done (d ∷ ds) =
     differs : (x : Name) → bytes_eq x x ≡ false → ⊥
     differs x e = let t = same_name x in cc
 
--- each signal has the shape of a declaration
+-- each signal has the shape and the words of a declaration
 pub record IsShapedAs (ds : List Decl) (d : Decl) : Type 0 where
   pub from : Decl
   pub among : Among ds from
   pub name : from.name ≡ d.name
   pub shape : from.shape ≡ d.shape
+  pub words : from.words ≡ d.words
 
 once_shaped : (all : List Decl) (done : List Name) (ds : List Decl) (d : Decl) → Among (once all done ds) d → IsShapedAs ds d
 once_shaped all done [] d h = absurd h
@@ -84,12 +88,12 @@ once_shaped all done (e ∷ ds) d h =
     (λ (t : is_among done e.name ≡ true). let r = once_shaped all done ds d (rw t at h) in more e ds d r)
     (λ (t : is_among done e.name ≡ false).
     let k : (joined all e ≡ d) ⊎ Among (once all (e.name ∷ done) ds) d = rw t at h in
-    ⊎_elim (λ (i : joined all e ≡ d). record { from = e; among = inl refl; name = ap (λ (z : Decl). z.name) i; shape = ap (λ (z : Decl). z.shape) i })
+    ⊎_elim (λ (i : joined all e ≡ d). record { from = e; among = inl refl; name = ap (λ (z : Decl). z.name) i; shape = ap (λ (z : Decl). z.shape) i; words = ap (λ (z : Decl). z.words) i })
     (λ n. more e ds d (once_shaped all (e.name ∷ done) ds d n)) k)
     (bool_cases (is_among done e.name))
   where
     more : (e : Decl) (ds : List Decl) (d : Decl) → IsShapedAs ds d → IsShapedAs (e ∷ ds) d
-    more e ds d r = record { from = r.from; among = inr r.among; name = r.name; shape = r.shape }
+    more e ds d r = record { from = r.from; among = inr r.among; name = r.name; shape = r.shape; words = r.words }
 
 pub signal_shaped : (m : Module) (d : Decl) → Among (signals_in m) d → IsShapedAs (decls_in m) d
 signal_shaped m d h = once_shaped (decls_in m) [] (decls_in m) d h
@@ -160,25 +164,76 @@ all_distinct all apart (s ∷ ss) inside o =
 
 -- ---- what the names of signals stand for
 
-pub all_plain : (gs : List Signal) → ((g : Signal) → Among gs g → g.depth ≡ 0) → ArePlain gs
-all_plain [] h = tt
-all_plain (g ∷ gs) h = (h g (inl refl), all_plain gs (λ k n. h k (inr n)))
+-- the entry of a signal
+record IsEntryOf (g : Signal) (es : List Entry) : Type 0 where
+  entry : Entry
+  among : Among es entry
+  name : entry.name ≡ g.name
+  offset : entry.offset ≡ 0
+  width : entry.width ≡ g.width
 
-pub no_depth : (gs : List Signal) (c : Cycle) (x : Name) → ArePlain gs → depth_of (flat_map (entries_of [] c) gs) (read x) ≡ 0
-no_depth [] c x z = refl
-no_depth (g ∷ gs) c x z =
-    ap (λ es. unwrap_or (option_map (λ (e : Entry). e.depth) (entry_at (es ++ flat_map (entries_of [] c) gs) x 0)) 0) (one_entry g c z.0)
-    ∙ ⊎_elim (λ (e : bytes_eq g.name x ≡ true). rw e z.0) (λ (e : bytes_eq g.name x ≡ false). rw e (no_depth gs c x z.1)) (bool_cases (bytes_eq g.name x))
+own_entry : (c : Cycle) (g : Signal) → IsEntryOf g (entries_of [] c g)
+own_entry c g =
+    ⊎_elim (λ (t : nat_eq g.depth 0 ≡ true). rw t (record { entry = held_entry [] c g; among = inl refl; name = refl; offset = refl; width = refl }))
+    (λ (t : nat_eq g.depth 0 ≡ false). rw t (record { entry = entry_of g 0; among = inl refl; name = refl; offset = refl; width = refl }))
+    (bool_cases (nat_eq g.depth 0))
 
-module _ (gs : List Signal) (distinct : AreDistinct (map signal_name gs)) (plain : ArePlain gs) (c : Cycle) (g : Signal) (m : Among gs g) (x : Name) (e : g.name ≡ x) where
-  at_name : entry_at (flat_map (entries_of [] c) gs) x 0 ≡ Some (held_entry [] c g)
-  at_name = subst (λ y. entry_at (flat_map (entries_of [] c) gs) y 0 ≡ Some (held_entry [] c g)) e (found_entry gs c g distinct plain m)
+signal_entry : (gs : List Signal) (c : Cycle) (g : Signal) → Among gs g → IsEntryOf g (entries gs c)
+signal_entry gs c g m =
+    let r = own_entry c g in
+    record { entry = r.entry; among = flat_among (entries_of [] c) gs g r.entry m r.among; name = r.name; offset = r.offset; width = r.width }
 
-  pub signal_width : (named (flat_map (entries_of [] c) gs) (read x)).width ≡ g.width
-  signal_width = ap (λ (o : Option Entry). (unwrap_or (option_map meant o) (record { width = 1; low = 0; signed = false; value = 0 })).width) at_name
+words_long : (c : Cycle) (g : Signal) (j n : ℕ) (e : Entry) → Among (map (held_entry [] c) (words_from g j n)) e → e.width ≡ g.width
+words_long c g j zero e h = absurd h
+words_long c g j (suc n) e h =
+    ⊎_elim (λ i. ap (λ (u : Entry). u.width) (sym i)) (λ k. words_long c g (suc j) n e k) h
 
-  pub signal_stands : IsLength g.width → Stands (flat_map (entries_of [] c) gs) (read x)
-  signal_stands w = subst (λ (o : Option Entry). IsSomeAnd (option_map meant o) (λ k. IsLength k.width)) (sym at_name) w
+entry_long : (c : Cycle) (g : Signal) (e : Entry) (t : Bool) → Among (if t then held_entry [] c g ∷ [] else entry_of g 0 ∷ map (held_entry [] c) (words_from g 0 g.depth)) e → e.width ≡ g.width
+entry_long c g e true h = ⊎_elim (λ (i : held_entry [] c g ≡ e). ap (λ (u : Entry). u.width) (sym i)) (λ z. absurd z) h
+entry_long c g e false h = ⊎_elim (λ (i : entry_of g 0 ≡ e). ap (λ (u : Entry). u.width) (sym i)) (λ k. words_long c g 0 g.depth e k) h
+
+all_wide : (gs : List Signal) (c : Cycle) → ((g : Signal) → Among gs g → IsLength g.width) → (e : Entry) → Among (entries gs c) e → IsLength e.width
+all_wide gs c wide e h =
+    let r = among_flat (entries_of [] c) gs e h in subst IsLength (sym (entry_long c r.0 e (nat_eq r.0.depth 0) r.2)) (wide r.0 r.1)
+
+-- a name of an entry stands for something, the first entry of the name
+found_wide : (es : List Entry) → ((e : Entry) → Among es e → IsLength e.width) → (e : Entry) → Among es e → e.offset ≡ 0 →
+    IsSomeAnd (option_map meant (entry_at es e.name 0)) (λ k. IsLength k.width)
+found_wide [] wide e h z = absurd h
+found_wide (d ∷ es) wide e h z =
+    ⊎_elim (λ (t : is_named e.name 0 d ≡ true). rw t (wide d (inl refl)))
+    (λ (t : is_named e.name 0 d ≡ false).
+    rw t (⊎_elim (λ (i : d ≡ e). absurd (missed e z (subst (λ (u : Entry). is_named e.name 0 u ≡ false) i t))) (λ k. found_wide es (λ u m. wide u (inr m)) e k z) h))
+    (bool_cases (is_named e.name 0 d))
+  where
+    missed : (e : Entry) → e.offset ≡ 0 → is_named e.name 0 e ≡ false → ⊥
+    missed e z t =
+        let b = same_name e.name in
+        let o : nat_eq e.offset 0 ≡ true = eq-eqb e.offset 0 z in
+        let u : is_named e.name 0 e ≡ true = λ q. o q && b q in
+        let no : true ≡ false = sym u ∙ t in
+        cc
+
+pub signal_stands : (gs : List Signal) → ((g : Signal) → Among gs g → IsLength g.width) → (c : Cycle) (g : Signal) → Among gs g → (x : Name) → g.name ≡ x → Stands (entries gs c) (read x)
+signal_stands gs wide c g m x e =
+    let r = signal_entry gs c g m in
+    subst (λ y. Stands (entries gs c) (read y)) (r.name ∙ e) (found_wide (entries gs c) (all_wide gs c wide) r.entry r.among r.offset)
+
+distinct_once : (xs : List Name) → AreDistinct xs → (x : Name) → Repeats xs x → ⊥
+distinct_once [] d x h = h
+distinct_once (y ∷ xs) d x h = ⊎_elim (λ (r : (y ≡ x) × Among xs x). d.0 (subst (λ z. Among xs z) (sym r.0) r.1)) (λ k. distinct_once xs d.1 x k) h
+
+-- where words have names of their own, a signal has its length
+pub signal_width : (gs : List Signal) → AreSpreadable gs → AreDistinct (map signal_name gs) → (c : Cycle) (g : Signal) → Among gs g → (x : Name) → g.name ≡ x →
+    (named (entries gs c) (read x)).width ≡ g.width
+signal_width gs s distinct c g m x e =
+    let r = signal_entry gs c g m in
+    let found : entry_at (entries gs c) r.entry.name 0 ≡ Some r.entry =
+    once_found (entries gs c) r.entry r.among r.offset
+    (λ k. known_once gs s (distinct_once (map signal_name gs) distinct) r.entry.name (subst (λ ys. Repeats ys r.entry.name) (known_is [] c gs) k)) in
+    let here : (named (entries gs c) (read r.entry.name)).width ≡ g.width =
+    ap (λ (o : Option Entry). (unwrap_or (option_map meant o) (record { width = 1; low = 0; signed = false; value = 0 })).width) found ∙ r.width in
+    subst (λ y. (named (entries gs c) (read y)).width ≡ g.width) (r.name ∙ e) here
 
 -- a name that has a signal
 pub found_signal : (gs : List Signal) (x : Name) → has_signal gs x ≡ true → (g : Signal) × Among gs g × (g.name ≡ x)

@@ -1,7 +1,8 @@
 -- Where no fault stands, the texts of a scope are fit.
-use Rattle.std.proofs.Common.{◌≡◌, Bool, true, false, List, [], ◌∷◌, ◌++◌, Option, Some, None, map, sym, refl, subst, inl, inr, ⊎_elim, arith}
+use Rattle.std.proofs.Common.{◌≡◌, ◌<◌, ◌≤◌, nat_lt, Bool, true, false, List, [], ◌∷◌, ◌++◌, Option, Some, None, map, sym, refl, subst, inl, inr, ⊎_elim, arith}
 use Rattle.std.specs.Prelude.{pos, ◌≤ℤ◌}
 use Rattle.std.specs.List.{flat_map}
+use Rattle.std.proofs.lemmas.Bool.{ltb-true, ltb-false}
 use Rattle.vlog_tree.specs.declared.expr.Expr.{Expr, Row_of-Expr, end_of-Expr, more_of-Expr}
 use Rattle.vlog_tree.specs.declared.expr.Expr.TheVariants as e
 use Rattle.vlog_tree.specs.declared.expr.Span.{Span}
@@ -18,13 +19,13 @@ use Rattle.vlog_tree.specs.Value.{operand_of, own_integer, NamesOnly, AllNamesOn
 use Rattle.vlog_runs.specs.Places.{Name, Among, Place, pieces, total}
 use Rattle.vlog_runs.specs.Blocks.{is_parameter, exprs_in, lefts, row_lefts, case_lefts, left_names, row_names}
 use Rattle.vlog_runs.specs.Contents.{Decl, decls_in, signals_in, port_names, assigns_in, Block, blocks_in, Inner, instances_in}
-use Rattle.vlog_runs.specs.Scopes.{Scope, scope_at, place_of, child, range_width, width_in, Given, given_to, decl_at, left_of, signal_of}
+use Rattle.vlog_runs.specs.Scopes.{Scope, scope_at, place_of, child, range_width, width_in, depth_in, Given, given_to, decl_at, left_of, signal_of}
 use Rattle.flat_laws.specs.Uses.{has_signal, is_declared, UsesDeclared, AllUseDeclared, AssignsSignals, AllAssignSignals, IsDeclared, AreDeclared, AreItemsDeclared}
-use Rattle.flat_laws.proofs.Lists.{among_append, append_left, append_right, among_map, map_among, flat_among}
+use Rattle.flat_laws.proofs.Lists.{bool_cases, among_append, append_left, append_right, among_map, map_among, flat_among}
 use Rattle.flat_faults.specs.declared.fault.FlatFault.{FlatFault}
 use Rattle.flat_faults.specs.declared.fault.FlatFault.TheVariants as f
 use Rattle.flat_faults.specs.Texts.{Compared, names_in, row_names_in, numbers_in, row_numbers_in, stores_in, row_stores_in, case_stores_in, alone_in, row_alone_in, case_alone_in, compared_in, row_compared_in, case_compared_in, all_labels_in}
-use Rattle.flat_faults.specs.Constants.{at_rest, Taken, alone, stored, assigned_to, compared, IsBoundDefined, HasConstantNumbers, AllHaveConstantNumbers, IsSpanConstant, HasConstantSpans, AllHaveConstantSpans, AreSpansDefined, AllSpansDefined, IsOrdered, bounds_of, BreaksBounds, BreaksRange, InRange}
+use Rattle.flat_faults.specs.Constants.{at_rest, Taken, alone, stored, assigned_to, compared, IsBoundDefined, HasConstantNumbers, AllHaveConstantNumbers, IsSpanConstant, HasConstantSpans, AllHaveConstantSpans, AreSpansDefined, AllSpansDefined, IsOrdered, IsFromZero, bounds_of, BreaksBounds, BreaksRange, BreaksWords, InRange}
 use Rattle.flat_faults.specs.Stands.{path_name, full, assigns_taken, block_taken, port_taken, port_left, inner_taken, inner_lefts, all_taken, fixed_lefts, block_lefts, BreaksConstant, BreaksWidth, Stands}
 use Rattle.ready_laws.specs.Fit.{IsFit, IsFitLeft, AreFit}
 use Rattle.ready_laws.proofs.Stable as stable
@@ -60,7 +61,7 @@ mutual
       ⊎_elim (λ k. names_pass test a d.0 x k) (λ k. row_pass test rest d.1 x k) (among_append (names_in a) (row_names_in rest) x h)
 
 mutual
-  names_are : (p : Place) (left : Lval) → AssignsSignals p left → (x : Name) → Among (left_names left) x → has_signal p.signals x ≡ true
+  pub names_are : (p : Place) (left : Lval) → AssignsSignals p left → (x : Name) → Among (left_names left) x → has_signal p.signals x ≡ true
   names_are p (l.Name y) d x h = ⊎_elim (λ (i : y ≡ x). subst (λ z. has_signal p.signals z ≡ true) i d.1) (λ n. absurd n) h
   names_are p (l.Select y a) d x h = ⊎_elim (λ (i : y ≡ x). subst (λ z. has_signal p.signals z ≡ true) i d.0.1) (λ n. absurd n) h
   names_are p (l.Part y span a b) d x h = ⊎_elim (λ (i : y ≡ x). subst (λ z. has_signal p.signals z ≡ true) i d.0.1) (λ n. absurd n) h
@@ -209,6 +210,10 @@ mutual
   items_use p end_of-CaseItem d = nothing_used p
   items_use p (more_of-CaseItem labels body rest) d =
       joined p (stores_in body) (case_stores_in rest) (alone_in body) (case_alone_in rest) (compared_in body) (case_compared_in rest) (lefts body) (case_lefts rest) (body_uses p body d.1) (items_use p rest d.2)
+
+-- so do the left sides of its assignments
+pub lefts_use : (p : Place) (body : Stmt) → IsDeclared p body → (left : Lval) → Among (lefts body) left → AssignsSignals p left
+lefts_use p body d left h = (body_uses p body d).left_sides left h
 
 -- each of those that are compared is one of the expressions
 compared_uses : (p : Place) (k : Compared) → AllUseDeclared p (k.value ∷ k.labels) → (t : Taken) → Among (compared (at_rest p) k) t → NamesOnly (is_declared p) t.value
@@ -415,3 +420,39 @@ module _ (ms : List Module) (top : Name) (none : (fault : FlatFault) → Stands 
 
     pub decl_wide : IsLength (width_in d.shape.range 1 s.params)
     decl_wide = wide_by d.shape.range refl
+
+    -- ---- words
+
+    in_words : (P : Range → Type 0) (x : Range) → d.words ≡ Some x → P x → InRange P d.words
+    in_words P x e h = subst (InRange P) (sym e) h
+
+    module _ (x : Range) (e : d.words ≡ Some x) where
+      words_formed : (t : Taken) → Among (bounds_of s.params x) t → IsFormed s.params t.value
+      words_formed t n =
+          let names = stable.names test t.value (λ no. no_constant (full s d.name) (inl (d, m, refl, inr (in_words (BreaksBounds IsFromZero test s.params) x e (inl (t, n, inl no)))))) in
+          let divisors = stable.divisors s.params t (λ no. no_constant (full s d.name) (inl (d, m, refl, inr (in_words (BreaksBounds IsFromZero test s.params) x e (inl (t, n, inr (names, no))))))) in
+          stable.formed s.params t.value (λ no. no_width (full s d.name) (inl (d, m, refl, inr (in_words (BreaksWords test s.params) x e (inl (t, n, (names, divisors.0, no)))))))
+
+      -- there aren't more than 64
+      words_not_many : 64 < depth_in (Some x) s.params → ⊥
+      words_not_many more =
+          let forms : IsFormed s.params x.high × IsFormed s.params x.low = (words_formed (alone s.params x.high) (inl refl), words_formed (alone s.params x.low) (inr (inl refl))) in
+          no_constant (full s d.name) (inl (
+            d,
+            m,
+            refl,
+            inr (in_words (BreaksBounds IsFromZero test s.params) x e (inr (
+              forms,
+              λ zero.
+                  no_width (full s d.name) (inl (d, m, refl, inr (in_words (BreaksWords test s.params) x e (inr (forms, zero, more))))),
+            ))),
+          ))
+
+    words_few : (o : Option Range) → d.words ≡ o → depth_in o s.params ≤ 64
+    words_few None e = omega arith
+    words_few (Some x) e =
+        let n = depth_in (Some x) s.params in
+        ⊎_elim (λ (t : nat_lt 64 n ≡ true). absurd (words_not_many x e (ltb-true 64 n t))) (λ (t : nat_lt 64 n ≡ false). ltb-false 64 n t) (bool_cases (nat_lt 64 n))
+
+    pub decl_shallow : depth_in d.words s.params ≤ 64
+    decl_shallow = words_few d.words refl

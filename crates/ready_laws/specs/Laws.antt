@@ -1,8 +1,7 @@
 -- The laws.
-use Rattle.std.specs.Prelude.{◌≡◌, ◌++◌, List}
+use Rattle.std.specs.Prelude.{◌++◌, List}
 use Rattle.vlog_tree.specs.declared.module.Module.{Module}
 use Rattle.vlog_tree.specs.declared.stmt.Stmt.{Stmt}
-use Rattle.vlog_tree.specs.Valuation.{depth_of}
 use Rattle.vlog_tree.specs.Value.{Stands as IsNamed}
 use Rattle.vlog_runs.specs.declared.flat.Flat.{Flat}
 use Rattle.vlog_runs.specs.Places.{Name, Place, read}
@@ -16,20 +15,19 @@ use Rattle.flat_faults.specs.declared.fault.FlatFault.{FlatFault}
 use Rattle.flat_faults.specs.Texts.{stores_in, alone_in, compared_in}
 use Rattle.flat_faults.specs.Constants.{at_rest}
 use Rattle.flat_faults.specs.Stands.{Stands}
-use Rattle.elab_block.specs.Ready.{IsReadyStmt}
-use Rattle.elab_step.specs.Asked.{CanElaborate}
 use Rattle.ready_laws.specs.Fit.{AreFit}
-use Rattle.flat_ready.specs.Handed.{HasTopPorts, HasNoMemories, HaveOwnPaths}
+use Rattle.ready_laws.specs.Sized.{IsSizedStmt, HasSizedTexts}
+use Rattle.flat_ready.specs.Handed.{HasTopPorts, HaveOwnPaths}
 use Rattle.flat_ready.specs.Plain.{ArePlainTexts}
 
--- the texts of a block may be taken in the place that it is moved to, where no name is a memory's: the block itself is fit, and its signals stand there
+-- the texts of a block may be taken in the place that it is moved to: the block itself is fit, and its signals stand there
 abbrev pub MovedBlocksStayReady : Type 0
 MovedBlocksStayReady =
-    (p q : Place) (body : Stmt) → MovesInto p q → ((x : Name) → IsSignal p x → IsNamed (at_rest q) (read (p.prefix ++ x))) → ((x : Name) → depth_of (at_rest q) (read x) ≡ 0) →
-    IsDeclared p body → AreFit p (stores_in body) (alone_in body) (compared_in body) (lefts body) → IsReadyStmt (at_rest q) (moved_stmt p.prefix p.params body)
+    (p q : Place) (body : Stmt) → MovesInto p q → ((x : Name) → IsSignal p x → IsNamed (at_rest q) (read (p.prefix ++ x))) →
+    IsDeclared p body → AreFit p (stores_in body) (alone_in body) (compared_in body) (lefts body) → IsSizedStmt (at_rest q) (moved_stmt p.prefix p.params body)
 
--- a list of modules for which no fault stands gives a module without instances that can be made a design, where it has no memories
-abbrev pub FlatCanElaborate : Type 0
-FlatCanElaborate =
+-- a list of modules for which no fault stands gives a module without instances whose texts can be taken where they stand
+abbrev pub FlatHasSizedTexts : Type 0
+FlatHasSizedTexts =
     (ms : List Module) (top : Name) (ss : List Scope) (f : Flat) → ArePlainTexts ms → IsFlatOf ms top ss f → AreScopes ms top ss → HaveOwnPaths ms top ss → CanFlatten ms ss →
-    HasTopPorts ms top f → ((fault : FlatFault) → Stands ms top fault → ⊥) → HasNoMemories f → CanElaborate f
+    HasTopPorts ms top f → ((fault : FlatFault) → Stands ms top fault → ⊥) → HasSizedTexts f

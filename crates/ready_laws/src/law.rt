@@ -1,10 +1,10 @@
 // The laws.
 
-ghost use Rattle.ready_laws.specs.Laws.{FlatCanElaborate, MovedBlocksStayReady};
+ghost use Rattle.ready_laws.specs.Laws.{FlatHasSizedTexts, MovedBlocksStayReady};
 
-/// A list of modules for which no fault of flattening stands gives a module without instances that can be made a design, where it has no memories.
-pub fn flat_can_elaborate()
-    ensures { FlatCanElaborate }
+/// A list of modules for which no fault of flattening stands gives a module without instances whose texts can be taken where they stand.
+pub fn flat_has_sized_texts()
+    ensures { FlatHasSizedTexts }
 {}
 
 /// The texts of a block that is fit may be taken in the place that it is moved to.

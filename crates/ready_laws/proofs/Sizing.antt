@@ -1,5 +1,5 @@
--- What has no fault can be made a design.
-use Rattle.std.proofs.Common.{◌≡◌, Bool, true, false, List, [], ◌∷◌, ◌++◌, Option, Some, None, map, sym, ap, ◌∙◌, refl, subst, ◌⊎◌, inl, inr, ⊎_elim, arith}
+-- Where no fault stands, the texts of the module without instances can be taken where they stand.
+use Rattle.std.proofs.Common.{◌≡◌, ◌+◌, ◌≤◌, max, Bool, true, false, List, [], ◌∷◌, ◌++◌, Option, Some, None, map, sym, ap, ◌∙◌, refl, subst, ◌⊎◌, inl, inr, ⊎_elim, arith}
 use Rattle.std.specs.List.{flat_map}
 use Rattle.std.specs.Option.{option_map}
 use Rattle.std.specs.Str.{bytes_eq}
@@ -12,22 +12,23 @@ use Rattle.vlog_tree.specs.declared.module.Module.{Module}
 use Rattle.vlog_tree.specs.declared.stmt.Lval.{Lval, Row_of-Lval, end_of-Lval, more_of-Lval}
 use Rattle.vlog_tree.specs.declared.stmt.Lval.TheVariants as l
 use Rattle.vlog_tree.specs.declared.valuation.Entry.{Entry}
-use Rattle.vlog_tree.specs.Valuation.{IsLength, meant, meaning_of, named, depth_of}
+use Rattle.vlog_tree.specs.Valuation.{IsLength, meant, meaning_of, named}
 use Rattle.vlog_tree.specs.Value.{width_of, Stands as IsNamed, NamesOnly}
 use Rattle.vlog_runs.specs.declared.flat.Always.{Always}
 use Rattle.vlog_runs.specs.declared.flat.Flat.{Flat}
 use Rattle.vlog_runs.specs.declared.flat.Signal.{Signal}
 use Rattle.vlog_runs.specs.declared.flat.TopPort.{TopPort}
 use Rattle.vlog_runs.specs.Places.{Name, Among, Place, read}
-use Rattle.vlog_runs.specs.Blocks.{is_parameter}
+use Rattle.vlog_runs.specs.Blocks.{is_parameter, lefts, left_names}
 use Rattle.vlog_runs.specs.Contents.{Decl, decls_in, signals_in, port_names, assigns_in, blocks_in, Inner, instances_in}
-use Rattle.vlog_runs.specs.Scopes.{Scope, scope_at, module_at, place_of, signal_of, width_in, child, Given, given_to, decl_at, left_of, Link, links_of, own_link, inner_links, connections, connection, port_links, port_link}
+use Rattle.vlog_runs.specs.Scopes.{Scope, scope_at, module_at, place_of, signal_of, width_in, depth_in, child, Given, given_to, decl_at, left_of, Link, links_of, own_link, inner_links, connections, connection, port_links, port_link}
 use Rattle.vlog_runs.specs.Cycles.{flat_place}
 use Rattle.flat_laws.specs.Moved.{moved, moved_name, moved_left, moved_lefts, moved_signal}
 use Rattle.flat_laws.specs.Uses.{known, IsSignal, AssignsSignals}
 use Rattle.flat_laws.specs.Flattened.{moved_link, moved_block, flat_signals, flat_assigns, flat_blocks, IsFlatOf, AreScopes, IsLinkDeclared, CanFlatten, HaveSimpleNames}
 use Rattle.flat_laws.specs.Laws.{MovesInto}
 use Rattle.flat_laws.proofs.Constants.{nothing, fixed}
+use Rattle.flat_laws.proofs.Driving.{left_names_moved, assigned_names}
 use Rattle.flat_laws.proofs.Finding.{bare}
 use Rattle.flat_laws.proofs.Lists.{bool_cases, among_append, append_left, among_map, map_among, map_append, among_flat, flat_among}
 use Rattle.flat_laws.proofs.Lows.{scope_moves}
@@ -35,19 +36,21 @@ use Rattle.flat_faults.specs.declared.fault.FlatFault.{FlatFault}
 use Rattle.flat_faults.specs.Texts.{numbers_in, row_numbers_in}
 use Rattle.flat_faults.specs.Constants.{at_rest, alone, HasConstantNumbers}
 use Rattle.flat_faults.specs.Stands.{Stands}
-use Rattle.elab_block.specs.Ready.{left_width, IsReadyLeft, IsReadyStore, IsReadyStmt}
-use Rattle.elab_step.specs.Solving.{AreDistinct, ArePlain}
-use Rattle.elab_step.specs.Asked.{CanElaborate}
+use Rattle.mem_laws.specs.Uses.{lefts_of}
+use Rattle.mem_laws.proofs.Finding.{AreSpreadable}
+use Rattle.elab_block.specs.Ready.{IsReadyLeft}
+use Rattle.elab_step.specs.Solving.{AreDistinct}
 use Rattle.ready_laws.specs.Fit.{IsFit}
-use Rattle.flat_ready.specs.Handed.{HasTopPorts, HasNoMemories}
+use Rattle.ready_laws.specs.Sized.{left_length, IsSizedStore, IsSizedStmt, HasOwnWords, IsSizedLeft, IsPlacedSomewhere, HasSizedTexts}
+use Rattle.flat_ready.specs.Handed.{HasTopPorts}
 use Rattle.flat_ready.specs.Plain.{ArePlainTexts}
 use Rattle.flat_ready.specs.Handed.{HaveOwnPaths}
 use Rattle.ready_laws.proofs.Lengths.{name_length, longer}
 use Rattle.ready_laws.proofs.Standing as standing
-use Rattle.ready_laws.proofs.Sides.{left_ready, ready_store, moved_wide}
+use Rattle.ready_laws.proofs.Sides.{left_ready, right_placed, ready_store, moved_wide}
 use Rattle.ready_laws.proofs.Blocks.{stmt_ready, store_ready}
 use Rattle.ready_laws.proofs.Paths.{are_once}
-use Rattle.ready_laws.proofs.Signals.{signal_name, name_known, no_repeats, signal_shaped, all_distinct, all_plain, no_depth, signal_width, signal_stands, found_signal}
+use Rattle.ready_laws.proofs.Signals.{signal_name, name_known, no_repeats, signal_shaped, all_distinct, signal_width, signal_stands, found_signal}
 use Rattle.ready_laws.proofs.Ports.{names_listed, top_found, ports_once, port_signal}
 
 -- ---- the numbers of a moved left side
@@ -71,10 +74,10 @@ numbers_constant p left d h n k =
 
 -- ---- a name alone on the right
 
-name_store : (v : List Entry) (left : Lval) (x : Name) → IsReadyLeft v left → IsLength (left_width v left) → IsNamed v (read x) → IsReadyStore v left (e.Name (read x))
+name_store : (v : List Entry) (left : Lval) (x : Name) → IsReadyLeft v left → IsLength (left_length v left) → IsNamed v (read x) → IsSizedStore v left (e.Name (read x))
 name_store v left x ready len stands =
     let own = name_length v (read x) stands in
-    let k = longer (width_of v (e.Name (read x))) (left_width v left) own len in
+    let k = longer (width_of v (e.Name (read x))) (left_length v left) own len in
     record {
       left_side = ready;
       length = len;
@@ -109,7 +112,7 @@ port_in r p g d false true e f k h =
 port_in r p g d false false e f k h = let z : Among [] k = rw (e, f) at h in absurd z
 
 module _ (ms : List Module) (top : Name) (ss : List Scope) (f : Flat) (simple : HaveSimpleNames ms) (of : IsFlatOf ms top ss f) (are : AreScopes ms top ss) (own : HaveOwnPaths ms top ss)
-    (can : CanFlatten ms ss) (ports : HasTopPorts ms top f) (none : (fault : FlatFault) → Stands ms top fault → ⊥) (no_memories : HasNoMemories f) where
+    (can : CanFlatten ms ss) (ports : HasTopPorts ms top f) (none : (fault : FlatFault) → Stands ms top fault → ⊥) where
   abbrev q : Place
   q = flat_place f
 
@@ -121,12 +124,6 @@ module _ (ms : List Module) (top : Name) (ss : List Scope) (f : Flat) (simple : 
   distinct : AreDistinct (map signal_name f.signals)
   distinct = subst (λ gs. AreDistinct (map signal_name gs)) (sym of.signals) (all_distinct ss can.apart ss (λ t n. n) (are_once ms simple top ss own.paths own.lead own.distinct))
 
-  plain : ArePlain f.signals
-  plain = all_plain f.signals no_memories
-
-  flat : (x : Name) → depth_of (at_rest q) (read x) ≡ 0
-  flat x = no_depth f.signals (λ y. 0) x plain
-
   signal_in : (u : Scope) (g : Signal) → Among ss u → Among (place_of u).signals g → Among f.signals (moved_signal u.prefix g)
   signal_in u g h k = subst (λ gs. Among gs (moved_signal u.prefix g)) (sym of.signals) (flat_among flat_signals ss u (moved_signal u.prefix g) h (map_among (moved_signal u.prefix) (place_of u).signals g k))
 
@@ -136,36 +133,92 @@ module _ (ms : List Module) (top : Name) (ss : List Scope) (f : Flat) (simple : 
       let r = signal_shaped u.module' d m in
       subst (λ (z : Shape). IsLength (width_in z.range 1 u.params)) r.shape (standing.decl_wide ms top none u at.0 at.1 r.from r.among)
 
-  wide : (g : Signal) → Among f.signals g → IsLength g.width
-  wide g m =
+  decl_shallow : (u : Scope) → Among ss u → (d : Decl) → Among (signals_in u.module') d → (signal_of u.params d).depth ≤ 64
+  decl_shallow u h d m =
+      let at = are.only u h in
+      let r = signal_shaped u.module' d m in
+      subst (λ o. depth_in o u.params ≤ 64) r.words (standing.decl_shallow ms top none u at.0 at.1 r.from r.among)
+
+  -- each signal is one of a scope's
+  each_signal : (P : Signal → Type 0) → ((pre : Name) (g : Signal) → P g → P (moved_signal pre g)) → ((u : Scope) → Among ss u → (d : Decl) → Among (signals_in u.module') d → P (signal_of u.params d)) →
+      (g : Signal) → Among f.signals g → P g
+  each_signal P moves h g m =
       let r = among_flat flat_signals ss g (subst (λ gs. Among gs g) of.signals m) in
       let k = among_map (moved_signal r.0.prefix) (place_of r.0).signals g r.2 in
       let d = among_map (signal_of r.0.params) (signals_in r.0.module') k.0 k.1 in
-      subst (λ (z : Signal). IsLength z.width) k.2 (subst (λ (z : Signal). IsLength z.width) d.2 (decl_wide r.0 r.1 d.0 d.1))
+      subst P k.2 (moves r.0.prefix k.0 (subst P d.2 (h r.0 r.1 d.0 d.1)))
+
+  wide : (g : Signal) → Among f.signals g → IsLength g.width
+  wide = each_signal (λ g. IsLength g.width) (λ pre g h. h) decl_wide
+
+  shallow : (g : Signal) → Among f.signals g → g.depth ≤ 64
+  shallow = each_signal (λ g. g.depth ≤ 64) (λ pre g h. h) decl_shallow
+
+  spreadable : HasOwnWords f → AreSpreadable f.signals
+  spreadable words = record { wide = wide; shallow = shallow; once = λ y w r. words y (w, r) }
 
   stands : (u : Scope) → Among ss u → (x : Name) → IsSignal (place_of u) x → IsNamed (at_rest q) (read (u.prefix ++ x))
   stands u h x d =
       let r = found_signal (place_of u).signals x d.1 in
       let m = signal_in u r.0 h r.1 in
-      signal_stands f.signals distinct plain (λ y. 0) (moved_signal u.prefix r.0) m (u.prefix ++ x) (ap (λ y. u.prefix ++ y) r.2) (wide (moved_signal u.prefix r.0) m)
+      signal_stands f.signals wide (λ y. 0) (moved_signal u.prefix r.0) m (u.prefix ++ x) (ap (λ y. u.prefix ++ y) r.2)
+
+  -- a moved left side names signals
+  name_declared : (u : Scope) → Among ss u → (left : Lval) → AssignsSignals (place_of u) left → (y : Name) → Among (left_names left) y → Among (map signal_name f.signals) (u.prefix ++ y)
+  name_declared u h left d y n =
+      let g = found_signal (place_of u).signals y (standing.names_are (place_of u) left d y n) in
+      subst (λ z. Among (map signal_name f.signals) z) (ap (λ z. u.prefix ++ z) g.2) (map_among signal_name f.signals (moved_signal u.prefix g.0) (signal_in u g.0 h g.1))
+
+  left_declared : (u : Scope) → Among ss u → (left : Lval) → AssignsSignals (place_of u) left → (x : Name) → Among (left_names (moved_left u.prefix u.params left)) x →
+      Among (map signal_name f.signals) x
+  left_declared u h left d x n =
+      let y = among_map (λ z. u.prefix ++ z) (left_names left) x (subst (λ xs. Among xs x) (left_names_moved u.prefix u.params left) n) in
+      subst (λ z. Among (map signal_name f.signals) z) y.2 (name_declared u h left d y.0 y.1)
 
   -- ---- blocks
 
-  block : (k : Always) → Among f.blocks k → IsReadyStmt (at_rest q) k.body
+  block_declared : (k : Always) → Among f.blocks k → (x : Name) → Among (flat_map left_names (lefts k.body)) x → Among (map signal_name f.signals) x
+  block_declared k m x n =
+      let r = among_flat flat_blocks ss k (subst (λ bs. Among bs k) of.blocks m) in
+      let u = r.0 in
+      let b = among_map (moved_block (place_of u)) (blocks_in u.module') k r.2 in
+      let here = subst (λ (z : Always). Among (flat_map left_names (lefts z.body)) x) (sym b.2) n in
+      let y = among_map (λ z. u.prefix ++ z) (flat_map left_names (lefts b.0.body)) x (subst (λ xs. Among xs x) (assigned_names u.prefix u.params b.0.body) here) in
+      let left = among_flat left_names (lefts b.0.body) y.0 y.1 in
+      let d = standing.lefts_use (place_of u) b.0.body ((can.usable u r.1).blocks b.0 b.1) left.0 left.1 in
+      subst (λ z. Among (map signal_name f.signals) z) y.2 (name_declared u r.1 left.0 d y.0 left.2)
+
+  block : (k : Always) → Among f.blocks k → IsSizedStmt (at_rest q) k.body
   block k m =
       let r = among_flat flat_blocks ss k (subst (λ bs. Among bs k) of.blocks m) in
       let u = r.0 in
       let at = are.only u r.1 in
       let b = among_map (moved_block (place_of u)) (blocks_in u.module') k r.2 in
       let d = (can.usable u r.1).blocks b.0 b.1 in
-      subst (λ (z : Always). IsReadyStmt (at_rest q) z.body) b.2
-      (stmt_ready (place_of u) q (moves u r.1) (stands u r.1) flat b.0.body d (standing.block_fit ms top none u at.0 at.1 b.0 b.1 d))
+      subst (λ (z : Always). IsSizedStmt (at_rest q) z.body) b.2
+      (stmt_ready (place_of u) q (moves u r.1) (stands u r.1) b.0.body d (standing.block_fit ms top none u at.0 at.1 b.0 b.1 d))
 
   -- ---- equations
 
-  record IsReadyLink (k : Link) : Type 0 where
-    store : IsReadyStore (at_rest q) (moved_left k.into.prefix k.into.params k.left) (moved k.from.prefix k.from.params k.right)
-    constant : (n : Expr) → Among (numbers_in (moved_left k.into.prefix k.into.params k.left)) n → NamesOnly nothing n
+  record IsSizedAssign (a : Assign) : Type 0 where
+    declared : (x : Name) → Among (left_names a.left) x → Among (map signal_name f.signals) x
+    left : IsSizedLeft (at_rest q) a.left
+    right : IsPlacedSomewhere (at_rest q) a.right
+    store : HasOwnWords f → IsSizedStore (at_rest q) a.left a.right
+    constant : (n : Expr) → Among (numbers_in a.left) n → NamesOnly nothing n
+
+  abbrev IsReadyLink : Link → Type 0
+  IsReadyLink k = IsSizedAssign (moved_link k)
+
+  sized : (a : Assign) → ((x : Name) → Among (left_names a.left) x → Among (map signal_name f.signals) x) → IsSizedStore (at_rest q) a.left a.right →
+      ((n : Expr) → Among (numbers_in a.left) n → NamesOnly nothing n) → IsSizedAssign a
+  sized a declared store constant = record {
+    declared = declared;
+    left = (store.left_side, store.length);
+    right = (max (width_of (at_rest q) a.right) (left_length (at_rest q) a.left), store.right_side);
+    store = λ words. store;
+    constant = constant;
+  }
 
   module _ (s : Scope) (h : Among ss s) where
     abbrev p : Place
@@ -186,11 +239,10 @@ module _ (ms : List Module) (top : Name) (ss : List Scope) (f : Flat) (simple : 
         let numbers : (n : Expr) → Among (numbers_in a.left) n → IsFit p (alone (at_rest p) n) =
         λ n k. standing.own_number ms top none s path at a m n k (standing.numbers_use p a.left d.left n k) in
         let left = standing.own_left ms top none s path at a m in
-        record {
-          store = store_ready p q (moves s h) (stands s h) flat a.left a.right d.left d.right (standing.own_right ms top none s path at a m d.right)
-              (standing.fixed_fit ms top none s path at a.left left d.left numbers) numbers;
-          constant = numbers_constant p a.left d.left (standing.fixed_numbers ms top none s path at a.left left);
-        }
+        sized (moved_link (own_link p a)) (left_declared s h a.left d.left)
+        (store_ready p q (moves s h) (stands s h) a.left a.right d.left d.right (standing.own_right ms top none s path at a m d.right)
+        (standing.fixed_fit ms top none s path at a.left left d.left numbers) numbers)
+        (numbers_constant p a.left d.left (standing.fixed_numbers ms top none s path at a.left left))
 
     module _ (i : Inner) (m : Among (instances_in s.module') i) (t : Scope) (is : child ms s i ≡ Some t) (d : Given) (n : Among (given_to (port_names t.module') i.args) d)
         (port : Decl) (declared : decl_at (signals_in t.module') d.name ≡ Some port) where
@@ -217,15 +269,20 @@ module _ (ms : List Module) (top : Name) (ss : List Scope) (f : Flat) (simple : 
       outer_named = ap (λ y. t.prefix ++ y) named_port.1
 
       port_stands : IsNamed (at_rest q) (read (t.prefix ++ d.name))
-      port_stands = signal_stands f.signals distinct plain (λ y. 0) outer outer_in (t.prefix ++ d.name) outer_named (wide outer outer_in)
+      port_stands = signal_stands f.signals wide (λ y. 0) outer outer_in (t.prefix ++ d.name) outer_named
 
       input_ready : port.input ≡ true → IsLinkDeclared (in_link p (place_of t) d) → IsReadyLink (in_link p (place_of t) d)
       input_ready inp u =
-          let same : outer.width ≡ (named (at_rest q) (read (t.prefix ++ d.name))).width =
-          sym (signal_width f.signals distinct plain (λ y. 0) outer outer_in (t.prefix ++ d.name) outer_named) in
+          let k = named (at_rest q) (read (t.prefix ++ d.name)) in
+          let more : k.width + 0 ≡ k.width = omega arith in
+          let fit = standing.input_fit ms top none s path at i m t is d n port declared inp u.right in
           record {
-            store = ready_store p q (moves s h) (stands s h) (l.Name (t.prefix ++ d.name)) d.value outer.width port_stands same (wide outer outer_in) u.right
-                (standing.input_fit ms top none s path at i m t is d n port declared inp u.right);
+            declared = left_declared t ht (l.Name d.name) u.left;
+            left = (port_stands, subst IsLength (sym more) (name_length (at_rest q) (read (t.prefix ++ d.name)) port_stands));
+            right = (_, right_placed p q (moves s h) (stands s h) d.value outer.width (wide outer outer_in) u.right fit);
+            store = λ words.
+                let same = signal_width f.signals (spreadable words) distinct (λ y. 0) outer outer_in (t.prefix ++ d.name) outer_named in
+                ready_store p q (moves s h) (stands s h) (l.Name (t.prefix ++ d.name)) d.value outer.width port_stands (sym (more ∙ same)) (wide outer outer_in) u.right fit;
             constant = λ x z. absurd z;
           }
 
@@ -244,12 +301,11 @@ module _ (ms : List Module) (top : Name) (ss : List Scope) (f : Flat) (simple : 
           let fixed_left = standing.output_left ms top none s path at i m t is d n port declared inp in
           let fit = standing.fixed_fit ms top none s path at left fixed_left u.left numbers in
           let ready = left_ready p q (moves s h) (stands s h) left u.left fit.spans fit.formed numbers in
-          let len = subst IsLength (moved_wide p q (moves s h) (stands s h) flat left u.left) fit.length in
-          record {
-            store = subst (λ x. IsReadyStore (at_rest q) (moved_left s.prefix s.params left) x) output_name
-                (name_store (at_rest q) (moved_left s.prefix s.params left) (t.prefix ++ d.name) ready len port_stands);
-            constant = numbers_constant p left u.left (standing.fixed_numbers ms top none s path at left fixed_left);
-          }
+          let len = subst IsLength (moved_wide p q (moves s h) (stands s h) left u.left) fit.length in
+          sized (moved_link (out_link p (place_of t) d)) (left_declared s h left u.left)
+          (subst (λ x. IsSizedStore (at_rest q) (moved_left s.prefix s.params left) x) output_name
+          (name_store (at_rest q) (moved_left s.prefix s.params left) (t.prefix ++ d.name) ready len port_stands))
+          (numbers_constant p left u.left (standing.fixed_numbers ms top none s path at left fixed_left))
 
     given_ready : (i : Inner) → Among (instances_in s.module') i → (t : Scope) → child ms s i ≡ Some t → (d : Given) → Among (given_to (port_names t.module') i.args) d →
         (o : Option Decl) → decl_at (signals_in t.module') d.name ≡ o → (k : Link) → Among (port_links p (place_of t) d o) k → IsLinkDeclared k → IsReadyLink k
@@ -274,18 +330,19 @@ module _ (ms : List Module) (top : Name) (ss : List Scope) (f : Flat) (simple : 
         (among_append (map (own_link p) (assigns_in s.module')) (flat_map (inner_links ms s) (instances_in s.module')) k m)
 
   -- each equation is the link of a scope
-  equation : (a : Assign) → Among f.assigns a → (k : Link) × IsReadyLink k × (moved_link k ≡ a)
+  equation : (a : Assign) → Among f.assigns a → IsSizedAssign a
   equation a m =
       let r = among_flat (flat_assigns ms) ss a (subst (λ xs. Among xs a) of.assigns m) in
       let k = among_map moved_link (links_of ms r.0) a r.2 in
-      (k.0, link_ready r.0 r.1 k.0 k.1, k.2)
+      subst IsSizedAssign k.2 (link_ready r.0 r.1 k.0 k.1)
 
-  assign_store : (a : Assign) → Among f.assigns a → IsReadyStore (at_rest q) a.left a.right
-  assign_store a m = let r = equation a m in subst (λ (z : Assign). IsReadyStore (at_rest q) z.left z.right) r.2 r.1.store
-
-  assign_constant : (a : Assign) (n : Expr) → Among f.assigns a → Among (numbers_in a.left) n → NamesOnly nothing n
-  assign_constant a n m k =
-      let r = equation a m in r.1.constant n (subst (λ (z : Assign). Among (numbers_in z.left) n) (sym r.2) k)
+  declared : (x : Name) → Among (flat_map left_names (lefts_of f)) x → Among (map signal_name f.signals) x
+  declared x n =
+      let r = among_flat left_names (lefts_of f) x n in
+      ⊎_elim
+      (λ m. let a = among_map (λ (z : Assign). z.left) f.assigns r.0 m in (equation a.0 a.1).declared x (subst (λ z. Among (left_names z) x) (sym a.2) r.2))
+      (λ m. let k = among_flat (λ (z : Always). lefts z.body) f.blocks r.0 m in block_declared k.0 k.1 x (flat_among left_names (lefts k.0.body) r.0 x k.2 r.2))
+      (among_append (map (λ (z : Assign). z.left) f.assigns) (flat_map (λ (z : Always). lefts z.body) f.blocks) r.0 r.1)
 
   -- ---- ports
 
@@ -295,27 +352,30 @@ module _ (ms : List Module) (top : Name) (ss : List Scope) (f : Flat) (simple : 
   listed : map (λ (p : TopPort). p.name) f.ports ≡ port_names header.0
   listed = ap (map (λ (p : TopPort). p.name)) (ports header.0 header.1) ∙ names_listed (decls_in header.0) (port_names header.0)
 
-  port : (p : TopPort) → Among f.ports p → (g : Signal) × Among f.signals g × (g.name ≡ p.name)
+  port : (p : TopPort) → Among f.ports p → (g : Signal) × Among f.signals g × (g.name ≡ p.name) × (g.depth ≡ 0)
   port p m =
       let n = subst (λ xs. Among xs p.name) listed (map_among (λ (z : TopPort). z.name) f.ports p m) in
       let r = port_signal ms top ss are none header.0 header.1 p.name n in
-      (r.0, subst (λ gs. Among gs r.0) (sym of.signals) r.1, r.2)
+      (r.0, subst (λ gs. Among gs r.0) (sym of.signals) r.1, r.2, r.3)
 
   once : AreDistinct (map (λ (p : TopPort). p.name) f.ports)
   once = subst AreDistinct (sym listed) (no_repeats (port_names header.0) (λ x r. ports_once ms top ss are none header.0 header.1 x r))
 
-  all_ready : CanElaborate f
-  all_ready = record {
+  all_sized : HasSizedTexts f
+  all_sized = record {
     distinct = distinct;
-    plain = plain;
     wide = wide;
-    assigns = assign_store;
-    constant = λ a n m k. assign_constant a n m k;
+    shallow = shallow;
+    declared = declared;
+    lefts = λ a m. (equation a m).left;
+    rights = λ a m. (equation a m).right;
+    assigns = λ words a m. (equation a m).store words;
+    constant = λ a n m k. (equation a m).constant n k;
     blocks = block;
     ports = port;
     once = once;
   }
 
-pub can_elaborate : (ms : List Module) (top : Name) (ss : List Scope) (f : Flat) → ArePlainTexts ms → IsFlatOf ms top ss f → AreScopes ms top ss → HaveOwnPaths ms top ss → CanFlatten ms ss →
-    HasTopPorts ms top f → ((fault : FlatFault) → Stands ms top fault → ⊥) → HasNoMemories f → CanElaborate f
-can_elaborate ms top ss f texts of are own can ports none no_memories = all_ready ms top ss f (λ m h. (texts m h).names) of are own can ports none no_memories
+pub sized_texts : (ms : List Module) (top : Name) (ss : List Scope) (f : Flat) → ArePlainTexts ms → IsFlatOf ms top ss f → AreScopes ms top ss → HaveOwnPaths ms top ss → CanFlatten ms ss →
+    HasTopPorts ms top f → ((fault : FlatFault) → Stands ms top fault → ⊥) → HasSizedTexts f
+sized_texts ms top ss f texts of are own can ports none = all_sized ms top ss f (λ m h. (texts m h).names) of are own can ports none
