@@ -32,7 +32,7 @@ total_append : (xs ys : List Piece) → total (xs ++ ys) ≡ total xs + total ys
 total_append [] ys = omega arith
 total_append (x ∷ xs) ys = ap (λ n. x.count + n) (total_append xs ys) ∙ omega arith
 
-lengths_append : (v : List Entry) (ps qs : List Lval) → lefts_length v (ps ++ qs) ≡ lefts_length v ps + lefts_length v qs
+pub lengths_append : (v : List Entry) (ps qs : List Lval) → lefts_length v (ps ++ qs) ≡ lefts_length v ps + lefts_length v qs
 lengths_append v [] qs = omega arith
 lengths_append v (p ∷ ps) qs = ap (λ n. part_length v p + n) (lengths_append v ps qs) ∙ omega arith
 

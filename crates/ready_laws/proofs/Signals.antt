@@ -219,7 +219,7 @@ signal_stands gs wide c g m x e =
     let r = signal_entry gs c g m in
     subst (λ y. Stands (entries gs c) (read y)) (r.name ∙ e) (found_wide (entries gs c) (all_wide gs c wide) r.entry r.among r.offset)
 
-distinct_once : (xs : List Name) → AreDistinct xs → (x : Name) → Repeats xs x → ⊥
+pub distinct_once : (xs : List Name) → AreDistinct xs → (x : Name) → Repeats xs x → ⊥
 distinct_once [] d x h = h
 distinct_once (y ∷ xs) d x h = ⊎_elim (λ (r : (y ≡ x) × Among xs x). d.0 (subst (λ z. Among xs z) (sym r.0) r.1)) (λ k. distinct_once xs d.1 x k) h
 

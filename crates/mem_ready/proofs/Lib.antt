@@ -1,0 +1,5 @@
+mod Evaluating
+mod Asking
+mod Spreading
+mod Storing
+mod Elaborating
