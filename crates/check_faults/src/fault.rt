@@ -2,7 +2,7 @@
 use binding::BindFault;
 use elab_faults::ElabFault;
 use flat_faults::FlatFault;
-use outside::Text;
+use mem_laws::MemFault;
 use set_read::SetFault;
 use set_sound::Unsound;
 use std::alloc::AllocError;
@@ -17,9 +17,9 @@ pub enum ModuleFault {
     Read(ReadFault),
     /// Its modules don't make a module without instances.
     Flat(FlatFault),
-    /// A signal of this name is a memory, of which no design is made yet.
-    Later(Text),
-    /// The module without instances has no functions.
+    /// The module without instances can't be freed of its memories.
+    Mem(MemFault),
+    /// The module without instances and memories has no functions.
     Elab(ElabFault),
 }
 

@@ -17,7 +17,7 @@ module _ (text set_text : List ℕ) (ms : List Module) (set : Set) (modules : Is
   design_refused (f.Module m.TooLong) h = absurd h
   design_refused (f.Module (m.Read fault)) h = absurd h
   design_refused (f.Module (m.Flat fault)) h = (ms, set, modules, set_is, h)
-  design_refused (f.Module (m.Later n)) h = (ms, set, modules, set_is, h)
+  design_refused (f.Module (m.Mem fault)) h = (ms, set, modules, set_is, h)
   design_refused (f.Module (m.Elab fault)) h = (ms, set, modules, set_is, h)
   design_refused (f.Set stop) h = absurd h
   design_refused (f.Bind fault) h = absurd h

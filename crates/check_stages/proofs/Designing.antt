@@ -1,48 +1,59 @@
--- From modules to a module without instances that can be elaborated.
-use Rattle.std.proofs.Common.{◌≡◌, ◌<◌, Bool, true, false, List, Option, Some, None, refl, arith}
-use Rattle.std.specs.Prelude.{nat_lt}
-use Rattle.std.specs.List.{find}
-use Rattle.set_lookup.proofs.Searches.{find_has, find_misses}
+-- From modules to a module without instances and memories that can be elaborated.
+use Rattle.std.proofs.Common.{◌≡◌, List, refl, sym, subst}
 use Rattle.vlog_tree.specs.declared.module.Module.{Module}
 use Rattle.vlog_runs.specs.declared.flat.Flat.{Flat}
-use Rattle.vlog_runs.specs.declared.flat.Signal.{Signal}
-use Rattle.vlog_runs.specs.Places.{Among, Name}
-use Rattle.flat_faults.specs.declared.fault.FlatFault.{FlatFault}
+use Rattle.vlog_runs.specs.Places.{Name}
+use Rattle.flat_laws.specs.Flattened.{KeepsRuns}
 use Rattle.flat_faults.specs.declared.fault.FlatFault.TheVariants as f
-use Rattle.flat_faults.specs.Stands.{Stands}
 use Rattle.flat_numbers.proofs.Numbers.{are_numbered}
-use Rattle.flat_ready.specs.Handed.{AreNumbered, IsFlattened}
+use Rattle.flat_ready.specs.Handed.{AreNumbered, HasClocks, HasTopPorts}
 use Rattle.flat_ready.specs.Plain.{ArePlainTexts}
+use Rattle.mem_laws.specs.Spread.{spread_flat}
+use Rattle.mem_laws.specs.Stands.{IsFaultless as HasNoMemoryFault}
+use Rattle.mem_laws.specs.Laws.{DeclaresWords, KeepsRuns as KeepsRunsSpread}
 use Rattle.elab_step.specs.Asked.{CanElaborate}
-use Rattle.ready_laws.proofs.Elaborating.{can_elaborate}
-use Rattle.check_stages.specs.Stages.{IsMemory, IsPlainFlatOf, is_memory}
+use Rattle.ready_laws.specs.Sized.{HasSizedTexts}
+use Rattle.ready_laws.proofs.Sizing.{sized_texts}
+use Rattle.mem_ready.proofs.Elaborating.{can_elaborate, is_numbered}
+use Rattle.check_stages.specs.Stages.{IsFaultlessFlatOf, IsPlainFlatOf}
 
-some_depth : (d : _) → nat_lt 0 d ≡ true → 0 < d
-some_depth d is = grind (arith, is)
+-- its texts can be taken where they stand
+pub whole_sized : (ms : List Module) (top : Name) (whole : Flat) → ArePlainTexts ms → IsFaultlessFlatOf ms top whole → HasTopPorts ms top whole → HasSizedTexts whole
+whole_sized ms top whole texts h ports =
+    sized_texts ms top h.flattened.scopes whole texts h.flattened.texts h.flattened.all h.flattened.own h.flattened.usable ports h.faultless
 
-no_depth : (d : _) → nat_lt 0 d ≡ false → d ≡ 0
-no_depth d is = grind (arith, is)
+-- without memories it has the runs, the ports and the clocks
+runs_spread : (ms : List Module) (top : Name) (whole : Flat) → KeepsRuns ms top whole → KeepsRunsSpread whole → KeepsRuns ms top (spread_flat whole)
+runs_spread ms top whole h k = record {
+  cycle = λ c. (λ s. (h.cycle c).0 ((k.cycle c).1 s), λ s. (k.cycle c).0 ((h.cycle c).1 s));
+  follows = λ c d. (λ s. (h.follows c d).0 ((k.follows c d).1 s), λ s. (k.follows c d).0 ((h.follows c d).1 s));
+}
 
-not_true : (b : Bool) → (b ≡ true → ⊥) → b ≡ false
-not_true true h = absurd (h refl)
-not_true false h = refl
+clocks_spread : (ms : List Module) (top : Name) (whole : Flat) → HasClocks ms top whole → HasClocks ms top (spread_flat whole)
+clocks_spread ms top whole h = record { clock = h.clock; asyncs = h.asyncs }
 
--- a signal that is found is a memory
-pub found_memory : (gs : List Signal) (g : Signal) → find is_memory gs ≡ Some g → IsMemory gs g
-found_memory gs g is = let r = find_has is_memory gs g is in (r.0, some_depth g.depth r.1)
+module _ (ms : List Module) (top : Name) (whole flat : Flat) (h : IsFaultlessFlatOf ms top whole) (is : flat ≡ spread_flat whole) where
+  pub plain_of : HasNoMemoryFault whole → KeepsRuns ms top whole → HasTopPorts ms top whole → HasClocks ms top whole → KeepsRunsSpread whole → DeclaresWords whole → IsPlainFlatOf ms top flat
+  plain_of none runs ports clocks keeps words =
+      subst (λ z. IsPlainFlatOf ms top z) (sym is) (record {
+        whole = whole;
+        whole_of = h;
+        unfaulted = none;
+        spread = refl;
+        keeps = runs_spread ms top whole runs keeps;
+        ports = ports;
+        clocks = clocks_spread ms top whole clocks;
+        plain = words.plain;
+      })
 
--- where none is found there is none
-pub no_memory : (gs : List Signal) → find is_memory gs ≡ None → (g : Signal) → Among gs g → g.depth ≡ 0
-no_memory gs is g m = no_depth g.depth (not_true (nat_lt 0 g.depth) (find_misses is_memory gs is g m))
-
--- its bits have numbers of words
-pub plain_numbered : (ms : List Module) (top : Name) (flat : Flat) → IsFlattened ms top flat → ((fault : FlatFault) → Stands ms top fault → ⊥) → AreNumbered flat
-plain_numbered ms top flat texts none = are_numbered ms top flat texts (λ n. none (f.Constant n)) (λ n. none (f.Width n))
+  -- its bits have numbers of words
+  pub plain_numbered : ArePlainTexts ms → HasTopPorts ms top whole → AreNumbered flat
+  plain_numbered texts ports =
+      subst AreNumbered (sym is)
+      (is_numbered whole (whole_sized ms top whole texts h ports) (are_numbered ms top whole h.flattened (λ n. h.faultless (f.Constant n)) (λ n. h.faultless (f.Width n))))
 
 -- it can be elaborated
 pub plain_elaborates : (ms : List Module) (top : Name) (flat : Flat) → ArePlainTexts ms → IsPlainFlatOf ms top flat → CanElaborate flat
-plain_elaborates ms top flat texts h = can_elaborate ms top h.flattened.scopes flat texts h.flattened.texts h.flattened.all h.flattened.own h.flattened.usable h.ports h.faultless h.plain
-
-pub none_of : {X : Type 0} (o : Option X) → ((x : X) → o ≡ Some x → ⊥) → o ≡ None
-none_of None h = refl
-none_of (Some x) h = absurd (h x refl)
+plain_elaborates ms top flat texts h =
+    subst CanElaborate (sym h.spread)
+    (can_elaborate h.whole (whole_sized ms top h.whole texts h.whole_of (subst (λ z. HasTopPorts ms top z) h.spread h.ports)) h.unfaulted)

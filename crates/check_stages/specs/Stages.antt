@@ -1,13 +1,15 @@
 -- What two texts are to a check, and why a stage refuses them.
-use Rattle.std.specs.Prelude.{ℕ, ◌≡◌, ◌<◌, nat_lt, Bool, List}
+use Rattle.std.specs.Prelude.{ℕ, ◌≡◌, List}
 use Rattle.vlog_tree.specs.declared.module.Module.{Module}
 use Rattle.vlog_runs.specs.declared.flat.Flat.{Flat}
-use Rattle.vlog_runs.specs.declared.flat.Signal.{Signal}
-use Rattle.vlog_runs.specs.Places.{Among, Name}
+use Rattle.vlog_runs.specs.Places.{Name}
 use Rattle.flat_laws.specs.Flattened.{KeepsRuns}
 use Rattle.flat_faults.specs.declared.fault.FlatFault.{FlatFault}
 use Rattle.flat_faults.specs.Stands.{Stands as StandsFlat}
 use Rattle.flat_ready.specs.Handed.{HasClocks, HasNoMemories, HasTopPorts, IsFlattened}
+use Rattle.mem_laws.specs.Spread.{spread_flat}
+use Rattle.mem_laws.specs.Stands.{IsFaultless as HasNoMemoryFault}
+use Rattle.mem_flat.specs.Faults.{IsFirstFault}
 use Rattle.elab_faults.specs.declared.fault.ElabFault.{ElabFault}
 use Rattle.elaborate.specs.Asked.{IsFaultOf}
 use Rattle.elaborate.specs.Parts.{HasSignals}
@@ -23,21 +25,17 @@ use Rattle.check_stages.specs.Texts.{IsModuleText, IsSetText, RefusesModules, Re
 
 -- ---- what the stages give
 
-abbrev pub is_memory : Signal → Bool
-is_memory g = nat_lt 0 g.depth
-
-abbrev pub IsMemory : List Signal → Signal → Type 0
-IsMemory gs g = Among gs g × (0 < g.depth)
-
--- modules without a fault of flattening are from their top this module without instances
+-- modules without a fault of flattening are from their top this module without instances, in which names may be memories
 pub record IsFaultlessFlatOf (ms : List Module) (top : Name) (flat : Flat) : Type 0 where
   pub flattened : IsFlattened ms top flat
   pub faultless : (fault : FlatFault) → StandsFlat ms top fault → ⊥
 
--- and it has their runs, the top's ports and clocks, and no memories
+-- and where it has no fault of memories, this one without memories, which has the runs of the modules and the top's ports and clocks
 pub record IsPlainFlatOf (ms : List Module) (top : Name) (flat : Flat) : Type 0 where
-  pub flattened : IsFlattened ms top flat
-  pub faultless : (fault : FlatFault) → StandsFlat ms top fault → ⊥
+  pub whole : Flat
+  pub whole_of : IsFaultlessFlatOf ms top whole
+  pub unfaulted : HasNoMemoryFault whole
+  pub spread : flat ≡ spread_flat whole
   pub keeps : KeepsRuns ms top flat
   pub ports : HasTopPorts ms top flat
   pub clocks : HasClocks ms top flat
@@ -61,10 +59,11 @@ pub record IsBoundOf (text set_text : List ℕ) (b : Pair) : Type 0 where
 
 -- ---- refusals
 
--- a fault of flattening stands for the modules; or none does, and a signal is a memory; or none is, and a fault of elaboration stands
+-- a fault of flattening stands for the modules; or none does, and a fault of memories is the first that stands; or none does, and a fault of elaboration
+-- stands
 abbrev pub RefusesDesign : List Module → Name → CheckFault → Type 0
 RefusesDesign ms top (f.Module (m.Flat fault)) = StandsFlat ms top fault
-RefusesDesign ms top (f.Module (m.Later n)) = (flat : Flat) × IsFaultlessFlatOf ms top flat × (g : Signal) × IsMemory flat.signals g × (n ≡ g.name)
+RefusesDesign ms top (f.Module (m.Mem fault)) = (whole : Flat) × IsFaultlessFlatOf ms top whole × IsFirstFault whole fault
 RefusesDesign ms top (f.Module (m.Elab fault)) = (flat : Flat) × IsPlainFlatOf ms top flat × IsFaultOf flat fault
 RefusesDesign ms top (f.Module m.TooLong) = ⊥
 RefusesDesign ms top (f.Module (m.Read fault)) = ⊥
@@ -84,7 +83,7 @@ Refuses text set_text (f.Module m.TooLong) = RefusesModules text (f.Module m.Too
 Refuses text set_text (f.Module (m.Read fault)) = RefusesModules text (f.Module (m.Read fault))
 Refuses text set_text (f.Set stop) = ((ms : List Module) × IsModuleText text ms) × RefusesSet set_text (f.Set stop)
 Refuses text set_text (f.Module (m.Flat fault)) = RefusesAfter (λ ms set. RefusesDesign ms set.block (f.Module (m.Flat fault))) text set_text
-Refuses text set_text (f.Module (m.Later n)) = RefusesAfter (λ ms set. RefusesDesign ms set.block (f.Module (m.Later n))) text set_text
+Refuses text set_text (f.Module (m.Mem fault)) = RefusesAfter (λ ms set. RefusesDesign ms set.block (f.Module (m.Mem fault))) text set_text
 Refuses text set_text (f.Module (m.Elab fault)) = RefusesAfter (λ ms set. RefusesDesign ms set.block (f.Module (m.Elab fault))) text set_text
 Refuses text set_text (f.Bind fault) = RefusesAfter (λ ms set. (d : Parts) × IsDesignOf ms set.block d × StandsBetween d set fault) text set_text
 Refuses text set_text f.NoLine = ⊥

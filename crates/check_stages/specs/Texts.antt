@@ -38,7 +38,7 @@ abbrev pub RefusesModules : List ℕ → CheckFault → Type 0
 RefusesModules text (f.Module m.TooLong) = 1048576 < length text
 RefusesModules text (f.Module (m.Read fault)) = (length text ≤ 1048576) × RefusesText text fault × (fault ≢ r.Memory)
 RefusesModules text (f.Module (m.Flat fault)) = ⊥
-RefusesModules text (f.Module (m.Later n)) = ⊥
+RefusesModules text (f.Module (m.Mem fault)) = ⊥
 RefusesModules text (f.Module (m.Elab fault)) = ⊥
 RefusesModules text (f.Set stop) = ⊥
 RefusesModules text (f.Bind fault) = ⊥

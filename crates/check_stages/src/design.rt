@@ -1,42 +1,55 @@
 // The design of modules from their top.
 ghost use Rattle.std.specs.Prelude.{IfOk, IfErr};
-ghost use Rattle.check_stages.specs.Stages.{IsDesignOf, IsPlainFlatOf, RefusesDesign};
+ghost use Rattle.check_stages.specs.Stages.{IsDesignOf, IsFaultlessFlatOf, IsPlainFlatOf, RefusesDesign};
+ghost use Rattle.flat_laws.specs.Flattened.{KeepsRuns};
 ghost use Rattle.flat_ready.specs.Plain.{ArePlainTexts};
-ghost use Rattle.flat_ready.specs.Handed.{AreNumbered};
+ghost use Rattle.flat_ready.specs.Handed.{AreNumbered, HasClocks, HasTopPorts};
 
-use crate::memory::memory_in;
 use check_faults::{CheckFault, ModuleFault};
 use elab_faults::ElabFault;
 use elab_flat::flatten;
 use elaborate::elaborate;
 use flat_faults::FlatFault;
-use outside::Text;
+use mem_flat::spread;
+use mem_laws::MemFault;
 use std::alloc::Global;
 use vlog_runs::Flat;
 use vlog_tree::Module;
 use word_design::Design;
 
-/// The module without instances that modules are from their top, without memories.
+/// The module without instances that modules are from their top, with its memories.
+fn whole_of(alloc: Global, modules: &[Module], top: &[u8]) -> Result<Flat, CheckFault>
+    requires { ArePlainTexts modules.now }
+    ensures ok { IfOk result (IsFaultlessFlatOf modules.now top.now) }
+    ensures runs { IfOk result (KeepsRuns modules.now top.now) }
+    ensures ports { IfOk result (HasTopPorts modules.now top.now) }
+    ensures clocks { IfOk result (HasClocks modules.now top.now) }
+    ensures err { IfErr result (RefusesDesign modules.now top.now) }
+{
+    match flatten(alloc, modules, top) {
+        Ok(flat) => Ok(flat),
+        Err(FlatFault::Memory) => Err(CheckFault::Memory),
+        Err(fault) => Err(CheckFault::Module(ModuleFault::Flat(fault))),
+    }
+}
+
+/// The same without its memories.
 fn flat_of(alloc: Global, modules: &[Module], top: &[u8]) -> Result<Flat, CheckFault>
     requires { ArePlainTexts modules.now }
     ensures ok { IfOk result (IsPlainFlatOf modules.now top.now) }
     ensures numbers { IfOk result AreNumbered }
     ensures err { IfErr result (RefusesDesign modules.now top.now) }
 {
-    let flat = match flatten(alloc, modules, top) {
-        Ok(flat) => flat,
-        Err(FlatFault::Memory) => return Err(CheckFault::Memory),
-        Err(fault) => return Err(CheckFault::Module(ModuleFault::Flat(fault))),
-    };
-    if let Some(memory) = memory_in(flat.signals.as_slice()) {
-        let name = Text::copy(alloc, memory.name.bytes())?;
-        return Err(CheckFault::Module(ModuleFault::Later(name)));
+    let whole = whole_of(alloc, modules, top)?;
+    match spread(alloc, &whole) {
+        Ok(flat) => Ok(flat),
+        Err(MemFault::Memory) => Err(CheckFault::Memory),
+        Err(fault) => Err(CheckFault::Module(ModuleFault::Mem(fault))),
     }
-    Ok(flat)
 }
 
-/// The design of modules from their top. Refused where the modules don't make a module without instances, where a signal of it is a memory, where
-/// it has no functions, and for want of memory.
+/// The design of modules from their top. Refused where the modules don't make a module without instances, where that can't be freed of its memories,
+/// where it has no functions then, and for want of memory.
 pub fn design_of(alloc: Global, modules: &[Module], top: &[u8]) -> Result<Design, CheckFault>
     requires { ArePlainTexts modules.now }
     ensures ok { IfOk result (IsDesignOf modules.now top.now) }

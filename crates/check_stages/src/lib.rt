@@ -3,7 +3,6 @@
 
 mod bound;
 mod design;
-mod memory;
 mod texts;
 
 pub use bound::bound_of;

@@ -45,7 +45,7 @@ module _ (text : List ℕ) (spelt : SpellsSomeModules text) where
   modules_apart (f.Module m.TooLong) line h told = let short = spelt.1.short in omega (arith, short, h)
   modules_apart (f.Module (m.Read fault)) line h told = not_unread fault h.1 h.2
   modules_apart (f.Module (m.Flat fault)) line h told = h
-  modules_apart (f.Module (m.Later n)) line h told = h
+  modules_apart (f.Module (m.Mem fault)) line h told = h
   modules_apart (f.Module (m.Elab fault)) line h told = h
   modules_apart (f.Set stop) line h told = h
   modules_apart (f.Bind fault) line h told = h

@@ -5,6 +5,8 @@ use Rattle.vlog_lex.specs.declared.error.ReadFault.{ReadFault}
 use Rattle.vlog_lex.specs.declared.error.ReadFault.TheVariants as r
 use Rattle.flat_faults.specs.declared.fault.FlatFault.{FlatFault}
 use Rattle.flat_faults.specs.declared.fault.FlatFault.TheVariants as f
+use Rattle.mem_laws.specs.declared.fault.MemFault.{MemFault}
+use Rattle.mem_laws.specs.declared.fault.MemFault.TheVariants as n
 use Rattle.elab_faults.specs.declared.fault.ElabFault.{ElabFault}
 use Rattle.elab_faults.specs.declared.fault.ElabFault.TheVariants as e
 use Rattle.set_tree.specs.declared.set.Name.{Name}
@@ -65,6 +67,14 @@ flat_text (f.Width n) = with_word (codes "Width") n
 flat_text (f.Clock n) = with_word (codes "Clock") n
 flat_text f.Memory = codes "Memory"
 
+abbrev pub mem_text : MemFault → List ℕ
+mem_text (n.Twice x) = with_word (codes "Twice") x
+mem_text (n.Whole x) = with_word (codes "Whole") x
+mem_text (n.Nested x) = with_word (codes "Nested") x
+mem_text (n.Kind x) = with_word (codes "Kind") x
+mem_text n.Uses = codes "Uses"
+mem_text n.Memory = codes "Memory"
+
 abbrev pub elab_text : ElabFault → List ℕ
 elab_text (e.Latch n) = with_word (codes "Latch") n
 elab_text (e.Loop n) = with_word (codes "Loop") n
@@ -78,7 +88,7 @@ abbrev pub module_text : ModuleFault → List ℕ
 module_text m.TooLong = codes "TooLong"
 module_text (m.Read fault) = read_text fault
 module_text (m.Flat fault) = flat_text fault
-module_text (m.Later n) = with_word (codes "Later") n
+module_text (m.Mem fault) = mem_text fault
 module_text (m.Elab fault) = elab_text fault
 
 abbrev pub bind_text : BindFault → List ℕ

@@ -1,6 +1,6 @@
 // Faults of modules and designs.
 ghost use Rattle.std.specs.Prelude.{◌≡◌, IfOk};
-ghost use Rattle.fault_texts.specs.Texts.{bind_text, elab_text, flat_text, module_text};
+ghost use Rattle.fault_texts.specs.Texts.{bind_text, elab_text, flat_text, mem_text, module_text};
 
 use crate::put::{with_bit, with_word};
 use crate::reading::read_text;
@@ -8,6 +8,7 @@ use binding::BindFault;
 use check_faults::ModuleFault;
 use elab_faults::ElabFault;
 use flat_faults::FlatFault;
+use mem_laws::MemFault;
 use outside::Text;
 use std::alloc::{AllocError, Global};
 
@@ -26,6 +27,20 @@ pub fn flat_text(alloc: Global, fault: &FlatFault) -> Result<Text, AllocError>
         FlatFault::Width(name) => with_word(alloc, b"Width", name.bytes()),
         FlatFault::Clock(name) => with_word(alloc, b"Clock", name.bytes()),
         FlatFault::Memory => Text::copy(alloc, b"Memory"),
+    }
+}
+
+/// A fault of memories.
+pub fn mem_text(alloc: Global, fault: &MemFault) -> Result<Text, AllocError>
+    ensures { IfOk result (λ text. text ≡ mem_text fault.now) }
+{
+    match fault {
+        MemFault::Twice(name) => with_word(alloc, b"Twice", name.bytes()),
+        MemFault::Whole(name) => with_word(alloc, b"Whole", name.bytes()),
+        MemFault::Nested(name) => with_word(alloc, b"Nested", name.bytes()),
+        MemFault::Kind(name) => with_word(alloc, b"Kind", name.bytes()),
+        MemFault::Uses => Text::copy(alloc, b"Uses"),
+        MemFault::Memory => Text::copy(alloc, b"Memory"),
     }
 }
 
@@ -52,7 +67,7 @@ pub fn module_text(alloc: Global, fault: &ModuleFault) -> Result<Text, AllocErro
         ModuleFault::TooLong => Text::copy(alloc, b"TooLong"),
         ModuleFault::Read(fault) => read_text(alloc, fault),
         ModuleFault::Flat(fault) => flat_text(alloc, fault),
-        ModuleFault::Later(name) => with_word(alloc, b"Later", name.bytes()),
+        ModuleFault::Mem(fault) => mem_text(alloc, fault),
         ModuleFault::Elab(fault) => elab_text(alloc, fault),
     }
 }

@@ -1,5 +1,5 @@
-mod Evaluating
-mod Asking
-mod Spreading
-mod Storing
-mod Elaborating
+pub mod Evaluating
+pub mod Asking
+pub mod Spreading
+pub mod Storing
+pub mod Elaborating

@@ -1,28 +1,20 @@
-use Rattle.std.proofs.Common.{◌≡◌, ◌∙◌, Some, None, ap, sym}
-use Rattle.std.specs.List.{find}
-use Rattle.std.specs.Option.{option_copied}
-use Rattle.check_stages.specs.Stages.{is_memory}
-use Rattle.check_stages.proofs.Designing.{found_memory, no_memory, none_of, plain_numbered}
+use Rattle.mem_ready.proofs.Asking.{can_spread, is_ready}
+use Rattle.check_stages.proofs.Designing.{plain_numbered, plain_of, whole_sized}
 use Rattle.check_stages.proofs.design.flat_of.Goals as goal
 
-pub returns-in-Some-clause-err : goal.returns-in-Some-clause-err
-returns-in-Some-clause-err c =
-    let flat = c.in-Ok.flat in
-    let g = c.in-Some.memory.now in
-    let is : find is_memory flat.signals ≡ Some g = ap (find is_memory) (sym c.as_slice.ensures) ∙ (sym c.memory_in.ensures ∙ ap option_copied c.in-Some.is) in
-    (flat, record { flattened = c.in-Ok.ensures.texts; faultless = c.in-Ok.ensures.none }, g, found_memory flat.signals g is, c.in_ok-name.ensures ∙ c.bytes.ensures)
+pub spread-requires-clause-can : goal.spread-requires-clause-can
+spread-requires-clause-can c =
+    can_spread c.in_ok-whole.whole (whole_sized c.args.modules.now c.args.top.now c.in_ok-whole.whole c.requires c.in_ok-whole.ensures.ok c.in_ok-whole.ensures.ports)
 
-pub returns-clause-ok : goal.returns-clause-ok
-returns-clause-ok c =
-    let flat = c.in-Ok.flat in
-    let none : find is_memory flat.signals ≡ None = ap (find is_memory) (sym c.as_slice.ensures) ∙ (sym c.memory_in.ensures ∙ ap option_copied (none_of c.memory_in.result c.in_default.not-Some)) in record {
-      flattened = c.in-Ok.ensures.texts;
-      faultless = c.in-Ok.ensures.none;
-      keeps = c.in-Ok.ensures.runs;
-      ports = c.in-Ok.ensures.ports;
-      clocks = c.in-Ok.ensures.clocks;
-      plain = no_memory flat.signals none;
-    }
+pub spread-requires-clause-ready : goal.spread-requires-clause-ready
+spread-requires-clause-ready c =
+    is_ready c.in_ok-whole.whole (whole_sized c.args.modules.now c.args.top.now c.in_ok-whole.whole c.requires c.in_ok-whole.ensures.ok c.in_ok-whole.ensures.ports)
 
-pub returns-clause-numbers : goal.returns-clause-numbers
-returns-clause-numbers c = plain_numbered c.args.modules.now c.args.top.now c.in-Ok.flat c.in-Ok.ensures.texts c.in-Ok.ensures.none
+pub returns-in-Ok-clause-ok : goal.returns-in-Ok-clause-ok
+returns-in-Ok-clause-ok c =
+    plain_of c.args.modules.now c.args.top.now c.in_ok-whole.whole c.in-Ok.flat c.in_ok-whole.ensures.ok c.in-Ok.ensures.spread c.in-Ok.ensures.none c.in_ok-whole.ensures.runs
+    c.in_ok-whole.ensures.ports c.in_ok-whole.ensures.clocks c.in-Ok.ensures.runs c.in-Ok.ensures.words
+
+pub returns-in-Ok-clause-numbers : goal.returns-in-Ok-clause-numbers
+returns-in-Ok-clause-numbers c =
+    plain_numbered c.args.modules.now c.args.top.now c.in_ok-whole.whole c.in-Ok.flat c.in_ok-whole.ensures.ok c.in-Ok.ensures.spread c.requires c.in_ok-whole.ensures.ports
