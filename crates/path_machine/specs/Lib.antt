@@ -1,4 +1,0 @@
-pub mod Rows
-pub mod Runs
-pub mod Unmet
-pub mod Texts
