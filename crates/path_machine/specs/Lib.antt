@@ -1,0 +1,4 @@
+pub mod Rows
+pub mod Runs
+pub mod Unmet
+pub mod Texts
