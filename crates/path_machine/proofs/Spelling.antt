@@ -156,9 +156,9 @@ row_whole widths line i row left most none l inputs listed = sym (row_end widths
 value_fits : (width : ℕ) (word : List ℕ) (u : ℕ) → value_of width word ≡ Some u → u < 2 ^ width
 value_fits width word u is = elim (cases_Bool (is_number word && nat_lt (number_from 0 word) (2 ^ width))) [
   | inl whole ↦ (
-    let some : Some (number_from 0 word) ≡ Some u = rw whole at is in
-    let same : number_from 0 word ≡ u = cc in
-    subst (λ n. n < 2 ^ width) same (ltb-true (number_from 0 word) (2 ^ width) (and_parts (is_number word) (nat_lt (number_from 0 word) (2 ^ width)) whole).1))
+      let some : Some (number_from 0 word) ≡ Some u = rw whole at is in
+      let same : number_from 0 word ≡ u = cc in
+      subst (λ n. n < 2 ^ width) same (ltb-true (number_from 0 word) (2 ^ width) (and_parts (is_number word) (nat_lt (number_from 0 word) (2 ^ width)) whole).1))
   | inr other ↦ absurd (let bad : None ≡ Some u = rw other at is in cc)
 ]
 

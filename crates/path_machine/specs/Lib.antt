@@ -1,4 +1,5 @@
 pub mod Rows
 pub mod Runs
 pub mod Unmet
+pub mod Steps
 pub mod Texts

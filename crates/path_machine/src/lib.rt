@@ -1,8 +1,12 @@
 //! The abstract machine of a set: its properties are the transitions, and the path of a trace is the run of the machine.
 #![tactic(auto)]
 
+mod failing;
 mod line;
+mod path;
 mod rows;
 mod words;
 
+pub use failing::unmet;
+pub use path::path_of;
 pub use rows::{RowFault, read_rows};

@@ -12,13 +12,13 @@ returns-in_default c = λ inputs listed. row_stops c.args.widths.now c.args.line
 pub returns-in_default-value_of : goal.returns-in_default-value_of
 returns-in_default-value_of c = λ inputs listed.
     row_fails c.args.widths.now c.args.line.now c.loop-width.width-index c.loop-width.row _ c.loop-width-test.true c.loop-width.invariant inputs listed c.in-Some.words.now c.first_word-split.result.word.now
-        (option_map (λ l. l.now) c.first_word-split.result.left) _ (now_some c.loop-width.left c.in-Some.words c.in-Some.is) c.first_word-split.ensures refl (sym c.in_default-value_of.is ∙ c.value_of.ensures)
+    (option_map (λ l. l.now) c.first_word-split.result.left) _ (now_some c.loop-width.left c.in-Some.words c.in-Some.is) c.first_word-split.ensures refl (sym c.in_default-value_of.is ∙ c.value_of.ensures)
 
 pub loop-width-preserved : goal.loop-width-preserved
 loop-width-preserved c =
     row_step c.args.widths.now c.args.line.now c.loop-width.width-index c.loop-width.row c.push.new.self _ c.in-Some.words.now c.first_word-split.result.word.now
-        (option_map (λ l. l.now) c.first_word-split.result.left) _ c.in-Some-value_of.value c.loop-width-test.true (now_some c.loop-width.left c.in-Some.words c.in-Some.is) c.first_word-split.ensures refl
-        (sym c.in-Some-value_of.is ∙ c.value_of.ensures) c.in_ok-push.ensures.ok c.loop-width.invariant
+    (option_map (λ l. l.now) c.first_word-split.result.left) _ c.in-Some-value_of.value c.loop-width-test.true (now_some c.loop-width.left c.in-Some.words c.in-Some.is) c.first_word-split.ensures refl
+    (sym c.in-Some-value_of.is ∙ c.value_of.ensures) c.in_ok-push.ensures.ok c.loop-width.invariant
 
 pub returns-then-is_some : goal.returns-then-is_some
 returns-then-is_some c = λ inputs listed.

@@ -14,7 +14,7 @@ rows_of-requires c =
     let set = c.set-set.result.now in
     let listed : c.deref.result.now ≡ map width_of (inputs_of set) = c.deref.ensures.value ∙ c.in_ok-widths.ensures in
     All-same IsLength c.deref.result.now (map width_of (inputs_of set)) listed
-        (All-map IsLength width_of (inputs_of set) (All-filter (λ (n : Name). is_input n.role) (λ (n : Name). IsLength n.width) set.names (subst (λ (z : Set). All (λ (n : Name). IsLength n.width) z.names) (sym c.set-set.ensures.value) c.set-set.ensures.formed.bounds.widths)))
+    (All-map IsLength width_of (inputs_of set) (All-filter (λ (n : Name). is_input n.role) (λ (n : Name). IsLength n.width) set.names (subst (λ (z : Set). All (λ (n : Name). IsLength n.width) z.names) (sym c.set-set.ensures.value) c.set-set.ensures.formed.bounds.widths)))
 
 pub returns-clause-fit : goal.returns-clause-fit
 returns-clause-fit c =

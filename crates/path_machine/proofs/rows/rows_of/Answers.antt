@@ -13,7 +13,7 @@ pub loop-rest-preserved : goal.loop-rest-preserved
 loop-rest-preserved c =
     let rest = c.loop-rest.rest.now in
     read_step c.args.widths.now c.args.text.now rest c.in-Some.first.rest.now c.loop-rest.rows c.push.new.self c.in-Some.first.row
-        (λ inputs listed. subst (λ (o : Option First). MatchOption o (BeginsBadly inputs rest) (λ f. Begins inputs rest f.row f.rest.now)) c.in-Some.is (c.in_ok-first.ensures.row inputs listed)) c.in_ok-push-in-Some.ensures.ok c.loop-rest.invariant
+    (λ inputs listed. subst (λ (o : Option First). MatchOption o (BeginsBadly inputs rest) (λ f. Begins inputs rest f.row f.rest.now)) c.in-Some.is (c.in_ok-first.ensures.row inputs listed)) c.in_ok-push-in-Some.ensures.ok c.loop-rest.invariant
 
 pub returns-in-None : goal.returns-in-None
 returns-in-None c =
@@ -21,7 +21,7 @@ returns-in-None c =
       ok = tt;
       err = λ inputs listed.
           read_bad c.args.widths.now c.args.text.now rest c.loop-rest.rows _ (ap (λ (rs : List Row). length rs + 1) c.as_slice.ensures)
-              (λ inputs listed. subst (λ (o : Option First). MatchOption o (BeginsBadly inputs rest) (λ f. Begins inputs rest f.row f.rest.now)) c.in-None.is (c.in_ok-first.ensures.row inputs listed)) c.loop-rest.invariant inputs listed;
+          (λ inputs listed. subst (λ (o : Option First). MatchOption o (BeginsBadly inputs rest) (λ f. Begins inputs rest f.row f.rest.now)) c.in-None.is (c.in_ok-first.ensures.row inputs listed)) c.loop-rest.invariant inputs listed;
     }
 
 pub returns : goal.returns
