@@ -34,8 +34,11 @@ machine_text set = transition set (codes "reset") set.first ++ operations_text s
 abbrev pub step_text : Set → At → List ℕ
 step_text set at = line (decimal at.start) (property_name set at.property ∷ [])
 
+abbrev pub steps_text : Set → List At → List ℕ
+steps_text set steps = flat_map (step_text set) steps
+
 abbrev pub path_text : Set → Path → List ℕ
-path_text set path = flat_map (step_text set) path.steps
+path_text set path = steps_text set path.steps
 
 -- a fault of rows
 abbrev pub fault_text : RowFault → List ℕ

@@ -1,12 +1,14 @@
 //! The abstract machine of a set: its properties are the transitions, and the path of a trace is the run of the machine.
-#![tactic(auto)]
+#![tactic(auto, using(replay::proofs::Putting::putting))]
 
 mod failing;
 mod line;
 mod path;
 mod rows;
+mod texts;
 mod words;
 
 pub use failing::unmet;
 pub use path::path_of;
 pub use rows::{RowFault, read_rows};
+pub use texts::{fault_text, machine_text, path_text, put_machine};
