@@ -3,3 +3,4 @@ pub mod Runs
 pub mod Unmet
 pub mod Steps
 pub mod Texts
+pub mod Stimuli

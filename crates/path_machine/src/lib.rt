@@ -2,13 +2,18 @@
 #![tactic(auto, using(replay::proofs::Putting::putting))]
 
 mod failing;
+mod law;
 mod line;
 mod path;
 mod rows;
+mod run;
+mod stimulus;
 mod texts;
 mod words;
 
 pub use failing::unmet;
+pub use law::run_traces_are_the_modules;
 pub use path::path_of;
 pub use rows::{RowFault, read_rows};
+pub use run::run_trace;
 pub use texts::{fault_text, machine_text, path_text, put_machine};
