@@ -8,6 +8,8 @@ mod path;
 mod rows;
 mod run;
 mod stimulus;
+#[cfg(test)]
+mod tests;
 mod texts;
 mod words;
 

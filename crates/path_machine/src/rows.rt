@@ -46,8 +46,12 @@ fn widths_of(alloc: Global, set: &Set) -> Result<Vec<u8>, AllocError>
     Ok(widths)
 }
 
-// The rows that the lines of a text spell.
-fn rows_of(alloc: Global, widths: &[u8], text: &[u8]) -> Result<Rows<Rows<u64>>, RowFault>
+/// The rows that the lines of a text spell, for inputs of these lengths.
+pub(crate) fn rows_of(
+    alloc: Global,
+    widths: &[u8],
+    text: &[u8],
+) -> Result<Rows<Rows<u64>>, RowFault>
     requires { All IsLength widths.now }
     ensures ok { IfOk result (λ rows. (inputs : List Name) → widths.now ≡ map width_of inputs → SpellsRows inputs text.now rows) }
     ensures err { IfErr result (λ fault. (inputs : List Name) → widths.now ≡ map width_of inputs → IsBadRow inputs text.now fault) }
