@@ -1,7 +1,7 @@
 mod Carrying
 mod Checked
 mod Meaning
-mod Reporting
+pub mod Reporting
 mod Numbering
 mod Standing
 mod Telling

@@ -134,9 +134,9 @@ pub fn judged<R: Threads + Sync, K: Keeper, H: Helper, G: Gate + Sync>(
 ) -> Result<Answer, AllocError>
     requires bounds { HasBounds job.now }
     requires empty { checker.old.book.now.lines.items ≡ [] }
-    ensures answer { IfOk result (AnswersTask job.now.task texts.now.module texts.now.set texts.now.more job.now.budget job.now.workers checker.new.book.now
+    ensures answer { IfOk result (AnswersTask job.now.task texts.now.«module» texts.now.set texts.now.more job.now.budget job.now.workers checker.new.book.now
         (stores (kept_by K.tables checker.old.prover) (kept_by K.tables checker.new.prover) (asked_by H.asked checker.old.prover))) }
-    ensures left { AddsProofsOf (AreObsOfTask job.now.task texts.now.module texts.now.set) (kept_by K.tables checker.old.prover) (kept_by K.tables checker.new.prover) }
+    ensures left { AddsProofsOf (AreObsOfTask job.now.task texts.now.«module» texts.now.set) (kept_by K.tables checker.old.prover) (kept_by K.tables checker.new.prover) }
     ensures keeper { IfOk result (λ a. a.status ≡ 8 → Rose (K.faults checker.old.prover.keeper.now) (K.faults checker.new.prover.keeper.now)) }
     ensures same { HasSame checker.old checker.new }
 {
