@@ -52,8 +52,6 @@ module _ (ms : List Module) (top : Name) (whole flat : Flat) (h : IsFaultlessFla
       subst AreNumbered (sym is)
       (is_numbered whole (whole_sized ms top whole texts h ports) (are_numbered ms top whole h.flattened (λ n. h.faultless (f.Constant n)) (λ n. h.faultless (f.Width n))))
 
--- it can be elaborated
-pub plain_elaborates : (ms : List Module) (top : Name) (flat : Flat) → ArePlainTexts ms → IsPlainFlatOf ms top flat → CanElaborate flat
-plain_elaborates ms top flat texts h =
-    subst CanElaborate (sym h.spread)
-    (can_elaborate h.whole (whole_sized ms top h.whole texts h.whole_of (subst (λ z. HasTopPorts ms top z) h.spread h.ports)) h.unfaulted)
+  -- it can be elaborated
+  pub plain_elaborates : ArePlainTexts ms → HasTopPorts ms top whole → HasNoMemoryFault whole → CanElaborate flat
+  plain_elaborates texts ports none = subst CanElaborate (sym is) (can_elaborate whole (whole_sized ms top whole texts h ports) none)

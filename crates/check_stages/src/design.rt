@@ -1,6 +1,7 @@
 // The design of modules from their top.
 ghost use Rattle.std.specs.Prelude.{IfOk, IfErr};
 ghost use Rattle.check_stages.specs.Stages.{IsDesignOf, IsFaultlessFlatOf, IsPlainFlatOf, RefusesDesign};
+ghost use Rattle.elab_step.specs.Asked.{CanElaborate};
 ghost use Rattle.flat_laws.specs.Flattened.{KeepsRuns};
 ghost use Rattle.flat_ready.specs.Plain.{ArePlainTexts};
 ghost use Rattle.flat_ready.specs.Handed.{AreNumbered, HasClocks, HasTopPorts};
@@ -33,10 +34,12 @@ fn whole_of(alloc: Global, modules: &[Module], top: &[u8]) -> Result<Flat, Check
     }
 }
 
-/// The same without its memories.
-fn flat_of(alloc: Global, modules: &[Module], top: &[u8]) -> Result<Flat, CheckFault>
+/// The module without instances and memories that modules are from their top. Refused where the modules don't make a module without instances, where
+/// that can't be freed of its memories, and for want of memory.
+pub fn flat_of(alloc: Global, modules: &[Module], top: &[u8]) -> Result<Flat, CheckFault>
     requires { ArePlainTexts modules.now }
     ensures ok { IfOk result (IsPlainFlatOf modules.now top.now) }
+    ensures can { IfOk result CanElaborate }
     ensures numbers { IfOk result AreNumbered }
     ensures err { IfErr result (RefusesDesign modules.now top.now) }
 {
@@ -48,8 +51,7 @@ fn flat_of(alloc: Global, modules: &[Module], top: &[u8]) -> Result<Flat, CheckF
     }
 }
 
-/// The design of modules from their top. Refused where the modules don't make a module without instances, where that can't be freed of its memories,
-/// where it has no functions then, and for want of memory.
+/// The design of modules from their top. Refused as `flat_of` is, and where that module has no functions.
 pub fn design_of(alloc: Global, modules: &[Module], top: &[u8]) -> Result<Design, CheckFault>
     requires { ArePlainTexts modules.now }
     ensures ok { IfOk result (IsDesignOf modules.now top.now) }

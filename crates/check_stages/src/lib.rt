@@ -6,5 +6,5 @@ mod design;
 mod texts;
 
 pub use bound::bound_of;
-pub use design::design_of;
+pub use design::{design_of, flat_of};
 pub use texts::{modules_of, set_of, try_modules, try_set};

@@ -1,5 +1,5 @@
 use Rattle.mem_ready.proofs.Asking.{can_spread, is_ready}
-use Rattle.check_stages.proofs.Designing.{plain_numbered, plain_of, whole_sized}
+use Rattle.check_stages.proofs.Designing.{plain_elaborates, plain_numbered, plain_of, whole_sized}
 use Rattle.check_stages.proofs.design.flat_of.Goals as goal
 
 pub spread-requires-clause-can : goal.spread-requires-clause-can
@@ -18,3 +18,8 @@ returns-in-Ok-clause-ok c =
 pub returns-in-Ok-clause-numbers : goal.returns-in-Ok-clause-numbers
 returns-in-Ok-clause-numbers c =
     plain_numbered c.args.modules.now c.args.top.now c.in_ok-whole.whole c.in-Ok.flat c.in_ok-whole.ensures.ok c.in-Ok.ensures.spread c.requires c.in_ok-whole.ensures.ports
+
+pub returns-in-Ok-clause-can : goal.returns-in-Ok-clause-can
+returns-in-Ok-clause-can c =
+    plain_elaborates c.args.modules.now c.args.top.now c.in_ok-whole.whole c.in-Ok.flat c.in_ok-whole.ensures.ok c.in-Ok.ensures.spread c.requires c.in_ok-whole.ensures.ports
+    c.in-Ok.ensures.none
