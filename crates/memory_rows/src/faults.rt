@@ -68,9 +68,10 @@ const ROWS: &[(&str, &str)] = &[
 ];
 
 fn told(rt: &impl Abort, alloc: Global, fault: CheckFault, want: &str) -> Result<(), AllocError> {
-    let line = fault_line(alloc, &fault)?;
+    let line = fault_line(alloc, &fault);
+    // a call, since a proof would write out the drop of all trees here
     drop(fault);
-    assert!(rt; line.bytes() == want.as_bytes());
+    assert!(rt; line?.bytes() == want.as_bytes());
     Ok(())
 }
 

@@ -165,15 +165,20 @@ fn judged(
     cycle_rows: &[(&[u64], bool)],
     step_rows: &[(&[u64], &[u64], bool)],
 ) -> Result<(), AllocError> {
-    let Ok(flat) = flat(alloc, text) else {
-        assert!(rt; false);
-        return Ok(());
-    };
-    let told = cycles(rt, alloc, &flat, cycle_rows);
-    let stepped = steps(rt, alloc, &flat, step_rows);
-    drop(flat);
-    told?;
-    stepped
+    match flat(alloc, text) {
+        Ok(flat) => {
+            let told = cycles(rt, alloc, &flat, cycle_rows);
+            let stepped = steps(rt, alloc, &flat, step_rows);
+            drop(flat);
+            told?;
+            stepped
+        }
+        Err(fault) => {
+            drop(fault);
+            assert!(rt; false);
+            Ok(())
+        }
+    }
 }
 
 #[test]
