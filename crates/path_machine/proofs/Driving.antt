@@ -1,6 +1,6 @@
 -- The run that rows of inputs give.
-use Rattle.std.proofs.Common.{◌≡◌, ◌≢◌, ℕ, zero, suc, ◌+◌, ◌-◌, ◌<◌, ◌≤◌, ◌^◌, ◌%◌, Bool, true, false, not, List, [], ◌∷◌, ◌++◌, Option, Some, None, length, drop, map, get_or, refl, sym, ap, ◌∙◌, subst, arith, inl, inr}
-use Rattle.std.specs.Prelude.{ℤ, pos, ◌+ℤ◌, ◌-ℤ◌, ◌&&◌, cond, filter, is_some, slice_get, slice_index, IfOk, Result, Ok, Err, unwrap_or, if◌then◌else◌}
+use Rattle.std.proofs.Common.{◌≡◌, ◌≢◌, ℕ, zero, suc, ◌+◌, ◌-◌, ◌<◌, ◌≤◌, ◌^◌, ◌%◌, Bool, true, false, not, List, [], ◌∷◌, ◌++◌, Option, Some, None, length, drop, map, refl, sym, ap, ◌∙◌, subst, arith, inl, inr}
+use Rattle.std.specs.Prelude.{pos, ◌+ℤ◌, ◌-ℤ◌, ◌&&◌, cond, filter, is_some, slice_get, slice_index, IfOk, Result, Ok, Err, unwrap_or, if◌then◌else◌}
 use Rattle.std.specs.List.{All, AllZip}
 use Rattle.std.specs.Str.{bytes_eq}
 use Rattle.std.proofs.Math.Nat.{mod-eq_of_lt}
@@ -15,20 +15,20 @@ use Rattle.set_tree.specs.declared.set.Role.TheVariants as role
 use Rattle.set_tree.specs.declared.set.Set.{Set}
 use Rattle.set_tree.specs.Meaning.{Row}
 use Rattle.set_tree.specs.Parts.{is_input}
-use Rattle.set_tree.specs.Runs.{IsRun, IsRunFromReset, trace_of}
-use Rattle.vlog_runs.specs.Places.{Among, Cycle}
+use Rattle.set_tree.specs.Runs.{IsRun}
+use Rattle.vlog_runs.specs.Places.{Among}
 use Rattle.vlog_runs.specs.Places.{Name as Text}
 use Rattle.flat_scopes.specs.Finding.{place_from}
 use Rattle.word_dag.specs.Nodes.{Naming}
 use Rattle.word_design.specs.declared.design.Net.{Net}
 use Rattle.word_design.specs.declared.design.Register.{Register}
-use Rattle.word_design.specs.Designs.{IsDesign, Parts, source}
+use Rattle.word_design.specs.Designs.{IsDesign, Parts}
 use Rattle.word_design.specs.Laws.{DesignCycle, word_design}
 use Rattle.binding.specs.declared.fault.BindFault.TheVariants as f
 use Rattle.binding.specs.Binding.{Fits, is_clock_or_reset, is_other_role, net_at}
 use Rattle.binding.specs.Binding.{is_input as is_design_input}
 use Rattle.segment_laws.specs.Segments.{cycle_number}
-use Rattle.segment_laws.specs.Tests.{row_at as seen_row, rows_from}
+use Rattle.segment_laws.specs.Tests.{rows_from}
 use Rattle.segment_laws.proofs.Fitting.{name_there}
 use Rattle.segment_laws.proofs.Holding.{input_source, register_apart}
 use Rattle.segment_laws.proofs.Running.{made, made_active, made_append, made_inactive, made_inputs, made_length, made_registers, made_run, made_trace}

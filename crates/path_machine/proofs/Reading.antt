@@ -1,12 +1,12 @@
 -- A text line by line.
-use Rattle.std.proofs.Common.{◌≡◌, ◌≢◌, ℕ, zero, suc, ◌+◌, ◌<◌, ◌≤◌, List, [], ◌∷◌, ◌++◌, Option, Some, None, length, take, drop, map, refl, sym, ap, ◌∙◌, subst, arith, add-one, append_assoc, append-nil, length-append, inl, inr}
+use Rattle.std.proofs.Common.{◌≡◌, ◌≢◌, ℕ, zero, suc, ◌+◌, ◌<◌, List, [], ◌∷◌, ◌++◌, length, take, drop, map, refl, sym, ap, ◌∙◌, subst, arith, add-one, append_assoc, append-nil, inl}
 use Rattle.std.specs.Prelude.{nat_eq, slice_index, true}
 use Rattle.std.specs.List.{All}
 use Rattle.std.proofs.lemmas.Bool.{eqb-true}
 use Rattle.std.proofs.lemmas.List.{take_all}
 use Rattle.set_tree.specs.declared.set.Name.{Name}
 use Rattle.set_tree.specs.Meaning.{Row}
-use Rattle.path_machine.specs.Rows.{Begins, BeginsBadly, IsBadAt, IsLine, Spells, SpellsRows, ended, row_of, width_of}
+use Rattle.path_machine.specs.Rows.{Begins, BeginsBadly, IsBadAt, IsLine, Spells, SpellsRows, ended, width_of}
 use Rattle.path_machine.specs.Rows.SpellsRows.{none, one}
 
 -- ---- the first line

@@ -1,6 +1,6 @@
 -- What words, lines and rows spell.
-use Rattle.std.proofs.Common.{◌≡◌, ◌≢◌, ℕ, zero, suc, ◌+◌, ◌-◌, ◌*◌, ◌<◌, ◌≤◌, ◌^◌, Bool, true, false, List, [], ◌∷◌, ◌++◌, Option, Some, None, length, take, drop, map, refl, sym, ap, ◌∙◌, subst, arith, add-one, append_assoc, append-nil, length-drop, inl, inr}
-use Rattle.std.specs.Prelude.{◌&&◌, is_some, nat_eq, nat_le, nat_lt, slice_index, if◌then◌else◌}
+use Rattle.std.proofs.Common.{◌≡◌, ◌≢◌, ℕ, zero, suc, ◌+◌, ◌-◌, ◌<◌, ◌≤◌, ◌^◌, true, false, List, [], ◌∷◌, ◌++◌, Option, Some, None, length, take, drop, map, refl, sym, ap, ◌∙◌, subst, arith, add-one, append_assoc, append-nil, length-drop, inl, inr}
+use Rattle.std.specs.Prelude.{◌&&◌, is_some, nat_eq, nat_lt, slice_index, if◌then◌else◌}
 use Rattle.std.specs.List.{All, AllZip}
 use Rattle.std.specs.Borrow.{Bor}
 use Rattle.std.specs.Option.{option_map}
@@ -9,7 +9,7 @@ use Rattle.std.proofs.lemmas.Bool.{and_parts, cases_Bool, ltb-true, ne_eqb}
 use Rattle.std.proofs.lemmas.List.Elements.{All-cons, All-head, All-nil, All-tail}
 use Rattle.set_tree.specs.declared.set.Name.{Name}
 use Rattle.set_tree.specs.Meaning.{Row}
-use Rattle.path_machine.specs.Rows.{Begins, BeginsBadly, IsLine, Spells, SpellsRows, ended, is_number, number_from, row_of, split_words, to_first, value_of, values_of, width_of, with_value, words_left, words_of}
+use Rattle.path_machine.specs.Rows.{SpellsRows, is_number, number_from, row_of, split_words, to_first, value_of, values_of, width_of, with_value, words_left, words_of}
 use Rattle.path_machine.specs.Rows.SpellsRows.{none as no_lines, one as one_line}
 
 -- ---- words

@@ -1,7 +1,7 @@
 -- The text of a stimulus: a line for each cycle, with the values of the set's inputs in declared order, in decimal, with single spaces between them;
 -- each line is ended by a line feed. The first lines are the reset cycles.
-use Rattle.std.specs.Prelude.{◌⊎◌, ◌≡◌, ◌≢◌, ◌<◌, ◌≤◌, ◌+◌, ◌*◌, ◌-◌, ◌^◌, ◌++◌, ◌&&◌, ℕ, suc, Bool, true, false, nat_eq, nat_le, nat_lt, List, [], ◌∷◌, length, map, filter, Option, Some, None, if◌then◌else◌}
-use Rattle.std.specs.List.{All, flat_map, list_all}
+use Rattle.std.specs.Prelude.{◌⊎◌, ◌≡◌, ◌≢◌, ◌<◌, ◌≤◌, ◌+◌, ◌*◌, ◌-◌, ◌^◌, ◌++◌, ◌&&◌, ℕ, Bool, nat_eq, nat_le, nat_lt, List, [], ◌∷◌, length, filter, Option, Some, None, if◌then◌else◌}
+use Rattle.std.specs.List.{All, list_all}
 use Rattle.set_tree.specs.declared.set.Name.{Name}
 use Rattle.set_tree.specs.declared.set.Set.{Set}
 use Rattle.set_tree.specs.Meaning.{Row}

@@ -5,7 +5,6 @@ use Rattle.std.specs.List.{flat_map}
 use Rattle.vlog_tree.specs.declared.expr.Expr.{Expr}
 use Rattle.set_tree.specs.declared.path.At.{At}
 use Rattle.set_tree.specs.declared.path.Path.{Path}
-use Rattle.set_tree.specs.declared.set.Length.{Length}
 use Rattle.set_tree.specs.declared.set.Property.{Property}
 use Rattle.set_tree.specs.declared.set.Set.{Set}
 use Rattle.line_laws.specs.Names.{property_name}

@@ -1,4 +1,4 @@
-use Rattle.std.proofs.Common.{◌≡◌, ◌∙◌, List, ap, sym, subst, drop, length, arith}
+use Rattle.std.proofs.Common.{◌∙◌, List, sym, subst}
 use Rattle.set_tree.specs.Formulas.{meaning_of}
 use Rattle.set_tree.specs.Meaning.{Row}
 use Rattle.path_machine.specs.Unmet.{FailsAt}

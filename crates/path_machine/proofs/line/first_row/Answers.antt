@@ -1,4 +1,4 @@
-use Rattle.std.proofs.Common.{◌≡◌, ◌<◌, ◌+◌, ◌++◌, List, ℕ, None, Some, inr, sym, ap, ◌∙◌, arith, drop, length, take}
+use Rattle.std.proofs.Common.{◌<◌, ◌+◌, ◌++◌, List, ℕ, inr, sym, ap, ◌∙◌, arith, drop, length, take}
 use Rattle.path_machine.specs.Rows.{ended}
 use Rattle.path_machine.proofs.Reading.{line_split, not_ended}
 use Rattle.path_machine.proofs.Spelling.{rest_is}

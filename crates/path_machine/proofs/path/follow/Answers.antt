@@ -1,6 +1,5 @@
-use Rattle.std.proofs.Common.{◌≡◌, ◌+◌, ◌-◌, ◌<◌, ◌≤◌, ◌∙◌, List, ap, arith, drop, length, sym}
+use Rattle.std.proofs.Common.{◌∙◌, ap, arith, drop}
 use Rattle.set_tree.specs.Formulas.{meaning_of}
-use Rattle.set_tree.specs.Meaning.{Row}
 use Rattle.path_machine.proofs.Walking.{ends_there, stuck_endless, stuck_unsplit, window_fits}
 use Rattle.path_machine.proofs.path.follow.Goals as goal
 

@@ -1,4 +1,4 @@
-use Rattle.std.proofs.Common.{◌≡◌, sym, subst}
+use Rattle.std.proofs.Common.{subst}
 use Rattle.set_tree.specs.Formulas.{meaning_of}
 use Rattle.path_machine.specs.declared.path.After.{After}
 use Rattle.path_machine.specs.Steps.{IsAfter}

@@ -1,5 +1,5 @@
-use Rattle.std.proofs.Common.{◌≡◌, ℕ, List, map, sym, ap, ◌∙◌, refl, subst}
-use Rattle.std.specs.List.{All, filter}
+use Rattle.std.proofs.Common.{◌≡◌, map, sym, ap, ◌∙◌, subst}
+use Rattle.std.specs.List.{All}
 use Rattle.std.proofs.lemmas.List.Elements.{All-filter, All-map, All-same}
 use Rattle.vlog_tree.specs.Valuation.{IsLength}
 use Rattle.set_tree.specs.declared.set.Name.{Name}

@@ -1,4 +1,4 @@
-use Rattle.std.proofs.Common.{List, ℕ, Option, refl, ap, sym, ◌∙◌, subst, length, ◌+◌}
+use Rattle.std.proofs.Common.{List, Option, refl, ap, sym, ◌∙◌, subst, length, ◌+◌}
 use Rattle.std.specs.Option.{MatchOption}
 use Rattle.set_tree.specs.Meaning.{Row}
 use Rattle.path_machine.specs.declared.line.First.{First}

@@ -1,4 +1,4 @@
-use Rattle.std.proofs.Common.{◌≡◌, ◌+◌, ◌-◌, ◌≤◌, ℕ, List, ap, sym, ◌∙◌, subst, arith, length, map}
+use Rattle.std.proofs.Common.{◌≡◌, ◌+◌, ◌-◌, List, ap, sym, ◌∙◌, subst, arith, length, map}
 use Rattle.set_tree.specs.declared.set.Set.{Set}
 use Rattle.set_tree.specs.Meaning.{Row}
 use Rattle.set_tree.specs.Traces.{IsTrace}
@@ -10,7 +10,7 @@ use Rattle.segment_laws.proofs.Running.{rows_fit}
 use Rattle.path_machine.specs.Rows.{inputs_of}
 use Rattle.path_machine.specs.Runs.{IsRunTrace}
 use Rattle.path_machine.specs.Stimuli.{IsGivenBy, name_of, stimulus}
-use Rattle.path_machine.proofs.Driving.{all_long, given_same, if_ok_map, later_is, run_is, values}
+use Rattle.path_machine.proofs.Driving.{all_long, given_same, if_ok_map, later_is, run_is}
 use Rattle.path_machine.proofs.run.run_trace.Goals as goal
 
 pub rows_after-requires : goal.rows_after-requires

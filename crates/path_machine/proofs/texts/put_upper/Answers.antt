@@ -1,13 +1,7 @@
-use Rattle.std.proofs.Common.{ℕ, List, Option, Some, [], ◌∷◌, ◌++◌, map, refl, sym, ap, ◌∙◌, get_or}
+use Rattle.std.proofs.Common.{◌++◌, ap}
 use Rattle.std.specs.Prelude.{codes}
 use Rattle.std.specs.Fmt.{decimal}
-use Rattle.vlog_tree.specs.declared.expr.Expr.{Expr}
-use Rattle.set_tree.specs.declared.set.Property.{Property}
-use Rattle.line_laws.specs.Names.{property_name}
-use Rattle.word_dag.specs.Text.{spaced}
-use Rattle.replay.proofs.Putting.{head_refused, rest_of, same_put, same_refused, tail_put, tail_refused}
-use Rattle.path_machine.specs.Texts.{length_text, machine_text, operations_text, steps_text, step_text, transition}
-use Rattle.path_machine.proofs.Splitting.{split_names, split_operations, split_steps}
+use Rattle.replay.proofs.Putting.{head_refused, same_put, same_refused, tail_put, tail_refused}
 use Rattle.path_machine.proofs.texts.put_upper.Goals as goal
 
 pub returns-in_err-put-clause-err : goal.returns-in_err-put-clause-err

@@ -1,4 +1,4 @@
-use Rattle.std.proofs.Common.{◌≡◌, ◌≢◌, ◌+◌, ◌-◌, ◌<◌, ◌≤◌, List, ℕ, ◌∷◌, arith, ap, sym, ◌∙◌, take, drop, length, length-drop, subst}
+use Rattle.std.proofs.Common.{◌≢◌, ◌<◌, List, ℕ, ◌∷◌, arith, ap, ◌∙◌, take, length, subst}
 use Rattle.std.specs.List.{All}
 use Rattle.std.proofs.lemmas.List.{take_all}
 use Rattle.path_machine.specs.Rows.{split_words}
