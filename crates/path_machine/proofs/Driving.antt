@@ -2,6 +2,9 @@
 use Rattle.std.proofs.Common.{◌≡◌, ◌≢◌, ℕ, zero, suc, ◌+◌, ◌-◌, ◌<◌, ◌≤◌, ◌^◌, ◌%◌, Bool, true, false, not, List, [], ◌∷◌, ◌++◌, Option, Some, None, length, drop, map, refl, sym, ap, ◌∙◌, subst, arith, inl, inr}
 use Rattle.std.specs.Prelude.{pos, ◌+ℤ◌, ◌-ℤ◌, ◌&&◌, cond, filter, is_some, slice_get, slice_index, IfOk, Result, Ok, Err, unwrap_or, if◌then◌else◌}
 use Rattle.std.specs.List.{All, AllZip}
+use Rattle.std.specs.Borrow.{Bor}
+use Rattle.std.specs.Option.{option_copied}
+use Rattle.std.specs.Slice.{IsItemAt}
 use Rattle.std.specs.Str.{bytes_eq}
 use Rattle.std.proofs.Math.Nat.{mod-eq_of_lt}
 use Rattle.std.proofs.lemmas.Bool.{and_parts, cases_Bool}
@@ -19,6 +22,7 @@ use Rattle.set_tree.specs.Runs.{IsRun}
 use Rattle.vlog_runs.specs.Places.{Among}
 use Rattle.vlog_runs.specs.Places.{Name as Text}
 use Rattle.flat_scopes.specs.Finding.{place_from}
+use Rattle.flat_scopes.proofs.Finding.{got}
 use Rattle.word_dag.specs.Nodes.{Naming}
 use Rattle.word_design.specs.declared.design.Net.{Net}
 use Rattle.word_design.specs.declared.design.Register.{Register}
@@ -44,9 +48,18 @@ given_named [] row x = refl
 given_named (input ∷ inputs) [] x = refl
 given_named (input ∷ inputs) (u ∷ row) x = ap (λ v. if bytes_eq input.name x then u else v) (given_named inputs row x)
 
-given_nothing : (names : List Text) (x : Text) → given_by names [] x ≡ 0
+given_nothing : (names : List Text) (x : Text) → 0 ≡ given_by names [] x
 given_nothing [] x = refl
 given_nothing (name ∷ names) x = refl
+
+-- behind the last row there is nothing
+pub given_past : (names : List Text) (rows : List Row) (i : ℕ) (x : Text) (r : Option (Bor Row)) → IsItemAt rows i r → r ≡ None → 0 ≡ given_by names (row_at rows i) x
+given_past names rows i x r item past = given_nothing names x ∙ ap (λ (row : Row). given_by names row x) (sym (none_at rows i (sym (got rows i r item) ∙ ap option_copied past)))
+  where
+    none_at : (rs : List Row) (k : ℕ) → slice_get rs k ≡ None → row_at rs k ≡ []
+    none_at [] k is = refl
+    none_at (row ∷ rs) zero is = absurd (let bad : Some row ≡ None = is in cc)
+    none_at (row ∷ rs) (suc k) is = none_at rs k is
 
 -- it is that at the place of the name
 pub given_nowhere : (i : ℕ) (names : List Text) (row : Row) (x : Text) → place_from i names x ≡ None → 0 ≡ given_by names row x

@@ -48,10 +48,10 @@ fn given(inputs: &Names<'_>, row: &[u64], name: &[u8]) -> u64
 fn given_at(inputs: &Names<'_>, rows: &[Rows<u64>], at: usize, name: &[u8]) -> u64
     ensures { result ≡ given_by inputs.now (row_at rows.now at) name.now }
 {
-    let Some(row) = rows.get(at) else {
-        return given(inputs, &[], name);
-    };
-    given(inputs, row.as_slice(), name)
+    match rows.get(at) {
+        Some(row) => given(inputs, row.as_slice(), name),
+        None => 0,
+    }
 }
 
 impl Source for Stimulus<'_> {
