@@ -1,6 +1,8 @@
 // The names of lines that aren't decided.
 ghost use Rattle.std.specs.Prelude.{◌≡◌, ◌++◌, ◌∷◌, [], List, Option, ℕ, IfOk, OnOk};
+ghost use Rattle.std.specs.List.{flat_map};
 ghost use Rattle.outside.specs.Tables.{Tables};
+ghost use Rattle.set_tree.specs.declared.line.Line.{Line as Lines};
 ghost use Rattle.reports.specs.declared.book.Book.{Book};
 ghost use Rattle.line_laws.specs.Names.{line_name};
 ghost use Rattle.signoff_call.specs.Tasks.{AnswersLines, names_text, stores};
@@ -24,15 +26,23 @@ fn add_name(alloc: Global, text: &mut Vec<u8>, set: &Set, line: Line) -> Result<
     Ok(())
 }
 
+// The names of lines.
+fn names_of(alloc: Global, set: &Set, lines: &[Line]) -> Result<Text, AllocError>
+    ensures { IfOk result (λ text. text ≡ flat_map (λ (line : Lines). line_name set.now line ++ 10 ∷ []) lines.now) }
+{
+    let mut text = Vec::new(alloc);
+    for line in lines {
+        add_name(alloc, &mut text, set, *line)?;
+    }
+    Ok(Text::new(text))
+}
+
 // The names of all lines.
 fn names_text(alloc: Global, bound: &Bound) -> Result<Text, AllocError>
     ensures { IfOk result (λ text. text ≡ names_text bound.now.set) }
 {
-    let mut text = Vec::new(alloc);
-    for line in &all_lines(alloc, bound)? {
-        add_name(alloc, &mut text, bound.set().set(), *line)?;
-    }
-    Ok(Text::new(text))
+    let lines = all_lines(alloc, bound)?;
+    names_of(alloc, bound.set().set(), lines.as_slice())
 }
 
 /// The names of all lines of two texts, in the order of a report.

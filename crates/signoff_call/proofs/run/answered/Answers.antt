@@ -4,7 +4,7 @@ use Rattle.command_words.specs.declared.action.Command.{Command}
 use Rattle.command_words.specs.Commands.{command_of}
 use Rattle.desk_http.specs.Serving.{line, state, state_of}
 use Rattle.signoff_call.specs.Run.{around}
-use Rattle.signoff_call.proofs.Answering.{demo_ran, job_ran, leaves_all, leaves_job, move_port, move_ran}
+use Rattle.signoff_call.proofs.Answering.{demo_ran, job_port, job_ran, leaves_all, leaves_job, move_port, move_ran}
 use Rattle.signoff_call.proofs.run.answered.Goals as goal
 
 -- where memory runs out early, all is as before
@@ -51,3 +51,6 @@ returns-in-Some-Texts-clause-left g c =
     (around (state_of g.K.Keeper.tables g.K.Keeper.faults g.H.Helper.asked c.args.checker.now) (line (g.P.Port.wire c.args.port.now) (g.P.Port.faults c.args.port.now)))
     (around (state_of g.K.Keeper.tables g.K.Keeper.faults g.H.Helper.asked c.job_answer.new.checker) (line (g.P.Port.wire c.args.port.now) (g.P.Port.faults c.args.port.now)))
     known c.in_ok-read-in-Some-Texts.ensures c.job_answer.ensures.left
+
+pub returns-in-Some-Texts-clause-port : goal.returns-in-Some-Texts-clause-port
+returns-in-Some-Texts-clause-port g c = job_port c.job_answer.result c.in-Some-Texts.job c.in_ok-read-in-Some-Texts.read _ _ _ c.job_answer.ensures.answer

@@ -1,7 +1,7 @@
 use Rattle.std.proofs.Common.{◌≡◌, ◌+◌, ◌≤◌, drop}
 use Rattle.std.specs.Prelude.{count_by}
 use Rattle.reports.specs.Lines.{is_proved}
-use Rattle.signoff_call.specs.Run.{is_refuted, is_spent}
+use Rattle.signoff_call.specs.Answers.{is_refuted, is_spent}
 use Rattle.signoff_call.proofs.texts.count_verdicts.Given as goal
 
 -- those counted so far, with those that are left, are all
