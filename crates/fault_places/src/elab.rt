@@ -1,0 +1,106 @@
+// Findings about a module without instances.
+use crate::finding::Finding;
+use crate::modules::{Pick, declared_in};
+use crate::sources::Sources;
+use crate::tokens::text_of;
+use elab_faults::ElabFault;
+use outside::Text;
+use std::alloc::{AllocError, Global};
+
+/// The wrong form of assignment, by what is declared.
+fn kind_sentence(alloc: Global, sources: &Sources<'_>, path: &Text) -> Result<String, AllocError> {
+    let name = text_of(path);
+    let declared = sources
+        .named(path.bytes())
+        .and_then(|named| declared_in(named.body, named.last, Pick::First));
+    match declared {
+        Some(declared) if declared.is_reg() => format!(in alloc;
+            "`{name}` is a `reg`: one clocked block assigns it, by `<=`, or combinational ones do, by `=`, and no `assign` or instance drives it"
+        ),
+        Some(_) => format!(in alloc;
+            "`{name}` is a wire: an `assign` or an instance drives it; declare it as a `reg` if a block assigns it"
+        ),
+        None => format!(in alloc;
+            "`{name}` is assigned in the wrong form: a block assigns a `reg`, by `<=` if it is clocked, else by `=`, and `assign` drives wires"
+        ),
+    }
+}
+
+fn sentence_of(
+    alloc: Global,
+    sources: &Sources<'_>,
+    fault: &ElabFault,
+) -> Result<String, AllocError> {
+    match fault {
+        ElabFault::Latch(name) => {
+            let name = text_of(name);
+            format!(in alloc;
+                "some path through its combinational block leaves `{name}` unset: assign it on every path, for example first of all"
+            )
+        }
+        ElabFault::Loop(name) => {
+            let name = text_of(name);
+            format!(in alloc;
+                "`{name}` depends on itself within one cycle: put a register into the loop, or split the vector that closes it"
+            )
+        }
+        ElabFault::Drivers(name, bit) => {
+            let name = text_of(name);
+            format!(in alloc;
+                "bit {bit} of `{name}` has two drivers: drive it by one `assign`, one block or one instance"
+            )
+        }
+        ElabFault::Undriven(name, bit) => {
+            let name = text_of(name);
+            format!(in alloc;
+                "bit {bit} of `{name}` is read, or is an output's, but nothing drives it: assign it or connect it"
+            )
+        }
+        ElabFault::Sensitivity(name) => {
+            let name = text_of(name);
+            format!(in alloc;
+                "a combinational block reads `{name}`, which its list of events leaves out: write `always @*`"
+            )
+        }
+        ElabFault::Kind(name) => kind_sentence(alloc, sources, name),
+        ElabFault::Memory => String::from_str(alloc, "out of memory"),
+    }
+}
+
+/// The name that a fault is about.
+fn name_of(fault: &ElabFault) -> Option<&Text> {
+    match fault {
+        ElabFault::Latch(name)
+        | ElabFault::Loop(name)
+        | ElabFault::Sensitivity(name)
+        | ElabFault::Kind(name) => Some(name),
+        ElabFault::Drivers(name, _) | ElabFault::Undriven(name, _) => Some(name),
+        ElabFault::Memory => None,
+    }
+}
+
+/// A fault of elaboration.
+pub fn elab_finding(
+    alloc: Global,
+    sources: &Sources<'_>,
+    fault: &ElabFault,
+) -> Result<Finding, AllocError> {
+    let byte = match name_of(fault) {
+        Some(name) => sources.byte_of(name.bytes()),
+        None => None,
+    };
+    Ok(Finding::of_module(byte, sentence_of(alloc, sources, fault)?))
+}
+
+/// A signal that is a memory.
+pub fn memory_finding(
+    alloc: Global,
+    sources: &Sources<'_>,
+    path: &Text,
+) -> Result<Finding, AllocError> {
+    let name = text_of(path);
+    let sentence = format!(in alloc;
+        "`{name}` is a memory, which isn't supported yet: use a register for each word, or let `bin/lower` do so"
+    )?;
+    Ok(Finding::of_module(sources.byte_of(path.bytes()), sentence))
+}

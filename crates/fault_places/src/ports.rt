@@ -1,0 +1,121 @@
+// Findings about names that aren't declared and about ports that don't fit.
+use crate::finding::Finding;
+use crate::modules::{
+    Instance, Named, Pick, declared_in, given_in, instance_in, module_in, used_in,
+};
+use crate::sources::Sources;
+use crate::tokens::{byte_at, shown, text_of};
+use outside::Text;
+use std::alloc::{AllocError, Global};
+use vlog_tree::Token;
+
+/// An instance whose module the text doesn't have, or that is given more parameters than its module has.
+fn unfit_instance(
+    alloc: Global,
+    sources: &Sources<'_>,
+    instance: &Instance<'_>,
+    name: &str,
+) -> Result<Finding, AllocError> {
+    let of = shown(instance.of_module());
+    if module_in(sources.modules, instance.of_module()).is_none() {
+        let sentence = format!(in alloc;
+            "`{name}` is an instance of the module `{of}`, which the text doesn't have: put all modules into one file"
+        )?;
+        return Ok(Finding::of_module(byte_at(instance.item), sentence));
+    }
+    let sentence = format!(in alloc;
+        "the instance `{name}` is given more parameters than its module `{of}` has"
+    )?;
+    Ok(Finding::of_module(byte_at(instance.named), sentence))
+}
+
+/// A port or a parameter that is given at an instance and that its module doesn't have.
+fn unknown_port(
+    alloc: Global,
+    named: &Named<'_>,
+    given: &[Token],
+    name: &str,
+) -> Result<Finding, AllocError> {
+    let of = shown(named.module_name());
+    let sentence = format!(in alloc;
+        "`{name}` is given here, but the module `{of}` has no port or parameter of this name"
+    )?;
+    Ok(Finding::of_module(byte_at(given), sentence))
+}
+
+/// A name that a module uses.
+fn unknown_name(alloc: Global, named: &Named<'_>, name: &str) -> Result<Finding, AllocError> {
+    let of = shown(named.module_name());
+    let byte = used_in(named.body, named.last).and_then(byte_at);
+    if declared_in(named.body, named.last, Pick::First).is_some() {
+        let sentence = format!(in alloc;
+            "`{name}` is a parameter of the module `{of}`: only signals are assigned or waited for"
+        )?;
+        return Ok(Finding::of_module(byte, sentence));
+    }
+    let sentence = format!(in alloc;
+        "`{name}` isn't declared in the module `{of}`: declare it as a port, a `wire`, a `reg` or a parameter, since no net is implicit"
+    )?;
+    Ok(Finding::of_module(byte, sentence))
+}
+
+/// A name that isn't declared.
+pub fn unknown_finding(
+    alloc: Global,
+    sources: &Sources<'_>,
+    path: &Text,
+) -> Result<Finding, AllocError> {
+    let name = text_of(path);
+    let Some(named) = sources.named(path.bytes()) else {
+        return Ok(Finding::of_module(None, format!(in alloc; "`{name}` isn't declared")?));
+    };
+    if let Some(outer) = named.outer {
+        if let Some(given) = given_in(&outer, named.last) {
+            if used_in(named.body, named.last).is_none() {
+                return unknown_port(alloc, &named, given, name);
+            }
+        }
+    }
+    match instance_in(named.body, named.last) {
+        Some(instance) => unfit_instance(alloc, sources, &instance, name),
+        None => unknown_name(alloc, &named, name),
+    }
+}
+
+/// Ports that don't fit: those of an instance, one that is given, or one of a module's header.
+pub fn port_finding(
+    alloc: Global,
+    sources: &Sources<'_>,
+    path: &Text,
+) -> Result<Finding, AllocError> {
+    let name = text_of(path);
+    let Some(named) = sources.named(path.bytes()) else {
+        return Ok(Finding::of_module(None, format!(in alloc; "the ports of `{name}` don't fit")?));
+    };
+    if let Some(instance) = instance_in(named.body, named.last) {
+        let of = shown(instance.of_module());
+        let sentence = format!(in alloc;
+            "the instance `{name}` has more or fewer connections than its module `{of}` has ports: connect by names, as `.port(wire)`"
+        )?;
+        return Ok(Finding::of_module(byte_at(instance.named), sentence));
+    }
+    if let Some(outer) = named.outer {
+        if let Some(given) = given_in(&outer, named.last) {
+            let sentence = format!(in alloc;
+                "the port `{name}` is connected twice, or it is an output and is connected to something that can't be assigned"
+            )?;
+            return Ok(Finding::of_module(byte_at(given), sentence));
+        }
+    }
+    header_finding(alloc, &named, name)
+}
+
+/// A name that stands in the list of a module's ports without a direction, or has a direction and doesn't stand there.
+fn header_finding(alloc: Global, named: &Named<'_>, name: &str) -> Result<Finding, AllocError> {
+    let of = shown(named.module_name());
+    let byte = used_in(named.body, named.last).and_then(byte_at);
+    let sentence = format!(in alloc;
+        "`{name}` is no port of the module `{of}` on one side: what its list of ports names is declared `input` or `output`, and the other way round"
+    )?;
+    Ok(Finding::of_module(byte, sentence))
+}

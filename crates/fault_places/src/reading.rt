@@ -1,0 +1,186 @@
+// Findings about texts that aren't read.
+use crate::finding::Finding;
+use crate::limits::limit_finding;
+use crate::modules::Pick;
+use crate::sets::{clause_before, declared_in, next_again, used_in};
+use crate::subset::instead_of;
+use crate::syntax::{module_syntax, set_syntax};
+use crate::tokens::{behind_word, byte_at, last_behind_word, shown, text_of, tokens_of};
+use outside::Text;
+use set_read::SetFault;
+use std::alloc::{AllocError, Global};
+use vlog_lex::{Class, ReadFault, sign_size};
+use vlog_tree::Token;
+use vlog_words::is;
+
+/// The word, the number or the sign that begins at a byte.
+pub fn word_from(text: &[u8], byte: usize) -> &[u8] {
+    let rest = text.get(byte..).unwrap_or(b"");
+    let size = sign_size(rest, 0);
+    if size > 0 {
+        return &rest[..size];
+    }
+    for end in 1..rest.len() {
+        if !Class::Word.has(rest[end]) && rest[end] != b'\'' {
+            return &rest[..end];
+        }
+    }
+    rest
+}
+
+/// The sentence for a byte that begins no token.
+fn bytes_sentence(alloc: Global, text: &[u8], byte: usize) -> Result<String, AllocError> {
+    let sentence = match text.get(byte..).unwrap_or(b"") {
+        [b'/', b'*', ..] => "this comment has no end: `*/` is missing",
+        [b'(', b'*', ..] => "this attribute has no end: `*)` is missing",
+        _ =>
+            "nothing begins with this byte: outside of comments a text has names, numbers and signs in ASCII",
+    };
+    String::from_str(alloc, sentence)
+}
+
+/// The sentence for a number that breaks a rule.
+fn number_sentence(alloc: Global, text: &[u8], byte: usize) -> Result<String, AllocError> {
+    let number = word_from(text, byte);
+    if number == b"'0".as_slice() || number == b"'1".as_slice() {
+        return String::from_str(
+            alloc,
+            "a number that fills its place is SystemVerilog: write it with its size, as `8'h00` or `{8{1'b1}}`",
+        );
+    }
+    let number = shown(number);
+    format!(in alloc;
+        "the number `{number}` is wrong: it has a size of 1 to 64, a base, digits of the base, and a value below 2^64, or below 2^32 without a size"
+    )
+}
+
+fn outside_sentence(alloc: Global, text: &[u8], byte: usize) -> Result<String, AllocError> {
+    let word = word_from(text, byte);
+    let hint = instead_of(word);
+    let word_text = shown(word);
+    if word.first() == Some(&b'`') {
+        return format!(in alloc; "the directive or macro {word_text} isn't read: {hint}");
+    }
+    format!(in alloc; "`{word_text}` is outside the subset of Verilog: {hint}")
+}
+
+/// A fault of the reader of modules.
+pub fn read_finding(alloc: Global, text: &[u8], fault: &ReadFault) -> Result<Finding, AllocError> {
+    let (byte, sentence) = match fault {
+        ReadFault::Bytes(byte) => (Some(*byte), bytes_sentence(alloc, text, *byte)?),
+        ReadFault::Number(byte) => (Some(*byte), number_sentence(alloc, text, *byte)?),
+        ReadFault::Outside(byte) => (Some(*byte), outside_sentence(alloc, text, *byte)?),
+        ReadFault::Syntax(byte) => {
+            let tokens = tokens_of(alloc, text, false)?;
+            let sentence = module_syntax(alloc, &tokens, *byte, word_from(text, *byte))?;
+            (Some(*byte), sentence)
+        }
+        ReadFault::Deep => (
+            None,
+            String::from_str(
+                alloc,
+                "statements and expressions stand more than 500 deep in one another: write them flatter, with wires between",
+            )?,
+        ),
+        ReadFault::Memory => (None, String::from_str(alloc, "out of memory")?),
+    };
+    Ok(Finding::of_module(byte, sentence))
+}
+
+/// A name that isn't declared in a set.
+fn unknown_name(alloc: Global, set: &[Token], name: &Text) -> Result<Finding, AllocError> {
+    let byte = used_in(set, name.bytes()).and_then(byte_at);
+    let clause = clause_before(set, byte.unwrap_or(0));
+    let name = text_of(name);
+    let sentence = if is(clause, b"next") {
+        format!(in alloc; "no operation is named `{name}`: a successor is an operation of the set")?
+    } else if is(clause, b"cover") {
+        format!(in alloc; "`{name}` is no output of the set: a cover names a declared `output`")?
+    } else {
+        format!(in alloc;
+            "`{name}` isn't declared in the set: declare it as an `input` or an `output`, or as a `state` if it is within the block"
+        )?
+    };
+    Ok(Finding::of_set(byte, sentence))
+}
+
+/// The second declaration of a name.
+fn declared_again<'a>(set: &'a [Token], name: &[u8]) -> Option<&'a [Token]> {
+    let one = declared_in(set, name, Pick::First)?;
+    let last = declared_in(set, name, Pick::Last)?;
+    if byte_at(one.named) == byte_at(last.named) {
+        return None;
+    }
+    Some(last.named)
+}
+
+/// The last property or rule of a name, unless it is the only one.
+fn named_again<'a>(set: &'a [Token], name: &[u8]) -> Option<&'a [Token]> {
+    let mut found = None;
+    let mut several = false;
+    for word in [
+        b"constraint".as_slice(),
+        b"invariant".as_slice(),
+        b"operation".as_slice(),
+    ] {
+        let one = behind_word(set, word, name);
+        let last = last_behind_word(set, word, name);
+        several = several
+            || (found.is_some() && last.is_some())
+            || one.and_then(byte_at) != last.and_then(byte_at);
+        found = last.or(found);
+    }
+    if several || is(name, b"reset") {
+        found
+    } else {
+        None
+    }
+}
+
+/// A name that stands twice in a set.
+fn repeated_name(alloc: Global, set: &[Token], name: &Text) -> Result<Finding, AllocError> {
+    let text = text_of(name);
+    if let Some(place) = declared_again(set, name.bytes()) {
+        let sentence = format!(in alloc; "the set declares `{text}` twice: leave one out")?;
+        return Ok(Finding::of_set(byte_at(place), sentence));
+    }
+    if let Some(place) = named_again(set, name.bytes()) {
+        let sentence = format!(in alloc;
+            "two properties, constraints or invariants are named `{text}`: rename one of them"
+        )?;
+        return Ok(Finding::of_set(byte_at(place), sentence));
+    }
+    let byte = next_again(set, name.bytes()).and_then(byte_at);
+    let sentence = format!(in alloc;
+        "`{text}` stands twice in a list of successors: leave one out"
+    )?;
+    Ok(Finding::of_set(byte, sentence))
+}
+
+/// A fault of the reader of sets.
+pub fn set_finding(alloc: Global, text: &[u8], fault: &SetFault) -> Result<Finding, AllocError> {
+    let tokens = tokens_of(alloc, text, true)?;
+    match fault {
+        SetFault::Bytes(byte) => Ok(Finding::of_set(
+            Some(*byte),
+            bytes_sentence(alloc, text, *byte)?,
+        )),
+        SetFault::Number(byte) => Ok(Finding::of_set(
+            Some(*byte),
+            number_sentence(alloc, text, *byte)?,
+        )),
+        SetFault::Syntax(byte) => {
+            let sentence = set_syntax(alloc, &tokens, *byte, word_from(text, *byte))?;
+            Ok(Finding::of_set(Some(*byte), sentence))
+        }
+        SetFault::Unknown(name) => unknown_name(alloc, &tokens, name),
+        SetFault::Twice(name) => repeated_name(alloc, &tokens, name),
+        SetFault::Limit(quantity) => limit_finding(alloc, &tokens, *quantity),
+        SetFault::Deep => {
+            let sentence =
+                "a formula stands more than 498 deep: write it flatter, or give the block a wire for a part of it";
+            Ok(Finding::of_set(None, String::from_str(alloc, sentence)?))
+        }
+        SetFault::Memory => Ok(Finding::of_none(String::from_str(alloc, "out of memory")?)),
+    }
+}

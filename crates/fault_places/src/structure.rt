@@ -1,0 +1,113 @@
+// Findings about the structure of a set.
+use crate::covers::{Edge, cover_finding, tile_finding};
+use crate::finding::Finding;
+use crate::modules::Pick;
+use crate::sets::{declared_in, offset_above, property_in, window_of};
+use crate::titles::{declared_name, invariant_name, property_name, titled};
+use crate::tokens::{behind_word, byte_at, first, shown, up_to};
+use set_sound::{GraphFault, Place, Unsound};
+use set_tree::Set;
+use std::alloc::{AllocError, Global};
+use vlog_tree::Token;
+
+/// The first offset in the `until` of a property that is above 0.
+fn until_offset(property: &[Token]) -> Option<usize> {
+    offset_above(up_to(first(property, b"until")?, b";"), 0)
+}
+
+/// A formula of a property that reads outside its window, or an `until` that reads another cycle than its own.
+fn property_offset(
+    alloc: Global,
+    tokens: &[Token],
+    set: &Set,
+    at: u32,
+) -> Result<Finding, AllocError> {
+    let title = titled(alloc, set, at)?;
+    let Some(property) = property_in(tokens, property_name(set, at)) else {
+        return Ok(Finding::of_set(None, format!(in alloc; "{title} reads outside its window")?));
+    };
+    if let Some(byte) = until_offset(property) {
+        let sentence = format!(in alloc;
+            "the `until` of {title} reads another cycle than `@0`: it says of each cycle whether the operation ends there"
+        )?;
+        return Ok(Finding::of_set(Some(byte), sentence));
+    }
+    let window = window_of(property).unwrap_or(0);
+    let byte = offset_above(property, window).or(byte_at(property));
+    let sentence = format!(in alloc;
+        "{title} reads a cycle behind its window, whose last one is {window}: correct the offset, or give the operation a larger `window`"
+    )?;
+    Ok(Finding::of_set(byte, sentence))
+}
+
+fn invariant_offset(
+    alloc: Global,
+    tokens: &[Token],
+    set: &Set,
+    at: u32,
+) -> Result<Finding, AllocError> {
+    let name = invariant_name(set, at);
+    let rule = behind_word(tokens, b"invariant", name);
+    let byte = rule.and_then(|rule| offset_above(up_to(rule, b";"), 0));
+    let name = shown(name);
+    let sentence = format!(in alloc;
+        "the invariant {name} reads another cycle than `@0`: it is about one state"
+    )?;
+    Ok(Finding::of_set(byte, sentence))
+}
+
+fn domain_offset(
+    alloc: Global,
+    tokens: &[Token],
+    set: &Set,
+    at: u32,
+) -> Result<Finding, AllocError> {
+    let name = declared_name(set, at);
+    let declared = declared_in(tokens, name, Pick::First);
+    let byte = declared.and_then(|declared| offset_above(up_to(declared.item, b";"), 0));
+    let name = shown(name);
+    let sentence = format!(in alloc;
+        "the `when` of `{name}` reads another cycle than `@0`: it is about the cycle in which the output is claimed"
+    )?;
+    Ok(Finding::of_set(byte, sentence))
+}
+
+/// The place of a word in a property.
+fn word_in(tokens: &[Token], property: &[u8], word: &[u8]) -> Option<usize> {
+    byte_at(first(property_in(tokens, property)?, word)?)
+}
+
+/// A fault of the structure of a set.
+pub fn graph_finding(
+    alloc: Global,
+    tokens: &[Token],
+    unsound: &Unsound,
+) -> Result<Finding, AllocError> {
+    let set = &unsound.set;
+    match unsound.fault {
+        GraphFault::Tile(from, to, output) => tile_finding(
+            alloc,
+            tokens,
+            set,
+            Edge { from, to, output },
+        ),
+        GraphFault::Cover(at, output) => cover_finding(alloc, tokens, set, at, output),
+        GraphFault::Offset(Place::Property(at)) => property_offset(alloc, tokens, set, at),
+        GraphFault::Offset(Place::Invariant(at)) => invariant_offset(alloc, tokens, set, at),
+        GraphFault::Offset(Place::Output(at)) => domain_offset(alloc, tokens, set, at),
+        GraphFault::IntoReset(at) => {
+            let byte = word_in(tokens, property_name(set, at), b"next");
+            let title = titled(alloc, set, at)?;
+            let sentence = format!(in alloc;
+                "{title} has `reset` among its successors: reset is active at the begin of a run alone, so leave it out"
+            )?;
+            Ok(Finding::of_set(byte, sentence))
+        }
+        GraphFault::HandAtReset => {
+            let byte = word_in(tokens, b"reset", b"hand");
+            let sentence =
+                "property reset hands something over: leave `hand` out, and let `commit` say what holds after reset";
+            Ok(Finding::of_set(byte, String::from_str(alloc, sentence)?))
+        }
+    }
+}
