@@ -24,24 +24,21 @@ impl Rule {
     pub fn sentence(self) -> &'static str {
         match self {
             Rule::FallingEdge =>
-                "is waited for at its falling edge: all blocks wait for the rising edge of the one clock, `posedge`",
+                "is waited for at its falling edge: all blocks wait for `posedge` of the one clock",
             Rule::ManyEdges =>
-                "is waited for with two others: a block waits for the rising edge of the clock, and for one edge of a reset at most",
+                "is waited for beside two others: a block waits for the clock, and for one reset at most",
             Rule::NoReset => {
-                "is waited for beside another edge, but the block isn't one `if` with an `else` that tests a reset: \
-                 `if (rst)` goes with `posedge rst`, `if (!rst)` with `negedge rst`"
+                "is waited for beside a reset, so the block is `if (!rst) .. else ..` for `negedge rst`"
             }
             Rule::NoInput =>
-                "is waited for, but isn't an input of the top module: clock and asynchronous reset come from there by their names alone",
-            Rule::NoBit =>
-                "is waited for, but has several bits: clock and asynchronous reset are inputs of one bit",
+                "is waited for but is no input of the top module: a clock comes from there by its name alone",
+            Rule::NoBit => "is waited for but has several bits: a clock and a reset have one",
             Rule::TwoClocks =>
                 "is one of two clocks: all blocks wait for the same input of the top module",
             Rule::Read =>
-                "is the clock, and an expression reads it: a clock is only waited for, and passed on to instances by its name alone",
+                "is the clock and is read here: a clock is waited for, and passed on by its name alone",
             Rule::Unknown => {
-                "breaks a rule on clocks: each block waits for the rising edge of one clock, and at most for the reset that it tests first; \
-                 both are inputs of the top module, passed on by their names alone; and nothing reads the clock"
+                "breaks a rule: one clock, its rising edge, a reset that is tested first, both from the top"
             }
         }
     }

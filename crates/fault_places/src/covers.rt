@@ -45,18 +45,18 @@ fn tile_sentence(alloc: Global, set: &Set, edge: Edge) -> Result<String, AllocEr
         cover_of(property, edge.output)?,
     ));
     let begin = property_at(set, edge.to).and_then(|property| cover_of(property, edge.output));
-    let from = titled(alloc, set, edge.from)?;
-    let to = titled(alloc, set, edge.to)?;
+    let from = shown(property_name(set, edge.from));
+    let to = shown(property_name(set, edge.to));
     let output = shown(declared_name(set, edge.output));
     match (end, begin) {
         (Some(end), Some(begin)) => {
             let begin = begin.from;
             format!(in alloc;
-                "where {to} follows {from}, the cover of `{output}` here ends in cycle {end} of {to}, but there begins in cycle {begin}: make them meet"
+                "where {to} follows {from}, the cover of `{output}` ends in cycle {end} of {to}, but that of {to} begins in cycle {begin}"
             )
         }
         _ => format!(in alloc;
-            "where {to} follows {from}, the cover of `{output}` here ends before {to} begins: make it meet the one there"
+            "where {to} follows {from}, the cover of `{output}` ends before {to} begins"
         ),
     }
 }
@@ -82,12 +82,12 @@ fn bounds_hint(property: &Property, at: u32, output: u32) -> &'static str {
         return "is missing";
     };
     if at == 0 && cover.from != 0 {
-        return "begins at 0, since the outputs are claimed from the end of reset on";
+        return "begins at 0 in reset";
     }
     if property.length.until.is_some() && matches!(cover.to, To::At(_)) {
-        return "goes `to end + ..`, since an `until` ends the operation";
+        return "goes `to end + ..` where there is an `until`";
     }
-    "ends where it begins or later, and at most one cycle behind the window"
+    "ends from its begin to the window + 1"
 }
 
 /// A cover that is missing, stands several times, or is out of bounds.
@@ -108,7 +108,7 @@ pub fn cover_finding(
     let name = shown(name);
     let sentence = match count {
         0 => format!(in alloc;
-            "{title} has no cover of `{name}`: each property covers each output once, as `cover {name} from 1 to 2;`"
+            "{title} has no cover of `{name}`: it covers each output once, as `cover {name} from 1 to 2;`"
         )?,
         1 => {
             let hint = match property_at(set, at) {

@@ -15,13 +15,13 @@ fn kind_sentence(alloc: Global, sources: &Sources<'_>, path: &Text) -> Result<St
         .and_then(|named| declared_in(named.body, named.last, Pick::First));
     match declared {
         Some(declared) if declared.is_reg() => format!(in alloc;
-            "`{name}` is a `reg`: one clocked block assigns it, by `<=`, or combinational ones do, by `=`, and no `assign` or instance drives it"
+            "`{name}` is a `reg`: a clocked block assigns it by `<=`, a combinational one by `=`, and no `assign`"
         ),
         Some(_) => format!(in alloc;
-            "`{name}` is a wire: an `assign` or an instance drives it; declare it as a `reg` if a block assigns it"
+            "`{name}` is a wire: an `assign` or an instance drives it; a block assigns what is a `reg`"
         ),
         None => format!(in alloc;
-            "`{name}` is assigned in the wrong form: a block assigns a `reg`, by `<=` if it is clocked, else by `=`, and `assign` drives wires"
+            "`{name}` is assigned in the wrong form: `<=` in clocked blocks, `=` in others, `assign` for wires"
         ),
     }
 }
@@ -35,13 +35,13 @@ fn sentence_of(
         ElabFault::Latch(name) => {
             let name = text_of(name);
             format!(in alloc;
-                "some path through its combinational block leaves `{name}` unset: assign it on every path, for example first of all"
+                "a path through its block leaves `{name}` unset: assign it on every path, as first of all"
             )
         }
         ElabFault::Loop(name) => {
             let name = text_of(name);
             format!(in alloc;
-                "`{name}` depends on itself within one cycle: put a register into the loop, or split the vector that closes it"
+                "`{name}` depends on itself within a cycle: put a register into the loop, or split the vector"
             )
         }
         ElabFault::Drivers(name, bit) => {
@@ -59,7 +59,7 @@ fn sentence_of(
         ElabFault::Sensitivity(name) => {
             let name = text_of(name);
             format!(in alloc;
-                "a combinational block reads `{name}`, which its list of events leaves out: write `always @*`"
+                "a block reads `{name}`, which its list of events leaves out: write `always @*`"
             )
         }
         ElabFault::Kind(name) => kind_sentence(alloc, sources, name),
@@ -100,7 +100,7 @@ pub fn memory_finding(
 ) -> Result<Finding, AllocError> {
     let name = text_of(path);
     let sentence = format!(in alloc;
-        "`{name}` is a memory, which isn't supported yet: use a register for each word, or let `bin/lower` do so"
+        "`{name}` is a memory, which isn't supported yet: use registers, or let `bin/lower` do so"
     )?;
     Ok(Finding::of_module(sources.byte_of(path.bytes()), sentence))
 }

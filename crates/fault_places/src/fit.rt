@@ -18,7 +18,7 @@ fn missing(alloc: Global, sources: &Sources<'_>, name: &Text) -> Result<Finding,
     let name = text_of(name);
     let top = shown(sources.top);
     let sentence = format!(in alloc;
-        "the block `{top}` has no signal `{name}`: name a port or a register as it stands there, and one of an instance `u` as `u.q`"
+        "the block `{top}` has no signal `{name}`: one of an instance `u` is named `u.q`"
     )?;
     Ok(Finding::of_set(byte, sentence))
 }
@@ -61,7 +61,7 @@ fn extra_input(alloc: Global, sources: &Sources<'_>, name: &Text) -> Result<Find
     let clock = named_behind(sources, b"clock");
     let reset = named_behind(sources, b"reset");
     let sentence = format!(in alloc;
-        "the set doesn't declare the input `{name}`: it declares each input of the block but its clock `{clock}` and its reset `{reset}`"
+        "the set lacks the input `{name}`: it declares all but its clock `{clock}` and its reset `{reset}`"
     )?;
     Ok(Finding::of_module(byte, sentence))
 }
@@ -70,12 +70,12 @@ fn extra_input(alloc: Global, sources: &Sources<'_>, name: &Text) -> Result<Find
 fn declared_role(alloc: Global, declared: &Declared<'_>, name: &str) -> Result<String, AllocError> {
     if is(declared.role(), b"input") {
         return format!(in alloc;
-            "`{name}` is declared as an input, but is no input of the block, or is its clock or reset, which stand for themselves"
+            "`{name}` is declared as an input, but is none of the block, or is its clock or its reset"
         );
     }
     if is(declared.role(), b"output") {
         return format!(in alloc;
-            "`{name}` is declared as an output, but is no output of the block: declare a register or a wire as a `state`"
+            "`{name}` is declared as an output, but is none of the block: declare it as a `state`"
         );
     }
     format!(in alloc;
@@ -91,13 +91,13 @@ fn other_role(alloc: Global, sources: &Sources<'_>, name: &Text) -> Result<Findi
     }
     if let Some(place) = behind_word(sources.set, b"clock", name.bytes()) {
         let sentence = format!(in alloc;
-            "`{text}` isn't the block's clock: the clock is an input of one bit, the one that all blocks wait for, and not the reset"
+            "`{text}` isn't the block's clock, which is the input of one bit that all blocks wait for"
         )?;
         return Ok(Finding::of_set(byte_at(place), sentence));
     }
     let place = behind_word(sources.set, b"reset", name.bytes());
     let sentence = format!(in alloc;
-        "`{text}` isn't the block's reset as the set says: the reset is an input of one bit, and an asynchronous one has the set's level"
+        "`{text}` isn't the block's reset: an input of one bit, and at the level of an asynchronous one"
     )?;
     Ok(Finding::of_set(place.and_then(byte_at), sentence))
 }

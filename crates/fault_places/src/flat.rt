@@ -15,7 +15,7 @@ fn no_top(alloc: Global, sources: &Sources<'_>) -> Result<Finding, AllocError> {
     let byte = behind_word(sources.set, b"block", sources.top).and_then(byte_at);
     let top = shown(sources.top);
     let sentence = format!(in alloc;
-        "the modules' text has no module `{top}`: behind `block` stands the name of the module that the set is about"
+        "the modules' text has no module `{top}`: `block` names the module that the set is about"
     )?;
     Ok(Finding::of_set(byte, sentence))
 }
@@ -50,7 +50,7 @@ fn twice(alloc: Global, sources: &Sources<'_>, name: &Text) -> Result<Finding, A
         None => None,
     };
     let sentence = format!(in alloc;
-        "`{text}` is declared twice, or a parameter is given twice: the names of a module differ, and so do those of its instances"
+        "`{text}` is declared twice in its module, or is a parameter that is given twice"
     )?;
     Ok(Finding::of_module(byte, sentence))
 }
@@ -70,13 +70,13 @@ fn constant(alloc: Global, sources: &Sources<'_>, name: &Text) -> Result<Finding
     };
     if is_declared(&named) {
         let sentence = format!(in alloc;
-            "`{text}` isn't constant, or has a range other than `[m:l]` with m at least l: use numbers and parameters"
+            "`{text}` isn't constant, or its range isn't `[m:l]` with m >= l: use numbers and parameters"
         )?;
         return Ok(Finding::of_module(byte, sentence));
     }
     let suspect = sources.inside(&named).and_then(divided_signal);
     let sentence = format!(in alloc;
-        "an expression in `{text}` isn't constant where it must be: a bound, a count, or an operand of `/` or `%`"
+        "an expression in `{text}` isn't constant: a bound, a count, or an operand of `/` or `%`"
     )?;
     Ok(Finding::of_module(suspect.or(byte), sentence))
 }
@@ -91,13 +91,13 @@ fn width(alloc: Global, sources: &Sources<'_>, name: &Text) -> Result<Finding, A
     };
     if is_declared(&named) {
         let sentence = format!(in alloc;
-            "`{text}` isn't 1 to 64 bits wide, or is a memory of more than 64 words: declare it in parts"
+            "`{text}` isn't 1 to 64 bits wide, or is a memory of more than 64 words: split it"
         )?;
         return Ok(Finding::of_module(byte, sentence));
     }
     let suspect = sources.inside(&named).and_then(leaving_select);
     let sentence = format!(in alloc;
-        "an expression in `{text}` isn't 1 to 64 bits wide, or a select `[m:l]` in it leaves its vector or has m below l"
+        "an expression in `{text}` isn't 1 to 64 bits wide, or a select `[m:l]` leaves its vector"
     )?;
     Ok(Finding::of_module(suspect.or(byte), sentence))
 }

@@ -10,17 +10,17 @@ use vlog_tree::Token;
 fn limit_sentence(quantity: Quantity) -> &'static str {
     match quantity {
         Quantity::Width =>
-            "a width is 1 to 64: a declared range is `[m:l]` with m at least l, and no formula leaves its vectors or is wider",
+            "a width is 1 to 64: a range is `[m:l]` with m >= l, and a formula stays within its vectors",
         Quantity::Cycles => "reset is active for 1 to 16 cycles",
         Quantity::Length =>
-            "an operation takes 1 to 64 cycles, and reset 0 to 64; a greatest length is at least the least one",
+            "an operation takes 1 to 64 cycles, reset 0 to 64; the greatest length isn't below the least",
         Quantity::Window =>
-            "a window is at least the greatest length of its property and at most 64, and so is an offset of a constraint",
+            "a window is from its property's greatest length to 64; a constraint's offset is at most 64",
         Quantity::Operations => "a set has 1 to 64 operations",
         Quantity::Invariants => "a set has at most 64 invariants: join some with `&&`",
         Quantity::Constraints => "a set has at most 64 constraints: join some with `&&`",
         Quantity::Names =>
-            "a set declares 1 to 256 names; a set that needs none declares some register as a `state`",
+            "a set declares 1 to 256 names; one that needs none declares some register as a `state`",
         Quantity::Hands => "an operation hands over at most 64 expressions: join some by `{a, b}`",
     }
 }

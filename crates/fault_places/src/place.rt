@@ -8,8 +8,8 @@ pub struct Place {
     pub column: usize,
 }
 
-/// The most bytes of a line that are shown on each side of a place.
-const SHOWN: usize = 100;
+/// The most bytes of a line that are shown.
+const SHOWN: usize = 112;
 
 fn is_feed(byte: &u8) -> bool {
     *byte == b'\n'
@@ -72,13 +72,20 @@ fn add_space(out: &mut Vec<u8>, bytes: &[u8]) -> Result<(), AllocError> {
     Ok(())
 }
 
-/// Adds the line of a byte, and below it a mark under the byte. Of a long line the part around the byte is shown.
+/// What is shown of the line around a place: all of it, or where it is long the parts next to the place.
+fn shown_around<'a>(head: &'a [u8], tail: &'a [u8]) -> (&'a [u8], &'a [u8]) {
+    if head.len() + tail.len() <= SHOWN {
+        return (head, tail);
+    }
+    let from = head.len().saturating_sub(SHOWN / 2);
+    let end = tail.len().min(SHOWN / 2);
+    (&head[from..], &tail[..end])
+}
+
+/// Adds the line of a byte, and below it a mark under the byte.
 pub fn add_line(out: &mut Vec<u8>, text: &[u8], at: usize) -> Result<(), AllocError> {
     let (before, after) = text.split_at(at.min(text.len()));
-    let head = last_line(before);
-    let head = &head[head.len().saturating_sub(SHOWN)..];
-    let tail = first_line(after);
-    let tail = &tail[..tail.len().min(SHOWN)];
+    let (head, tail) = shown_around(last_line(before), first_line(after));
     out.extend_from_slice(b"    ")?;
     add_shown(out, head)?;
     add_shown(out, tail)?;

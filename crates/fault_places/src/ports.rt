@@ -19,7 +19,7 @@ fn unfit_instance(
     let of = shown(instance.of_module());
     if module_in(sources.modules, instance.of_module()).is_none() {
         let sentence = format!(in alloc;
-            "`{name}` is an instance of the module `{of}`, which the text doesn't have: put all modules into one file"
+            "`{name}` is an instance of `{of}`, a module that the text doesn't have: put all into one file"
         )?;
         return Ok(Finding::of_module(byte_at(instance.item), sentence));
     }
@@ -54,7 +54,7 @@ fn unknown_name(alloc: Global, named: &Named<'_>, name: &str) -> Result<Finding,
         return Ok(Finding::of_module(byte, sentence));
     }
     let sentence = format!(in alloc;
-        "`{name}` isn't declared in the module `{of}`: declare it as a port, a `wire`, a `reg` or a parameter, since no net is implicit"
+        "`{name}` isn't declared in the module `{of}`: declare it, since no net is implicit"
     )?;
     Ok(Finding::of_module(byte, sentence))
 }
@@ -95,14 +95,14 @@ pub fn port_finding(
     if let Some(instance) = instance_in(named.body, named.last) {
         let of = shown(instance.of_module());
         let sentence = format!(in alloc;
-            "the instance `{name}` has more or fewer connections than its module `{of}` has ports: connect by names, as `.port(wire)`"
+            "`{name}` has more or fewer connections than its module `{of}` has ports: connect by names"
         )?;
         return Ok(Finding::of_module(byte_at(instance.named), sentence));
     }
     if let Some(outer) = named.outer {
         if let Some(given) = given_in(&outer, named.last) {
             let sentence = format!(in alloc;
-                "the port `{name}` is connected twice, or it is an output and is connected to something that can't be assigned"
+                "the port `{name}` is connected twice, or is an output connected to what can't be assigned"
             )?;
             return Ok(Finding::of_module(byte_at(given), sentence));
         }
@@ -115,7 +115,7 @@ fn header_finding(alloc: Global, named: &Named<'_>, name: &str) -> Result<Findin
     let of = shown(named.module_name());
     let byte = used_in(named.body, named.last).and_then(byte_at);
     let sentence = format!(in alloc;
-        "`{name}` is no port of the module `{of}` on one side: what its list of ports names is declared `input` or `output`, and the other way round"
+        "`{name}` isn't both listed in the header of `{of}` and declared `input` or `output`"
     )?;
     Ok(Finding::of_module(byte, sentence))
 }

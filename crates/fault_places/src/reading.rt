@@ -34,7 +34,7 @@ fn bytes_sentence(alloc: Global, text: &[u8], byte: usize) -> Result<String, All
         [b'/', b'*', ..] => "this comment has no end: `*/` is missing",
         [b'(', b'*', ..] => "this attribute has no end: `*)` is missing",
         _ =>
-            "nothing begins with this byte: outside of comments a text has names, numbers and signs in ASCII",
+            "no token begins with this byte: only comments have others than ASCII's names, numbers and signs",
     };
     String::from_str(alloc, sentence)
 }
@@ -45,12 +45,12 @@ fn number_sentence(alloc: Global, text: &[u8], byte: usize) -> Result<String, Al
     if number == b"'0".as_slice() || number == b"'1".as_slice() {
         return String::from_str(
             alloc,
-            "a number that fills its place is SystemVerilog: write it with its size, as `8'h00` or `{8{1'b1}}`",
+            "a number without size and base is SystemVerilog: write it as `8'h00` or `{8{1'b1}}`",
         );
     }
     let number = shown(number);
     format!(in alloc;
-        "the number `{number}` is wrong: it has a size of 1 to 64, a base, digits of the base, and a value below 2^64, or below 2^32 without a size"
+        "`{number}` breaks a rule: a size is 1 to 64, a value below 2^64 (2^32 without size), digits fit"
     )
 }
 
@@ -59,9 +59,11 @@ fn outside_sentence(alloc: Global, text: &[u8], byte: usize) -> Result<String, A
     let hint = instead_of(word);
     let word_text = shown(word);
     if word.first() == Some(&b'`') {
-        return format!(in alloc; "the directive or macro {word_text} isn't read: {hint}");
+        return format!(in alloc;
+            "{word_text} is a directive or a macro: run a preprocessor first, as `iverilog -E`, or `bin/lower`"
+        );
     }
-    format!(in alloc; "`{word_text}` is outside the subset of Verilog: {hint}")
+    format!(in alloc; "`{word_text}` isn't supported: {hint}")
 }
 
 /// A fault of the reader of modules.
@@ -79,7 +81,7 @@ pub fn read_finding(alloc: Global, text: &[u8], fault: &ReadFault) -> Result<Fin
             None,
             String::from_str(
                 alloc,
-                "statements and expressions stand more than 500 deep in one another: write them flatter, with wires between",
+                "the text is nested more than 500 deep: write it flatter, with wires in between",
             )?,
         ),
         ReadFault::Memory => (None, String::from_str(alloc, "out of memory")?),
@@ -93,12 +95,12 @@ fn unknown_name(alloc: Global, set: &[Token], name: &Text) -> Result<Finding, Al
     let clause = clause_before(set, byte.unwrap_or(0));
     let name = text_of(name);
     let sentence = if is(clause, b"next") {
-        format!(in alloc; "no operation is named `{name}`: a successor is an operation of the set")?
+        format!(in alloc; "no operation is named `{name}`: successors are operations of the set")?
     } else if is(clause, b"cover") {
         format!(in alloc; "`{name}` is no output of the set: a cover names a declared `output`")?
     } else {
         format!(in alloc;
-            "`{name}` isn't declared in the set: declare it as an `input` or an `output`, or as a `state` if it is within the block"
+            "`{name}` isn't declared in the set: declare it, as a `state` if it is within the block"
         )?
     };
     Ok(Finding::of_set(byte, sentence))
@@ -178,7 +180,7 @@ pub fn set_finding(alloc: Global, text: &[u8], fault: &SetFault) -> Result<Findi
         SetFault::Limit(quantity) => limit_finding(alloc, &tokens, *quantity),
         SetFault::Deep => {
             let sentence =
-                "a formula stands more than 498 deep: write it flatter, or give the block a wire for a part of it";
+                "a formula is nested more than 498 deep: give the block a wire for a part of it";
             Ok(Finding::of_set(None, String::from_str(alloc, sentence)?))
         }
         SetFault::Memory => Ok(Finding::of_none(String::from_str(alloc, "out of memory")?)),

@@ -28,14 +28,14 @@ fn property_offset(
     };
     if let Some(byte) = until_offset(property) {
         let sentence = format!(in alloc;
-            "the `until` of {title} reads another cycle than `@0`: it says of each cycle whether the operation ends there"
+            "the `until` of {title} reads another cycle than `@0`: it is a test of each cycle"
         )?;
         return Ok(Finding::of_set(Some(byte), sentence));
     }
     let window = window_of(property).unwrap_or(0);
     let byte = offset_above(property, window).or(byte_at(property));
     let sentence = format!(in alloc;
-        "{title} reads a cycle behind its window, whose last one is {window}: correct the offset, or give the operation a larger `window`"
+        "{title} reads behind its window, cycle {window}: correct the offset, or give a larger `window`"
     )?;
     Ok(Finding::of_set(byte, sentence))
 }
@@ -67,7 +67,7 @@ fn domain_offset(
     let byte = declared.and_then(|declared| offset_above(up_to(declared.item, b";"), 0));
     let name = shown(name);
     let sentence = format!(in alloc;
-        "the `when` of `{name}` reads another cycle than `@0`: it is about the cycle in which the output is claimed"
+        "the `when` of `{name}` reads another cycle than `@0`, the one in which the output is claimed"
     )?;
     Ok(Finding::of_set(byte, sentence))
 }
@@ -99,14 +99,14 @@ pub fn graph_finding(
             let byte = word_in(tokens, property_name(set, at), b"next");
             let title = titled(alloc, set, at)?;
             let sentence = format!(in alloc;
-                "{title} has `reset` among its successors: reset is active at the begin of a run alone, so leave it out"
+                "{title} has `reset` as a successor: reset is active at the begin of a run alone"
             )?;
             Ok(Finding::of_set(byte, sentence))
         }
         GraphFault::HandAtReset => {
             let byte = word_in(tokens, b"reset", b"hand");
             let sentence =
-                "property reset hands something over: leave `hand` out, and let `commit` say what holds after reset";
+                "property reset hands something over: leave `hand` out, and say by `commit` what holds";
             Ok(Finding::of_set(byte, String::from_str(alloc, sentence)?))
         }
     }

@@ -33,9 +33,12 @@ fn declared_bits(body: &[Token], name: &[u8]) -> Option<Bits> {
     bits_at(declared_in(body, name, Pick::First)?.range())
 }
 
+/// How many tokens of a module are looked through for selects, each of which is looked up in the whole module.
+const NEAR: usize = 20_000;
+
 /// A select with plain numbers that leaves its vector, or whose bounds stand the wrong way round.
 pub fn leaving_select(body: &[Token]) -> Option<usize> {
-    for at in 0..body.len() {
+    for at in 0..body.len().min(NEAR) {
         let range = behind(body, at.saturating_add(1));
         if let Some(part) = bits_at(range) {
             if let Some(whole) = declared_bits(body, word_of(&body[at])) {

@@ -47,28 +47,24 @@ fn module_hint(before: &[Token], after: &[Token]) -> Option<&'static str> {
     let word = word_at(after, 0);
     let last = word_before(before, 0);
     if after.is_empty() {
-        return Some("the text ends here within a module; an `end` or `endmodule` is missing");
+        return Some("the text ends within a module: an `end` or `endmodule` is missing");
     }
     if is(word, b"=") && first(item_of(before), b"reg").is_some() {
-        return Some(
-            "a `reg` has no value of its own here, since a run begins with reset: give it its first value under the reset",
-        );
+        return Some("a `reg` takes no value here: give it its first value under the reset");
     }
     if is(word, b"#") || is(last, b"#") {
-        return Some(
-            "delays aren't supported, since values change with the clock alone: leave the delay out",
-        );
+        return Some("delays aren't supported: leave it out");
     }
     if ends(last)
         && (is(word, b"if") || is(word, b"case") || is(word, b"casez") || is(word, b"begin"))
     {
         return Some(
-            "a statement stands here outside of an `always` block; conditions of `generate` aren't supported",
+            "a statement stands here outside of an `always` block; generate conditions aren't supported",
         );
     }
     if is(last, b".") || is(word_before(before, 1), b".") {
         return Some(
-            "a connection by name is `.port(expression)`; `.port` alone and `.*` are SystemVerilog",
+            "a connection is `.port(expression)`; `.port` alone and `.*` are SystemVerilog",
         );
     }
     if is(word, b":") && (is(last, b"end") || is(last, b"endmodule")) {
@@ -76,7 +72,7 @@ fn module_hint(before: &[Token], after: &[Token]) -> Option<&'static str> {
     }
     if is(word, b"reg") || is(word, b"wire") || is(word, b"parameter") || is(word, b"localparam") {
         return Some(
-            "a declaration stands at the level of the module, behind a `;`, and not within a block",
+            "a declaration stands at the module's level, behind a `;`, and not within a block",
         );
     }
     None
@@ -92,14 +88,14 @@ pub fn module_syntax(
     let (before, after) = around(tokens, byte);
     if let Some((system, hint)) = system_hint(before, after) {
         let system = shown(system);
-        return format!(in alloc; "`{system}` is a word of SystemVerilog: {hint}");
+        return format!(in alloc; "`{system}` is SystemVerilog: {hint}");
     }
     if let Some(hint) = module_hint(before, after) {
         return String::from_str(alloc, hint);
     }
     let word = shown(word);
     format!(in alloc;
-        "no module goes on with `{word}` here: a `;`, `)` or `end` may be missing just before it"
+        "no module goes on with `{word}` here: a `;`, `)` or `end` may be missing before it"
     )
 }
 
@@ -130,27 +126,23 @@ fn set_hint(before: &[Token], after: &[Token]) -> Option<&'static str> {
     let begins = is(last, b";") || is(last, b"{") || is(last, b"}");
     if after.is_empty() {
         return Some(
-            "the text ends here within the set; a `}` may be missing, or an operation, of which a set has at least one",
+            "the text ends within the set: a `}` is missing, or an operation, of which there is at least one",
         );
     }
     if is(word, b"/") || is(word, b"%") {
-        return Some(
-            "formulas have no `/` and no `%`: compare a product instead, in enough bits for it",
-        );
+        return Some("formulas have no `/` and no `%`: compare products instead, in enough bits");
     }
     if begins && is_of_property(word) {
         return Some(
-            "this clause doesn't stand here: a property has length, window, assume, commit, hand, cover and next, in this order",
+            "the order in a property is: length, window, assume, commit, hand, cover, next",
         );
     }
     if begins && is(word, b"operation") && first(before, b"property").is_some() {
-        return Some(
-            "an operation doesn't stand here: the `}` of the property before it is missing",
-        );
+        return Some("the `}` of the property before this operation is missing");
     }
     if begins && is_of_set(word) {
         return Some(
-            "this item doesn't stand here: a set has its block, clock and reset, then names, rules, `property reset` and operations",
+            "the order in a set is: block, clock, reset, names, rules, property reset, operations",
         );
     }
     if is(last, b"property") {
@@ -174,9 +166,7 @@ fn is_outside(tokens: &[Token]) -> bool {
 fn outside_set(alloc: Global, word: &[u8]) -> Result<String, AllocError> {
     if word.first().is_some_and(|byte| byte.is_ascii_alphabetic()) {
         let word = shown(word);
-        return format!(in alloc;
-            "`{word}` is a reserved word of Verilog and names nothing: rename what it names"
-        );
+        return format!(in alloc; "`{word}` is a reserved word of Verilog: rename what it names");
     }
     let hint = instead_of(word);
     let word = shown(word);
@@ -198,7 +188,5 @@ pub fn set_syntax(
         return outside_set(alloc, word);
     }
     let word = shown(word);
-    format!(in alloc;
-        "no set goes on with `{word}` here: a `;` or `)` may be missing just before it"
-    )
+    format!(in alloc; "no set goes on with `{word}` here: a `;` or `)` may be missing before it")
 }
