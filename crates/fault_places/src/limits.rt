@@ -79,12 +79,14 @@ fn bad_cycles(set: &[Token]) -> Option<usize> {
     byte_at(behind(first(set, b"reset")?, 3))
 }
 
-fn is_bad_length(length: &[Token]) -> bool {
-    let Some(low) = number_at(length, 1) else {
-        return false;
-    };
-    let high = number_at(length, 3).unwrap_or(low);
-    low > 64 || high > 64 || high < low
+/// Where a length leaves its bounds, from the word `length` on: at its greatest number, or at its only one.
+fn bad_number(length: &[Token]) -> Option<&[Token]> {
+    let low = number_at(length, 1)?;
+    match number_at(length, 3) {
+        Some(high) if high > 64 || high < low => Some(behind(length, 3)),
+        _ if low > 64 => Some(behind(length, 1)),
+        _ => None,
+    }
 }
 
 /// The first length that leaves its bounds. A length of 0 is reset's alone, which comes first.
@@ -93,7 +95,10 @@ fn bad_length(set: &[Token]) -> Option<usize> {
     for at in 0..set.len() {
         let here = &set[at..];
         if stands(here, 0, b"length") {
-            if is_bad_length(here) || (!is_first && number_at(here, 1) == Some(0)) {
+            if let Some(place) = bad_number(here) {
+                return byte_at(place);
+            }
+            if !is_first && number_at(here, 1) == Some(0) {
                 return byte_at(behind(here, 1));
             }
             is_first = false;

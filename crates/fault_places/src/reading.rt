@@ -2,10 +2,10 @@
 use crate::finding::Finding;
 use crate::limits::limit_finding;
 use crate::modules::Pick;
-use crate::sets::{clause_before, declared_in, next_again, used_in};
+use crate::sets::{clause_before, cover_in, declared_in, next_again, used_in};
 use crate::subset::instead_of;
 use crate::syntax::{module_syntax, set_syntax};
-use crate::tokens::{behind_word, byte_at, last_behind_word, shown, text_of, tokens_of};
+use crate::tokens::{behind, behind_word, byte_at, last_behind_word, shown, text_of, tokens_of};
 use outside::Text;
 use set_read::SetFault;
 use std::alloc::{AllocError, Global};
@@ -89,9 +89,17 @@ pub fn read_finding(alloc: Global, text: &[u8], fault: &ReadFault) -> Result<Fin
     Ok(Finding::of_module(byte, sentence))
 }
 
+/// The place at which a name is used that isn't declared, or that is covered and is no output.
+fn unknown_byte(set: &[Token], name: &[u8]) -> Option<usize> {
+    match declared_in(set, name, Pick::First) {
+        Some(_) => byte_at(behind(cover_in(set, name)?, 1)),
+        None => byte_at(used_in(set, name)?),
+    }
+}
+
 /// A name that isn't declared in a set.
 fn unknown_name(alloc: Global, set: &[Token], name: &Text) -> Result<Finding, AllocError> {
-    let byte = used_in(set, name.bytes()).and_then(byte_at);
+    let byte = unknown_byte(set, name.bytes());
     let clause = clause_before(set, byte.unwrap_or(0));
     let name = text_of(name);
     let sentence = if is(clause, b"next") {

@@ -371,7 +371,7 @@ static MODULE_ROWS: [Row; 55] = [
     },
 ];
 
-static SET_ROWS: [Row; 37] = [
+static SET_ROWS: [Row; 39] = [
     Row {
         old: "block top",
         new: "block topp",
@@ -479,6 +479,18 @@ static SET_ROWS: [Row; 37] = [
         new: "length 65; assume en",
         place: "s.set:6:23: error: ",
         part: "1 to 64 cycles",
+    },
+    Row {
+        old: "length 1; assume en",
+        new: "length 2 to 65 until en@0; assume en",
+        place: "s.set:6:28: error: ",
+        part: "the greatest length isn't below",
+    },
+    Row {
+        old: "cover o from 0",
+        new: "cover c from 0",
+        place: "s.set:5:54: error: ",
+        part: "no output of the set: a cover",
     },
     Row {
         old: "length 1; assume en",
