@@ -34,7 +34,7 @@ fn bytes_sentence(alloc: Global, text: &[u8], byte: usize) -> Result<String, All
         [b'/', b'*', ..] => "this comment has no end: `*/` is missing",
         [b'(', b'*', ..] => "this attribute has no end: `*)` is missing",
         _ =>
-            "no token begins with this byte: only comments have others than ASCII's names, numbers and signs",
+            "this byte begins no token: outside of comments a text has ASCII names, numbers and signs",
     };
     String::from_str(alloc, sentence)
 }

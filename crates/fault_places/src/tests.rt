@@ -1,6 +1,7 @@
 // Places and sentences of refusals: each row changes one of two texts that fit.
 use crate::tokens::shown;
 use crate::{Files, Texts, explained, usage, version};
+use check_faults::CheckFault;
 use check_stages::bound_of;
 use outside::Text;
 use std::alloc::{AllocError, Global};
@@ -666,6 +667,21 @@ fn marks_the_byte(rt: HostRuntime) -> Result<(), Fail> {
     let said = said(rt.alloc(), module.as_str(), SET)?;
     let marked = "\n    \twire n; initial n = 0;\n    \t        ^\n";
     assert!(rt; said.as_str().ends_with(marked), "{said}");
+    Ok(())
+}
+
+#[test]
+fn a_line_that_is_not_there_has_no_place(rt: HostRuntime) -> Result<(), Fail> {
+    let none = Texts {
+        module: b"",
+        set: b"",
+    };
+    let names = Files {
+        module: b"m.v",
+        set: b"s.set",
+    };
+    let text = explained(rt.alloc(), &names, &none, &CheckFault::NoLine)?;
+    assert!(rt; shown(text.bytes()).starts_with("error: the report has no line of this name"));
     Ok(())
 }
 
