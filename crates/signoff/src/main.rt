@@ -1,6 +1,10 @@
-//! signoff: reads a Verilog module and a set of operation properties, decides the lines of their report, and prints it.
+//! signoff: reads a Verilog module and a set of operation properties, decides the lines of their report, and prints it. Where it refuses, it says on
+//! standard error where and why, or how it is called.
 #![tactic(auto)]
 
+mod note;
+
+use crate::note::put_note;
 use signoff_objects::answer;
 use std::env;
 use std::process::ExitCode;
@@ -8,7 +12,9 @@ use std::process::ExitCode;
 /// Answers the words over real objects, and ends with the status.
 fn main(rt: HostRuntime) -> ExitCode {
     let words = words_of(&rt).unwrap_or(Vec::new(rt.alloc()));
-    ExitCode::from(answer(&rt, &rt, &words))
+    let status = answer(&rt, &rt, &words);
+    put_note(&rt, &words, status);
+    ExitCode::from(status)
 }
 
 /// The words after the program's name. None: they aren't text, and count as wrong ones.
