@@ -91,16 +91,3 @@ pub fn elab_finding(
     };
     Ok(Finding::of_module(byte, sentence_of(alloc, sources, fault)?))
 }
-
-/// A signal that is a memory.
-pub fn memory_finding(
-    alloc: Global,
-    sources: &Sources<'_>,
-    path: &Text,
-) -> Result<Finding, AllocError> {
-    let name = text_of(path);
-    let sentence = format!(in alloc;
-        "`{name}` is a memory, which isn't supported yet: use registers, or let `bin/lower` do so"
-    )?;
-    Ok(Finding::of_module(sources.byte_of(path.bytes()), sentence))
-}

@@ -1,8 +1,9 @@
 // The whole text for a refusal.
-use crate::elab::{elab_finding, memory_finding};
+use crate::elab::elab_finding;
 use crate::finding::{Finding, Side};
 use crate::fit::bind_finding;
 use crate::flat::flat_finding;
+use crate::mem::mem_finding;
 use crate::place::{Place, add_line, place_of};
 use crate::reading::{read_finding, set_finding};
 use crate::sets::block_of;
@@ -41,7 +42,7 @@ fn module_finding(
         }
         ModuleFault::Read(fault) => read_finding(alloc, texts.module, fault),
         ModuleFault::Flat(fault) => flat_finding(alloc, sources, fault),
-        ModuleFault::Later(name) => memory_finding(alloc, sources, name),
+        ModuleFault::Mem(fault) => mem_finding(alloc, sources, fault),
         ModuleFault::Elab(fault) => elab_finding(alloc, sources, fault),
     }
 }

@@ -11,6 +11,7 @@ mod fit;
 mod flat;
 mod help;
 mod limits;
+mod mem;
 mod modules;
 mod place;
 mod ports;

@@ -308,7 +308,7 @@ static MODULE_ROWS: [Row; 55] = [
         old: "reg [1:0] c;",
         new: "reg [1:0] c; reg [7:0] m [0:3];",
         place: "m.v:5:26: error: ",
-        part: "is a memory",
+        part: "as a memory has to be",
     },
     Row {
         old: "  wire n;",

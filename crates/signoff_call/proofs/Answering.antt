@@ -43,7 +43,7 @@ use Rattle.signoff_call.specs.declared.files.Read.{Read}
 use Rattle.signoff_call.specs.declared.files.Read.TheVariants.{All, NoModule, NoMore, NoSet}
 use Rattle.signoff_call.specs.declared.files.Texts.{Texts}
 use Rattle.signoff_call.specs.Answers.{done, is_refuted, is_spent, met, moved_text, refusal, report_bytes, reported, summary}
-use Rattle.signoff_call.specs.Tasks.{AnswersLines, AnswersMachine, AnswersMeet, AnswersTask, AnswersTexts, AnswersWalk, AreObsOfTask, HasTrace, IsChecked, IsUnmetAt, ListsLines, Meets, RefusesBy, RefusesRows, RefusesTexts, Reports, ReportsTexts, ShowsMachine, ShowsPath, Stores, WalksRows, names_text, signed_text, stores}
+use Rattle.signoff_call.specs.Tasks.{AnswersMeet, AnswersTask, AnswersTexts, AnswersWalk, AreObsOfTask, HasTrace, IsChecked, IsUnmetAt, ListsLines, Meets, RefusesBy, RefusesRows, RefusesTexts, Reports, ReportsTexts, ShowsMachine, ShowsPath, Stores, WalksRows, names_text, signed_text, stores}
 use Rattle.signoff_call.specs.Run.{Answers, AnswersJob, AnswersMove, AnswersService, AppendsPrefix, Around, Delivers, IsRead, LeavesRead, LeavesRows, LeavesServed, LeavesTexts, Reads, around, limits_for, more_name, quota_of, refused_status, served_text, stores_of}
 
 pub texts_answered : {E : Type 0} (r : Result Answer E) (j : Job) (read : Read) (texts : Texts) (book : Book) (st : Stores) → read ≡ All texts →

@@ -30,7 +30,7 @@ use Rattle.desk_core.proofs.Reporting.{adds_of_texts, asked_refuses, is_report}
 use Rattle.signoff_call.specs.declared.answer.Answer.{Answer}
 use Rattle.signoff_call.specs.Answers.{done, refusal}
 use Rattle.signoff_call.specs.Bound.{Gives, IsBoundReport, SaysBound, SaysMachine, SaysPath, WalksBound}
-use Rattle.signoff_call.specs.Tasks.{AnswersLines, AnswersMachine, AnswersWalk, HasTrace, IsChecked, IsUnmetAt, RefusesBy, RefusesRows, RefusesTexts, ReportsTexts, ShowsMachine, ShowsPath, Stores, WalksRows, names_text, signed_text, stores}
+use Rattle.signoff_call.specs.Tasks.{AnswersLines, AnswersMachine, AnswersWalk, HasTrace, IsChecked, RefusesBy, RefusesRows, RefusesTexts, ReportsTexts, ShowsMachine, ShowsPath, Stores, WalksRows, names_text, signed_text, stores}
 use Rattle.signoff_call.proofs.Answering.{adds_none}
 
 module _ (m s : List ℕ) (b : Pair) (from : IsBoundOf m s b) (budget workers : ℕ) (book : Book) (st : Stores) where

@@ -1,5 +1,5 @@
 -- What is answered to a set that is bound to a design.
-use Rattle.std.specs.Prelude.{◌≡◌, ◌≢◌, ℕ, ◌⊎◌, ◌++◌, List, Option, Some, None, codes}
+use Rattle.std.specs.Prelude.{◌≡◌, ◌≢◌, ℕ, ◌⊎◌, ◌++◌, List, Some, None, codes}
 use Rattle.std.specs.Fmt.{decimal}
 use Rattle.set_tree.specs.declared.path.Path.{Path}
 use Rattle.set_tree.specs.declared.set.Set.{Set}
@@ -22,7 +22,6 @@ use Rattle.asked_lines.specs.Least.{HasLeast}
 use Rattle.asked_lines.specs.Settled.{AreObsOf}
 use Rattle.desk_core.specs.Checks.{IsReportOf, RefusesAsked}
 use Rattle.signoff_call.specs.declared.answer.Answer.{Answer}
-use Rattle.signoff_call.specs.Answers.{refusal}
 use Rattle.signoff_call.specs.Tasks.{RefusesBy, RefusesTexts, ReportsTexts, Stores, signed_text}
 
 -- the report of all lines of the set

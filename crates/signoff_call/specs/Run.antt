@@ -1,32 +1,16 @@
 -- What a run answers to the words and to what was read, and what goes out.
-use Rattle.std.specs.Prelude.{◌≡◌, ◌≢◌, ℕ, ◌⊎◌, ◌+◌, ◌^◌, ◌≤◌, Bool, true, false, List, [], ◌∷◌, ◌++◌, length, take, count_by, Option, Some, None, IfSome, IsSomeAnd, codes, if◌then◌else◌}
-use Rattle.std.specs.Fmt.{decimal}
-use Rattle.std.specs.List.{list_any}
+use Rattle.std.specs.Prelude.{◌≡◌, ℕ, ◌⊎◌, ◌+◌, ◌^◌, ◌≤◌, List, [], ◌++◌, take, Option, Some, None, IfSome, IsSomeAnd, codes, if◌then◌else◌}
 use Rattle.std.specs.Io.KnownBytes.{Appends}
 use Rattle.outside.specs.Faults.{Rose}
 use Rattle.demo_gen.specs.Texts.{module_text, set_text}
-use Rattle.check_faults.specs.declared.fault.CheckFault.{CheckFault}
-use Rattle.check_faults.specs.declared.fault.CheckFault.TheVariants as f
-use Rattle.fault_texts.specs.Texts.{fault_line, status_of}
-use Rattle.replay.specs.declared.shown.Shown.{Shown}
-use Rattle.replay.specs.Texts.{trace_text}
 use Rattle.reports.specs.declared.book.Book.{Book}
-use Rattle.reports.specs.declared.book.Line.{Line}
-use Rattle.reports.specs.declared.book.Verdict.{Verdict}
-use Rattle.reports.specs.declared.book.Verdict.TheVariants as v
-use Rattle.reports.specs.declared.report.Report.{Report}
-use Rattle.reports.specs.declared.which.Which.{Which}
 use Rattle.reports.specs.declared.which.Which.TheVariants as w
 use Rattle.outside.specs.Tables.{Tables}
 use Rattle.proof_store.specs.declared.moving.Moved.{Moved}
 use Rattle.proof_store.specs.Moves.{MovesRows, Walks}
 use Rattle.proof_store.specs.Stored.{Told}
-use Rattle.word_dag.specs.Nodes.{Parts}
-use Rattle.asked_lines.specs.Settled.{AddsProofsOf, AreSettled}
-use Rattle.desk_core.specs.Checks.{AreObsOfTexts, IsReport, Refuses}
-use Rattle.meet_lines.specs.Meetings.{AreObsOfTexts as AreMeetObsOfTexts, IsMeetReport, Refuses as RefusesMeet}
-use Rattle.reports.specs.Lines.{is_proved}
-use Rattle.reports.specs.Reports.{last_line}
+use Rattle.asked_lines.specs.Settled.{AddsProofsOf}
+use Rattle.desk_core.specs.Checks.{AreObsOfTexts}
 use Rattle.command_words.specs.declared.action.Command.{Command}
 use Rattle.command_words.specs.declared.action.Command.TheVariants as c
 use Rattle.command_words.specs.declared.action.Job.{Job}
@@ -39,7 +23,6 @@ use Rattle.desk_core.specs.declared.checker.Checker.{Checker}
 use Rattle.desk_http.specs.declared.serving.Quota.{Quota}
 use Rattle.desk_http.specs.Serving.{Line as Wires, ServesMany, ServesQuota, State, StopsWithin}
 use Rattle.signoff_call.specs.declared.answer.Answer.{Answer}
-use Rattle.signoff_call.specs.declared.texts.Counts.{Counts}
 use Rattle.signoff_call.specs.declared.files.Read.{Read}
 use Rattle.signoff_call.specs.declared.files.Read.TheVariants.{NoModule, NoSet, NoMore, All}
 use Rattle.signoff_call.specs.Answers.{counted_word, done, moved_text, refusal, summary}

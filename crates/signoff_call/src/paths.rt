@@ -19,7 +19,9 @@ use check_stages::bound_of;
 use desk_core::Checker;
 use helper_box::Helper;
 use outside::{Gate, Keeper, Text};
-use path_machine::{RowFault, fault_text, machine_text, path_of, path_text, read_rows, run_trace, unmet};
+use path_machine::{
+    RowFault, fault_text, machine_text, path_of, path_text, read_rows, run_trace, unmet,
+};
 use replay::Trace;
 use reports::{Report, Which};
 use std::alloc::{AllocError, Global};

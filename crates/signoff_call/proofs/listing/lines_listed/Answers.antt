@@ -1,5 +1,5 @@
 use Rattle.signoff_call.proofs.Answering.{turned_keeper}
-use Rattle.signoff_call.proofs.Walking.{bound_as, lines_refused, no_keeper, refuses_as}
+use Rattle.signoff_call.proofs.Walking.{lines_refused, no_keeper, refuses_as}
 use Rattle.signoff_call.proofs.listing.lines_listed.Goals as goal
 
 pub returns-in-Err-clause-answer : goal.returns-in-Err-clause-answer

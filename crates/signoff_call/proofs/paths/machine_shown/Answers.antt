@@ -1,5 +1,4 @@
 use Rattle.std.proofs.Common.{◌∙◌, ap}
-use Rattle.set_tree.specs.declared.set.Set.{Set}
 use Rattle.path_machine.specs.Texts.{machine_text}
 use Rattle.signoff_call.specs.Bound.{SaysMachine}
 use Rattle.signoff_call.proofs.Walking.{says_machine, says_report}

@@ -1,4 +1,4 @@
-use Rattle.signoff_call.proofs.Answering.{no_more_answered, read_left, texts_answered}
+use Rattle.signoff_call.proofs.Answering.{read_left, texts_answered}
 use Rattle.signoff_call.proofs.run.job_answer.Goals as goal
 
 pub returns-in-All-clause-answer : goal.returns-in-All-clause-answer

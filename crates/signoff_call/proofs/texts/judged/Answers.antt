@@ -1,4 +1,3 @@
-use Rattle.command_words.specs.declared.action.Task.TheVariants as t
 use Rattle.signoff_call.proofs.Answering.{meet_answered, task_answered}
 use Rattle.signoff_call.proofs.texts.judged.Goals as goal
 
