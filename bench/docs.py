@@ -1,5 +1,5 @@
 #!/usr/bin/env python3
-"""Runs every command of the README and the guide, and compares what each prints with what stands there.
+"""Runs every command of the README, the guide and the page of faults, and compares what each prints with what stands there.
 
 bench/docs.py [--write] [--program FILE] [DOCUMENT..]
 
@@ -113,7 +113,7 @@ def main(words):
         at = words.index("--program")
         program = os.path.abspath(words[at + 1])
         words = words[:at] + words[at + 2:]
-    names = [it for it in words if it != "--write"] or ["README.md", "docs/GUIDE.md"]
+    names = [it for it in words if it != "--write"] or ["README.md", "docs/GUIDE.md", "docs/FAULTS.md"]
     differ = 0
     for name in names:
         with open(f"{TOP}/{name}", encoding="utf-8") as it:

@@ -17,6 +17,7 @@ import tempfile
 import time
 
 TOP = os.path.dirname(os.path.dirname(os.path.abspath(__file__)))
+TABLE = "CREATE TABLE proofs (key BLOB PRIMARY KEY NOT NULL, bytes BLOB NOT NULL) STRICT"
 MERGE = "INSERT OR IGNORE INTO proofs SELECT * FROM part.proofs"
 
 
@@ -39,8 +40,9 @@ def decide(args, number, name):
 
 
 def merge(whole, parts):
-    """Adds the proofs of the parts to the whole."""
+    """Puts the proofs of the parts into a new store."""
     with sqlite3.connect(whole) as store:
+        store.execute(TABLE)
         for part in parts:
             if os.path.exists(part):
                 store.execute("ATTACH ? AS part", (part,))
@@ -76,8 +78,6 @@ def main():
     for name, _, status, said, _ in ends:
         if status:
             print(f"  {name}: status {status}, {said}")
-    # the last check makes the tables of the whole
-    run(args, "trace", args.module, args.set, names[0], "--store", whole, *options(args, 1))
     since = time.time()
     count = merge(whole, [end[1] for end in ends])
     print(f"merged: {count} proofs in {time.time() - since:.2f} s")
