@@ -4,7 +4,7 @@
 fifo.py [--program PROGRAM] [--words 8,16,32,64] [--bits 8,64]
 
 Writes a FIFO of so many words of so many bits with a set of a few lines, and times `lines`, which reads both texts, makes the design and binds the set,
-and `yosys -p "prep; memory_map"`: seconds and megabytes of each, the least of three runs.
+and `yosys -p "prep; memory_map"`: the least seconds of three runs, and the megabytes of each.
 """
 import argparse
 import os
@@ -56,15 +56,15 @@ def timed(words):
         done = subprocess.run(words, stdout=subprocess.DEVNULL, stderr=subprocess.DEVNULL, check=False)
         seconds = time.time() - since
         if done.returncode:
-            return None
+            raise SystemExit(f"fifo.py: status {done.returncode} of {' '.join(words)}")
         least = seconds if least is None else min(least, seconds)
     return least
 
 
 def largest(words):
-    """The most megabytes of one run."""
-    done = subprocess.run(["/usr/bin/env", "python3", "-c", f"import resource, subprocess; subprocess.run({words!r}, stdout=subprocess.DEVNULL); print(resource.getrusage(resource.RUSAGE_CHILDREN).ru_maxrss // 1024)"], stdout=subprocess.PIPE, text=True, check=False)
-    return int(done.stdout)
+    """The most megabytes of one run (GNU time)."""
+    done = subprocess.run(["/usr/bin/time", "-f", "%M", *words], stdout=subprocess.DEVNULL, stderr=subprocess.PIPE, text=True, check=False)
+    return int(done.stderr.split()[-1]) // 1024
 
 
 def main():
@@ -84,7 +84,7 @@ def main():
                 it.write(properties)
             own = [args.program, "lines", f"{folder}/fifo.v", f"{folder}/fifo.set"]
             peer = ["yosys", "-q", "-p", f"read_verilog {folder}/fifo.v; prep -top fifo; memory_map"]
-            figures = [f"{timed(it):.2f} | {largest(it)}" for it in (own, peer)]
+            figures = [f"{timed(it):.3f} | {largest(it)}" for it in (own, peer)]
             print(f"| {words} | {bits} | {' | '.join(figures)} |", flush=True)
 
 
