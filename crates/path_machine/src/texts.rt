@@ -4,7 +4,7 @@ ghost use Rattle.std.specs.Fmt.{decimal};
 ghost use Rattle.line_laws.specs.Names.{property_name};
 ghost use Rattle.replay.specs.Puts.{Put, Refused};
 ghost use Rattle.word_dag.specs.Text.{spaced};
-ghost use Rattle.path_machine.specs.Texts.{fault_text, length_text, machine_text, operations_text, path_text, step_text, steps_text, transition};
+ghost use Rattle.path_machine.specs.Texts.{fault_text, length_text, machine_text, operations_text, path_text, step_text, transition};
 
 use crate::rows::RowFault;
 use outside::{MemSink, OutFault, Sink, Text};
