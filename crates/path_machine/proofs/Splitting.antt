@@ -8,7 +8,7 @@ use Rattle.set_tree.specs.declared.set.Set.{Set}
 use Rattle.line_laws.specs.Names.{property_name}
 use Rattle.word_dag.specs.Text.{spaced}
 use Rattle.replay.proofs.Putting.{rest_of}
-use Rattle.path_machine.specs.Texts.{operations_text, step_text, steps_text, transition}
+use Rattle.path_machine.specs.Texts.{operations_text, step_text, transition}
 
 rest_is : {X : Type 0} (x : X) (xs : List X) → rest_of (x ∷ xs) ≡ xs
 rest_is x xs = let long : length xs ≤ length (x ∷ xs) - 1 = omega arith in take_all (length (x ∷ xs) - 1) xs long
@@ -16,10 +16,6 @@ rest_is x xs = let long : length xs ≤ length (x ∷ xs) - 1 = omega arith in t
 pub split_names : (set : Set) (qs : List ℕ) → 1 ≤ length qs → (32 ∷ property_name set (get_or qs 0 0)) ++ spaced (map (property_name set) (rest_of qs)) ≡ spaced (map (property_name set) qs)
 split_names set [] some = absurd (omega (arith, some))
 split_names set (q ∷ qs) some = ap (λ (ys : List ℕ). (32 ∷ property_name set q) ++ spaced (map (property_name set) ys)) (rest_is q qs)
-
-pub split_steps : (set : Set) (steps : List At) (d : At) → 1 ≤ length steps → step_text set (get_or steps 0 d) ++ steps_text set (rest_of steps) ≡ steps_text set steps
-split_steps set [] d some = absurd (omega (arith, some))
-split_steps set (a ∷ steps) d some = ap (λ (zs : List At). step_text set a ++ steps_text set zs) (rest_is a steps)
 
 pub split_operations : (set : Set) (ps : List Property) (p : Property) → 1 ≤ length ps → p ≡ get_or ps 0 p → transition set p.name p ++ operations_text set (rest_of ps) ≡ operations_text set ps
 split_operations set [] p some is = absurd (omega (arith, some))

@@ -4,7 +4,7 @@ ghost use Rattle.std.specs.Fmt.{decimal};
 ghost use Rattle.line_laws.specs.Names.{property_name};
 ghost use Rattle.replay.specs.Puts.{Put, Refused};
 ghost use Rattle.word_dag.specs.Text.{spaced};
-ghost use Rattle.path_machine.specs.Texts.{fault_text, length_text, machine_text, operations_text, path_text, step_text, steps_text, transition};
+ghost use Rattle.path_machine.specs.Texts.{fault_text, length_text, machine_text, operations_text, path_text, step_text, transition};
 
 use crate::rows::RowFault;
 use outside::{MemSink, OutFault, Sink, Text};
@@ -190,17 +190,14 @@ fn put_step<S: Sink>(alloc: Global, sink: &mut S, set: &Set, at: &At) -> Result<
     put_last(alloc, sink, property_name(set, at.property))
 }
 
-// The properties of a path.
-fn put_steps<S: Sink>(alloc: Global, sink: &mut S, set: &Set, steps: &[At]) -> Result<(), OutFault>
-    ensures ok { OnOk result (Put (S.written sink.old) (S.written sink.new) (S.faults sink.old) (S.faults sink.new) (steps_text set.now steps.now)) }
-    ensures err { IfErr result (λ e. Refused (S.written sink.old) (S.written sink.new) (S.faults sink.old) (S.faults sink.new) e (steps_text set.now steps.now)) }
+// The text of a property of a path.
+fn step_text(alloc: Global, set: &Set, at: &At) -> Result<Text, AllocError>
+    ensures { IfOk result (λ text. text ≡ step_text set.now at.now) }
 {
-    match steps {
-        [] => Ok(()),
-        [at, rest @ ..] => {
-            put_step(alloc, sink, set, at)?;
-            put_steps(alloc, sink, set, rest)
-        }
+    let mut sink = MemSink::new(alloc, Vec::new(alloc));
+    match put_step(alloc, &mut sink, set, at) {
+        Ok(()) => Text::copy(alloc, sink.bytes()),
+        Err(_) => Err(AllocError),
     }
 }
 
@@ -208,11 +205,12 @@ fn put_steps<S: Sink>(alloc: Global, sink: &mut S, set: &Set, steps: &[At]) -> R
 pub fn path_text(alloc: Global, sound: &Sound, path: &Path) -> Result<Text, AllocError>
     ensures { IfOk result (λ text. text ≡ path_text sound.now path.now) }
 {
-    let mut sink = MemSink::new(alloc, Vec::new(alloc));
-    match put_steps(alloc, &mut sink, sound.set(), path.steps.as_slice()) {
-        Ok(()) => Text::copy(alloc, sink.bytes()),
-        Err(_) => Err(AllocError),
+    let mut text = Vec::new(alloc);
+    for at in path.steps.as_slice() {
+        let step = step_text(alloc, sound.set(), at)?;
+        text.extend_from_slice(step.bytes())?;
     }
+    Ok(Text::new(text))
 }
 
 // The fault of a line.
