@@ -1,11 +1,12 @@
 #!/usr/bin/env python3
 """Decides the lines of a check side by side, each by itself as a machine of a farm would, and signs off over the merged stores.
 
-farm.py M S [--jobs N] [--workers N] [--budget N] [--folder FOLDER] [--program PROGRAM]
+farm.py M S [--only WORD] [--jobs N] [--workers N] [--budget N] [--folder FOLDER] [--program PROGRAM]
 
 `lines M S` gives the names, `trace M S NAME --store PART` decides one on any machine, one SQL statement adds a part's proofs to the whole, and the last
 `check M S --store WHOLE` accepts all of them again. Prints the seconds of a check that solves all by itself, of the lines side by side, of the merge and of
-the last check, and how many lines each of them had to solve. --jobs is how many lines are decided at a time (as many as there are processors).
+the last check, and how many lines each of them had to solve. --jobs is how many lines are decided at a time (as many as there are processors), --only WORD takes the lines of that kind alone (op, hand, ..) and
+leaves the others to the last check.
 """
 import argparse
 import concurrent.futures
@@ -56,6 +57,7 @@ def main():
     reader = argparse.ArgumentParser(description=__doc__, formatter_class=argparse.RawDescriptionHelpFormatter)
     reader.add_argument("module")
     reader.add_argument("set")
+    reader.add_argument("--only", default="")
     reader.add_argument("--jobs", type=int, default=len(os.sched_getaffinity(0)))
     reader.add_argument("--workers", type=int, default=1)
     reader.add_argument("--budget", type=int, default=20_000)
@@ -67,12 +69,13 @@ def main():
     status, names, seconds = run(args, "lines", args.module, args.set)
     if status:
         sys.exit(f"farm.py: {' '.join(names)}")
-    print(f"{len(names)} lines, named in {seconds:.2f} s")
+    shared = [name for name in names if not args.only or name.split()[0] == args.only]
+    print(f"{len(names)} lines, named in {seconds:.2f} s, of which {len(shared)} are shared out")
     status, said, alone = run(args, "check", args.module, args.set, "--store", f"{args.folder}/alone.db", *options(args, args.workers))
     print(f"one machine, {args.workers} workers: {alone:.2f} s, status {status}, {said[-1] if said else ''}")
     since = time.time()
     with concurrent.futures.ThreadPoolExecutor(args.jobs) as lanes:
-        ends = list(lanes.map(lambda it: decide(args, *it), enumerate(names)))
+        ends = list(lanes.map(lambda it: decide(args, *it), enumerate(shared)))
     longest = max(end[4] for end in ends)
     print(f"side by side, {args.jobs} at a time: {time.time() - since:.2f} s, the longest line {longest:.2f} s, all lines together {sum(end[4] for end in ends):.2f} s")
     for name, _, status, said, _ in ends:
