@@ -7,10 +7,11 @@ mod dimacs;
 mod lrat;
 mod request;
 
-use cdcl::{End, solve};
+use cdcl::End;
 use clause_check::{Cnf, Marks, accept, holds};
 use dimacs::read_formula;
 use lrat::{write_steps, write_values};
+use presolve::solve;
 use request::Request;
 use std::{env, io};
 

@@ -1,0 +1,277 @@
+//! The facts found so far, and what they leave of a clause. A clause is read through the classes of its variables, so nothing
+//! is rewritten until the end.
+
+use crate::classes::{Class, Classes, Meaning, turned};
+use crate::derivation::Derivation;
+use clause_check::{Cnf, Lit, Step};
+use std::alloc::{AllocError, Global};
+
+/// What the facts leave of a clause.
+#[derive(Drop)]
+pub enum Rest {
+    /// It holds.
+    True,
+    /// The literals that are left, each once; their variables are roots.
+    Lits(Vec<Lit>),
+}
+
+/// What is known of the variables of a formula, and the steps that say so.
+#[derive(Drop)]
+pub struct Facts<'a> {
+    derivation: Derivation<'a>,
+    classes: Classes,
+    // the signs of the literals that are kept of a clause; blank between calls
+    signs: Vec<Option<bool>>,
+    // whether the empty clause is derived
+    refuted: bool,
+    // whether anything was found since this was asked last
+    changed: bool,
+}
+
+/// Keeps a literal of a clause, unless it is there. The answer is whether the clause isn't true in any case.
+fn keep(signs: &mut [Option<bool>], lits: &mut Vec<Lit>, lit: Lit) -> Result<bool, AllocError> {
+    let Some(sign) = signs.get_mut(lit.var as usize) else {
+        return Ok(true);
+    };
+    match *sign {
+        Some(negative) => Ok(negative == lit.negative),
+        None => {
+            *sign = Some(lit.negative);
+            lits.push(lit)?;
+            Ok(true)
+        }
+    }
+}
+
+impl<'a> Facts<'a> {
+    /// Nothing is known.
+    pub fn new(alloc: Global, cnf: &'a Cnf) -> Result<Facts<'a>, AllocError> {
+        Ok(Facts {
+            derivation: Derivation::new(alloc, cnf)?,
+            classes: Classes::new(alloc, cnf.vars)?,
+            signs: vec![in alloc; None; cnf.vars as usize]?,
+            refuted: false,
+            changed: false,
+        })
+    }
+
+    /// The formula.
+    pub fn cnf(&self) -> &'a Cnf {
+        self.derivation.cnf()
+    }
+
+    /// Whether the empty clause is derived.
+    pub fn is_refuted(&self) -> bool {
+        self.refuted
+    }
+
+    /// Whether anything was found since this was asked last.
+    pub fn take_changed(&mut self) -> bool {
+        std::mem::replace(&mut self.changed, false)
+    }
+
+    /// What is known of the variables, and the steps.
+    pub fn into_parts(self) -> (Classes, Vec<Step>) {
+        let Facts {
+            derivation,
+            classes,
+            signs: _,
+            refuted: _,
+            changed: _,
+        } = self;
+        (classes, derivation.into_steps())
+    }
+
+    /// Whether nothing is known of the variable.
+    pub fn is_root(&self, var: u64) -> bool {
+        self.classes.is_root(var)
+    }
+
+    /// The literals of the input clause of this number.
+    pub fn lits(&self, number: u64) -> &'a [Lit] {
+        match self.cnf().clauses.get(number as usize) {
+            Some(clause) => clause.lits(),
+            None => &[],
+        }
+    }
+
+    /// Adds the clauses of these numbers, behind those that say what is known of their variables.
+    fn add_sources(&self, sources: &[u64], numbers: &mut Vec<u64>) -> Result<(), AllocError> {
+        for source in sources {
+            for lit in self.lits(*source) {
+                self.classes.add_links(lit.var, numbers)?;
+            }
+            numbers.push(*source)?;
+        }
+        Ok(())
+    }
+
+    /// Derives the clause from input clauses and what is known of their variables.
+    pub fn derive(
+        &mut self,
+        alloc: Global,
+        clause: &[Lit],
+        splits: &[u64],
+        sources: &[u64],
+    ) -> Result<Option<u64>, AllocError> {
+        let mut numbers: Vec<u64> = Vec::new(alloc);
+        self.add_sources(sources, &mut numbers)?;
+        self.derivation
+            .derive(alloc, clause, splits, numbers.as_slice())
+    }
+
+    /// Makes it known that the literal is true, if steps for it are found.
+    pub fn fix(
+        &mut self,
+        alloc: Global,
+        lit: Lit,
+        splits: &[u64],
+        sources: &[u64],
+    ) -> Result<(), AllocError> {
+        if let Some(unit) = self.derive(alloc, &[lit], splits, sources)? {
+            let value = !lit.negative;
+            self.classes.set(lit.var, Class::Fixed { value, unit });
+            self.changed = true;
+        }
+        Ok(())
+    }
+
+    /// Makes it known that the variable is equal to the literal of a variable before it, if steps for it are found.
+    pub fn merge(
+        &mut self,
+        alloc: Global,
+        var: u64,
+        to: Lit,
+        splits: &[u64],
+        sources: &[u64],
+    ) -> Result<(), AllocError> {
+        let on = Lit {
+            var,
+            negative: false,
+        };
+        let off = on.negated();
+        let Some(there) = self.derive(alloc, &[off, to], splits, sources)? else {
+            return Ok(());
+        };
+        let Some(back) = self.derive(alloc, &[on, to.negated()], splits, sources)? else {
+            return Ok(());
+        };
+        self.classes.set(var, Class::Equal { to, there, back });
+        self.changed = true;
+        Ok(())
+    }
+
+    /// Says of the variable what is known of the variable that it is equal to. The answer is whether there was more to say.
+    fn follow(&mut self, alloc: Global, var: u64) -> Result<bool, AllocError> {
+        let Class::Equal { to, there, back } = self.classes.of(var) else {
+            return Ok(false);
+        };
+        let mut numbers: Vec<u64> = vec![in alloc; there, back]?;
+        self.classes.add_links(to.var, &mut numbers)?;
+        let numbers = numbers.as_slice();
+        let on = Lit {
+            var,
+            negative: false,
+        };
+        match self.classes.of(to.var) {
+            Class::Root => Ok(false),
+            Class::Fixed { value, .. } => {
+                let value = value != to.negative;
+                let lit = turned(on, !value);
+                match self.derivation.derive(alloc, &[lit], &[], numbers)? {
+                    Some(unit) => {
+                        self.classes.set(var, Class::Fixed { value, unit });
+                        Ok(false)
+                    }
+                    None => Ok(false),
+                }
+            }
+            Class::Equal { to: next, .. } => {
+                let to = turned(next, to.negative);
+                let off = on.negated();
+                let Some(there) = self.derivation.derive(alloc, &[off, to], &[], numbers)? else {
+                    return Ok(false);
+                };
+                let Some(back) = self
+                    .derivation
+                    .derive(alloc, &[on, to.negated()], &[], numbers)?
+                else {
+                    return Ok(false);
+                };
+                self.classes.set(var, Class::Equal { to, there, back });
+                Ok(true)
+            }
+        }
+    }
+
+    /// Makes what is known of the variable a value, or the literal of a root.
+    pub fn settle(&mut self, alloc: Global, var: u64) -> Result<(), AllocError> {
+        for _ in 0..var {
+            if !self.follow(alloc, var)? {
+                return Ok(());
+            }
+        }
+        Ok(())
+    }
+
+    /// What the facts leave of these literals, where `signs` is not blank for those that are kept.
+    fn keep_rest(
+        &mut self,
+        alloc: Global,
+        clause: &[Lit],
+        lits: &mut Vec<Lit>,
+    ) -> Result<bool, AllocError> {
+        for lit in clause {
+            self.settle(alloc, lit.var)?;
+            match self.classes.meaning(*lit) {
+                Meaning::Known(true) => return Ok(false),
+                Meaning::Known(false) => {}
+                Meaning::Open(lit) => {
+                    if !keep(self.signs.as_mut_slice(), lits, lit)? {
+                        return Ok(false);
+                    }
+                }
+            }
+        }
+        Ok(true)
+    }
+
+    /// What the facts leave of the input clause of this number.
+    pub fn rest(&mut self, alloc: Global, number: u64) -> Result<Rest, AllocError> {
+        let clause = self.lits(number);
+        let mut lits: Vec<Lit> = Vec::new(alloc);
+        let is_open = self.keep_rest(alloc, clause, &mut lits)?;
+        for lit in &lits {
+            if let Some(sign) = self.signs.get_mut(lit.var as usize) {
+                *sign = None;
+            }
+        }
+        if is_open {
+            Ok(Rest::Lits(lits))
+        } else {
+            Ok(Rest::True)
+        }
+    }
+
+    /// What the facts leave of the input clause of this number, once they have what it says by itself: a clause with one literal
+    /// is a fact, and one with none ends the search.
+    pub fn rest_of(&mut self, alloc: Global, number: u64) -> Result<Rest, AllocError> {
+        let rest = self.rest(alloc, number)?;
+        let Rest::Lits(lits) = &rest else {
+            return Ok(rest);
+        };
+        match lits.as_slice() {
+            [] => {
+                if self.derive(alloc, &[], &[], &[number])?.is_some() {
+                    self.refuted = true;
+                }
+                Ok(Rest::True)
+            }
+            [lit] => {
+                self.fix(alloc, *lit, &[], &[number])?;
+                Ok(Rest::True)
+            }
+            _ => Ok(rest),
+        }
+    }
+}

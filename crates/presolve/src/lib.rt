@@ -1,0 +1,15 @@
+//! A solver that simplifies a formula before it searches it.
+#![tactic(auto)]
+
+mod classes;
+mod decide;
+mod derivation;
+mod facts;
+mod gates;
+mod smaller;
+mod sweep;
+#[cfg(test)]
+mod tests;
+mod trim;
+
+pub use decide::solve;

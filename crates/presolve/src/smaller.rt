@@ -1,0 +1,207 @@
+//! The formula that the facts leave, over the variables that still stand in it. Each of its clauses is an input clause or a step
+//! over the input clauses, so a derivation from it goes on where the steps end.
+
+use crate::classes::{Class, Classes};
+use crate::facts::{Facts, Rest};
+use clause_check::{Clause, Cnf, Lit, Step};
+use std::alloc::{AllocError, Global};
+use std::collections::HashSet;
+
+/// A formula that can be satisfied where the input formula can.
+#[derive(Drop)]
+pub struct Smaller {
+    pub cnf: Cnf,
+    // for each of its variables the input formula's
+    vars: Vec<u64>,
+    // for each of its clauses the number of the same clause among the input clauses and the steps
+    numbers: Vec<u64>,
+}
+
+/// A clause that is left, and its number.
+#[derive(Drop)]
+struct Kept {
+    lits: Vec<Lit>,
+    number: u64,
+}
+
+/// The variables and signs of a clause, in rising order.
+fn sorted(alloc: Global, lits: &[Lit]) -> Result<Vec<(u64, bool)>, AllocError> {
+    let mut pairs: Vec<(u64, bool)> = lits.iter().map(|l| (l.var, l.negative)).collect(alloc)?;
+    pairs.sort()?;
+    Ok(pairs)
+}
+
+/// The number of what is left of the input clause of this number.
+fn number_of(
+    alloc: Global,
+    facts: &mut Facts,
+    number: u64,
+    lits: &[Lit],
+) -> Result<Option<u64>, AllocError> {
+    let clause = facts.lits(number);
+    if clause == lits {
+        Ok(Some(number))
+    } else {
+        facts.derive(alloc, lits, &[], &[number])
+    }
+}
+
+/// What is left of these input clauses, each once; none where no steps are found for one.
+fn kept_clauses(
+    alloc: Global,
+    facts: &mut Facts,
+    open: &[u64],
+) -> Result<Option<Vec<Kept>>, AllocError> {
+    let mut seen: HashSet<Vec<(u64, bool)>> = HashSet::new(alloc);
+    let mut found: Vec<Kept> = Vec::new(alloc);
+    for number in open {
+        if let Rest::Lits(lits) = facts.rest(alloc, *number)? {
+            if seen.insert(sorted(alloc, lits.as_slice())?)? {
+                match number_of(alloc, facts, *number, lits.as_slice())? {
+                    Some(number) => found.push(Kept { lits, number })?,
+                    None => return Ok(None),
+                }
+            }
+        }
+    }
+    Ok(Some(found))
+}
+
+/// The variables of these clauses in rising order.
+fn vars_of(alloc: Global, left: &[Kept], vars: u64) -> Result<Vec<u64>, AllocError> {
+    let mut used = vec![in alloc; false; vars as usize]?;
+    for clause in left {
+        for lit in &clause.lits {
+            if let Some(mark) = used.get_mut(lit.var as usize) {
+                *mark = true;
+            }
+        }
+    }
+    let mut found: Vec<u64> = Vec::new(alloc);
+    for (var, is_used) in used.iter().enumerate() {
+        if *is_used {
+            found.push(var as u64)?;
+        }
+    }
+    Ok(found)
+}
+
+/// For each of so many variables its place among these, or 0.
+fn places_of(alloc: Global, found: &[u64], vars: u64) -> Result<Vec<u64>, AllocError> {
+    let mut places = vec![in alloc; 0; vars as usize]?;
+    for (place, var) in found.iter().enumerate() {
+        if let Some(slot) = places.get_mut(*var as usize) {
+            *slot = place as u64;
+        }
+    }
+    Ok(places)
+}
+
+/// The clause with each variable replaced by the one at its place.
+fn renamed(alloc: Global, lits: &[Lit], names: &[u64]) -> Result<Option<Clause>, AllocError> {
+    let mut clause: Vec<Lit> = Vec::new(alloc);
+    for lit in lits {
+        let Some(var) = names.get(lit.var as usize) else {
+            return Ok(None);
+        };
+        clause.push(Lit {
+            var: *var,
+            negative: lit.negative,
+        })?;
+    }
+    Clause::of(alloc, clause)
+}
+
+/// The formula that the facts leave of these input clauses.
+pub fn shrink(
+    alloc: Global,
+    facts: &mut Facts,
+    open: &[u64],
+) -> Result<Option<Smaller>, AllocError> {
+    let vars = facts.cnf().vars;
+    let Some(left) = kept_clauses(alloc, facts, open)? else {
+        return Ok(None);
+    };
+    let found = vars_of(alloc, left.as_slice(), vars)?;
+    let places = places_of(alloc, found.as_slice(), vars)?;
+    let mut clauses: Vec<Clause> = Vec::new(alloc);
+    let mut numbers: Vec<u64> = Vec::new(alloc);
+    for clause in &left {
+        let Some(short) = renamed(alloc, clause.lits.as_slice(), places.as_slice())? else {
+            return Ok(None);
+        };
+        clauses.push(short)?;
+        numbers.push(clause.number)?;
+    }
+    match Cnf::of(found.len() as u64, clauses) {
+        Some(cnf) => Ok(Some(Smaller {
+            cnf,
+            vars: found,
+            numbers,
+        })),
+        None => Ok(None),
+    }
+}
+
+impl Smaller {
+    /// The number of the smaller formula's clause or step of this number, where its steps come after so many clauses.
+    fn number(&self, number: u64, clauses: u64) -> u64 {
+        match self.numbers.get(number as usize) {
+            Some(same) => *same,
+            None => {
+                let place = number.saturating_sub(self.numbers.len() as u64);
+                clauses.saturating_add(place)
+            }
+        }
+    }
+
+    /// Adds steps over the smaller formula behind the steps over so many input clauses.
+    pub fn add_steps(
+        &self,
+        alloc: Global,
+        inputs: u64,
+        steps: &mut Vec<Step>,
+        more: &[Step],
+    ) -> Result<bool, AllocError> {
+        let clauses = inputs.saturating_add(steps.len() as u64);
+        for step in more {
+            let Some(clause) = renamed(alloc, step.clause.lits(), self.vars.as_slice())? else {
+                return Ok(false);
+            };
+            let mut hints: Vec<u64> = Vec::new(alloc);
+            for hint in &step.hints {
+                hints.push(self.number(*hint, clauses))?;
+            }
+            steps.push(Step { clause, hints })?;
+        }
+        Ok(true)
+    }
+
+    /// The values of the input formula's variables, where the smaller one's have these.
+    pub fn values(
+        &self,
+        alloc: Global,
+        classes: &Classes,
+        vars: u64,
+        values: &[bool],
+    ) -> Result<Vec<bool>, AllocError> {
+        let mut roots = vec![in alloc; false; vars as usize]?;
+        for (var, value) in self.vars.iter().zip(values) {
+            if let Some(slot) = roots.get_mut(*var as usize) {
+                *slot = *value;
+            }
+        }
+        let mut all: Vec<bool> = Vec::new(alloc);
+        for var in 0..vars {
+            let value = match classes.of(var) {
+                Class::Root => roots.get(var as usize).copied().unwrap_or(false),
+                Class::Fixed { value, .. } => value,
+                Class::Equal { to, .. } => {
+                    all.get(to.var as usize).copied().unwrap_or(false) != to.negative
+                }
+            };
+            all.push(value)?;
+        }
+        Ok(all)
+    }
+}

@@ -1,0 +1,3 @@
+pub mod Coding
+pub mod Numbering
+pub mod Pathing

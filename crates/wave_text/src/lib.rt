@@ -1,0 +1,13 @@
+//! A counterexample as a waveform: a value change dump (IEEE 1364-2005, clause 18), which GTKWave and Surfer show.
+#![tactic(auto)]
+
+mod cycles;
+mod parts;
+mod scopes;
+#[cfg(test)]
+mod tests;
+mod wave;
+mod waves;
+
+pub use wave::{First, Signal, Wave};
+pub use waves::wave_text;
