@@ -9,6 +9,9 @@ failing_memory.py built [--every K] [CRATE[:WORD]..]      the same over the test
                                                           call fails, for each N (or each Kth) until a test makes no Nth call
 failing_memory.py program [--program P] [--every K] M S   runs `P check M S` with that malloc for each N in turn, and compares what it writes with
                                                           what it writes where nothing fails
+failing_memory.py desk [--program P] [--every K] M S      serves a desk by `P serve` with that malloc for each N in turn, sends it requests, one a
+                                                          connection, and compares the replies, and what the desk holds afterwards, with those where
+                                                          nothing fails
 
 A test passes where the allocation that failed is none of the calls', or where its call took the want of memory into an answer that the test expects. It is
 refused where it ended with an error that tells want of memory, or an assertion met that answer. Where another assertion of its own stopped it, a call gave
@@ -20,23 +23,26 @@ calls:
     read_steps                    deciding_rows:records
     settle                        deciding_rows:settling
     check                         signoff_rows:asked
-    act, serve_one                none; desk_rows:connections has those of the connection below them, and `signoff_runs` runs both
+    act, serve_one                none but desk_rows:connections, which has those of the connection below them; `desk` runs both
 """
 import argparse
 import collections
 import itertools
 import os
 import re
+import socket
 import subprocess
 import tempfile
+import time
 
 TOP = os.path.dirname(os.path.dirname(os.path.abspath(__file__)))
 CRATES = ["verilog_rows", "property_rows", "deciding_rows", "signoff_rows", "desk_rows"]
 CALLS = ["verilog_rows:modules", "property_rows:sets", "deciding_rows:records", "deciding_rows:settling", "signoff_rows:asked", "desk_rows:connections"]
 OUTCOME = re.compile(r"^test (\S+) \.\.\. (ok|FAILED)$")
+READS = [("GET", it, b"") for it in ("/blocks", "/blocks/b/report", "/signoffs")]
 HOWS = ("refused", "passed", "another answer", "other")
 SAYINGS = {
-    "refused": re.compile(r"^error: .*(AllocError|AllocFailed|Memory)|^ *left: \"Memory\"$", re.M),
+    "refused": re.compile(r"^error: .*(AllocError|AllocFailed|Memory)|^ *left: (\"Memory\"|\[77, 101, 109, 111, 114, 121\])$", re.M),
     "another answer": re.compile(r"^test stopped at src/\S+:\d+:\d+$", re.M),
 }
 FAILING = r"""
@@ -198,24 +204,104 @@ def how_ended(n, status, out, err, whole):
     return f"otherwise (status {status})"
 
 
+def requests_of(module, properties):
+    """Requests that make, check and sign a block off, and read all that a desk holds."""
+    puts = [("PUT", "/blocks/b/module", module), ("PUT", "/blocks/b/set", properties)]
+    posts = [("POST", "/blocks/b/check", b""), ("POST", "/blocks/b/sign", b"")]
+    return puts + posts + READS
+
+
+def asked(port, method, path, body):
+    """The reply to one request, as bytes; none where the connection is cut, or not taken."""
+    head = f"{method} {path} HTTP/1.1\r\nHost: desk\r\nContent-Length: {len(body)}\r\n\r\n".encode()
+    reply = b""
+    try:
+        with socket.create_connection(("127.0.0.1", port), timeout=20) as peer:
+            peer.sendall(head + body)
+            while piece := peer.recv(65536):
+                reply += piece
+    except OSError:
+        pass
+    return reply
+
+
+def served(path, port, file, requests, env):
+    """The replies of a desk to requests, and the status with which it ends."""
+    desk = subprocess.Popen([path, "serve", str(port), str(len(requests)), file], env=env, stdin=subprocess.DEVNULL, stdout=subprocess.DEVNULL, stderr=subprocess.DEVNULL)
+    for _ in range(200):
+        if desk.poll() is not None or is_open(port):
+            break
+        time.sleep(0.01)
+    replies = [asked(port, *it) if desk.poll() is None else b"" for it in requests]
+    try:
+        return replies, desk.wait(10)
+    except subprocess.TimeoutExpired:
+        desk.kill()
+        return replies, None
+
+
+def is_open(port):
+    """Whether something listens at a port of this machine, told without a connection."""
+    with open("/proc/net/tcp", encoding="ascii") as lines:
+        return any(it.split()[1].endswith(f":{port:04X}") and it.split()[3] == "0A" for it in list(lines)[1:])
+
+
+def reply_told(reply, right):
+    """How a reply is beside the one where nothing fails: the same, want of memory, none, or another."""
+    if reply == right:
+        return "as where none fails"
+    if reply.startswith(b"HTTP/1.1 507 "):
+        return "507"
+    return "cut" if right.startswith(reply) else "another"
+
+
+def desk(path, every, module, properties, port=18087):
+    texts = [open(it, "rb").read() for it in (module, properties)]
+    requests = requests_of(*texts)
+    ends, path = collections.Counter(), os.path.abspath(path)
+    with tempfile.TemporaryDirectory() as folder:
+        shim(folder)
+        whole, _ = served(path, port, f"{folder}/whole.db", requests, {})
+        for n in itertools.count(1, every):
+            file, mark = f"{folder}/{n}.db", f"{folder}/failed{n}"
+            env = {"LD_PRELOAD": f"{folder}/failing.so", "FAIL_ALLOC": str(n), "FAILED_FILE": mark}
+            replies, status = served(path, port, file, requests, env)
+            if not os.path.exists(mark):
+                break
+            again, _ = served(path, port, file, requests, {})
+            told = [reply_told(*it) for it in zip(replies, whole)]
+            first = next((it for it in told if it != "as where none fails"), "as where none fails")
+            healed = again[2] == whole[2] and b'"block":"b"' in again[-1]
+            ends[first, status, "afterwards all is served" if healed else "AFTERWARDS IT ISN'T"] += 1
+            # what comes after the reply that differs follows from it: no sign-off without a report, say
+            if first == "another" or not healed:
+                print(f"allocation {n}: status {status}, {told}, {[it[:60] for it in replies]}", flush=True)
+    print(f"{sum(ends.values())} desks, in each of which one allocation failed: the first reply that differs, the status, and what a second desk over its file serves")
+    for (first, status, then), times in ends.most_common():
+        print(f"  {times}: {first}, status {status}, {then}")
+
+
 def main():
     words = argparse.ArgumentParser()
     kinds = words.add_subparsers(dest="kind", required=True)
-    of_tests, of_built, of_program = (kinds.add_parser(it) for it in ("tests", "built", "program"))
+    of_tests, of_built, of_program, of_desk = (kinds.add_parser(it) for it in ("tests", "built", "program", "desk"))
     of_tests.add_argument("--from", dest="first", type=int, default=1)
     of_tests.add_argument("--to", dest="last", type=int, default=1000)
     of_built.add_argument("--every", type=int, default=1)
-    of_program.add_argument("--every", type=int, default=1)
     of_tests.add_argument("crates", nargs="*")
     of_built.add_argument("crates", nargs="*")
-    of_program.add_argument("--program", default=f"{TOP}/crates/signoff/out/signoff")
-    of_program.add_argument("module")
-    of_program.add_argument("properties")
+    for it in (of_program, of_desk):
+        it.add_argument("--every", type=int, default=1)
+        it.add_argument("--program", default=f"{TOP}/crates/signoff/out/signoff")
+        it.add_argument("module")
+        it.add_argument("properties")
     given = words.parse_args()
     if given.kind == "tests":
         tests(given.crates or CRATES, given.first, given.last)
     elif given.kind == "built":
         built(given.crates or CALLS, given.every)
+    elif given.kind == "desk":
+        desk(given.program, given.every, given.module, given.properties)
     else:
         program(given.program, given.every, given.module, given.properties)
 

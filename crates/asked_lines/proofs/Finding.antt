@@ -10,7 +10,7 @@ use Rattle.binding.specs.Binding.{Pair}
 use Rattle.proof_store.specs.declared.goal.Goal.{Goal}
 use Rattle.reports.specs.declared.which.Which.{Which}
 use Rattle.line_obs.specs.Obligations.{all_lines}
-use Rattle.asked_lines.specs.Asked.{AreGoalsOf, AsksOne, IsGoalOf, LacksLine, LacksName, has_name, line_of}
+use Rattle.asked_lines.specs.Asked.{AreGoalsOf, AsksOne, IsGoalNamed, IsGoalOf, LacksLine, LacksName, has_name, line_of}
 use Rattle.asked_lines.specs.declared.fault.LineFault.{LineFault}
 use Rattle.asked_lines.specs.declared.fault.LineFault.TheVariants as f
 
@@ -46,17 +46,21 @@ line_among [] left goal = (0, omega arith, refl)
 line_among (x ∷ xs) left goal = let rest = line_among xs left goal in let lt = rest.1 in (suc rest.0, omega (arith, lt), rest.2)
 
 -- the one whose turn it is has the name
-pub found : (b : Pair) (name : List ℕ) (now left only : List (Goal Line)) (goal : Goal Line) → FindLoop b name now → now ≡ goal ∷ left → has_name b.set name goal.line ≡ true → only ≡ goal ∷ [] → AsksOne b name only
-found b name now left only goal loop is named pushed =
+pub found : (b : Pair) (name : List ℕ) (now left : List (Goal Line)) (goal : Goal Line) → FindLoop b name now → now ≡ goal ∷ left → has_name b.set name goal.line ≡ true → IsGoalNamed b name goal
+found b name now left goal loop is named =
     let are = loop.are in
     let whole : loop.all ≡ loop.before ++ goal ∷ left = loop.split ∙ ap (λ (gs : List (Goal Line)). loop.before ++ gs) is in
     let same : line_name b.set goal.line ≡ name = (bytes_eq-Decides (line_name b.set goal.line) name).0 named in
     let among : Contains (all_lines b.set) goal.line = subst (λ (ls : List Line). Contains ls goal.line) (ap (map line_of) (sym whole) ∙ are.lines_are) (line_among loop.before left goal) in
     let here : IsGoalOf b goal = at_turn (IsGoalOf b) loop.before left goal (subst (λ (gs : List (Goal Line)). All (IsGoalOf b) gs) whole are.each) in
-    subst (λ (gs : List (Goal Line)). AsksOne b name gs) (sym pushed) (record {
-      asked = (goal.line, record { among = among; named = same }, refl);
-      each = All-cons (IsGoalOf b) goal [] here (All-nil (IsGoalOf b));
-    })
+    record { named = record { among = among; named = same }; of_line = here }
+
+-- it alone
+pub alone : (b : Pair) (name : List ℕ) (goal : Goal Line) (only : List (Goal Line)) → IsGoalNamed b name goal → only ≡ goal ∷ [] → AsksOne b name only
+alone b name goal only h pushed = subst (λ (gs : List (Goal Line)). AsksOne b name gs) (sym pushed) (record {
+  asked = (goal.line, h.named, refl);
+  each = All-cons (IsGoalOf b) goal [] h.of_line (All-nil (IsGoalOf b));
+})
 
 not_both : (t : Bool) → t ≡ false → t ≡ true → ⊥
 not_both t a b = let clash : false ≡ true = sym a ∙ b in absurd cc

@@ -42,6 +42,11 @@ abbrev pub has_name : Set → List ℕ → Line → Bool
 has_name set name line = bytes_eq (line_name set line) name
 
 -- a goal of the line of a name
+pub record IsGoalNamed (b : Pair) (name : List ℕ) (goal : Goal Line) : Type 0 where
+  pub named : IsLineNamed b.set name goal.line
+  pub of_line : IsGoalOf b goal
+
+-- such a goal alone
 pub record AsksOne (b : Pair) (name : List ℕ) (goals : List (Goal Line)) : Type 0 where
   pub asked : IsOnlyLine b.set name (map line_of goals)
   pub each : All (IsGoalOf b) goals

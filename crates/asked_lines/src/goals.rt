@@ -3,7 +3,7 @@ ghost use Rattle.std.specs.Prelude.{◌≡◌, ◌∷◌, [], IfErr, IfOk};
 ghost use Rattle.std.specs.List.{AllZip};
 ghost use Rattle.set_tree.specs.Report.{design_lines};
 ghost use Rattle.line_obs.specs.Obligations.{IsObOf, all_lines};
-ghost use Rattle.asked_lines.specs.Asked.{AreGoalsOf, Asks, AsksOne, LacksLine, LacksName, has_name};
+ghost use Rattle.asked_lines.specs.Asked.{AreGoalsOf, Asks, AsksOne, IsGoalNamed, LacksLine, LacksName, has_name};
 
 use crate::fault::LineFault;
 use binding::Bound;
@@ -83,19 +83,28 @@ pub fn only<L: Drop>(alloc: Global, goal: Goal<L>) -> Result<Vec<Goal<L>>, Alloc
     Ok(goals)
 }
 
-// The goal of the line of this name.
-fn one_goal(alloc: Global, bound: &Bound, name: &Text) -> Result<Vec<Goal<Line>>, LineFault>
-    ensures ok { IfOk result (λ goals. AsksOne bound.now name.now goals.items) }
+/// The goal of the line of this name. Refused where the set's report has no such line, and for want of memory.
+pub fn goal_named(alloc: Global, bound: &Bound, name: &Text) -> Result<Goal<Line>, LineFault>
+    ensures ok { IfOk result (IsGoalNamed bound.now name.now) }
     ensures err { IfErr result (LacksName bound.now.set name.now) }
 {
     let set = bound.set().set();
     let all = all_goals(alloc, bound)?;
     for goal in all {
         if has_name(alloc, set, goal.line, name.bytes())? {
-            return Ok(only(alloc, goal)?);
+            return Ok(goal);
         }
     }
     Err(LineFault::NoLine)
+}
+
+// The goal of the line of this name alone.
+fn one_goal(alloc: Global, bound: &Bound, name: &Text) -> Result<Vec<Goal<Line>>, LineFault>
+    ensures ok { IfOk result (λ goals. AsksOne bound.now name.now goals.items) }
+    ensures err { IfErr result (LacksName bound.now.set name.now) }
+{
+    let goal = goal_named(alloc, bound, name)?;
+    Ok(only(alloc, goal)?)
 }
 
 /// The goals that are asked for, in the order of a report.

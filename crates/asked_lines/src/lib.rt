@@ -10,5 +10,5 @@ mod trace;
 
 pub use decide::decide_lines;
 pub use fault::LineFault;
-pub use goals::{all_lines, only};
+pub use goals::{all_lines, goal_named, only};
 pub use law::{decided_of_modules, proved_lines_promise};

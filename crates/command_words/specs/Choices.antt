@@ -4,6 +4,8 @@ use Rattle.std.specs.List.{starts_with}
 use Rattle.std.specs.Str.{bytes_eq}
 use Rattle.command_words.specs.declared.chosen.Choice.{Choice}
 use Rattle.command_words.specs.declared.chosen.Choice.TheVariants.{Budget, Workers, Store, Timeout}
+use Rattle.command_words.specs.declared.chosen.Flag.{Flag}
+use Rattle.command_words.specs.declared.chosen.Flag.TheVariants.{Replied, Dot, Progress}
 use Rattle.command_words.specs.Numbers.{number_within}
 
 -- what options have been given, and the plain words so far
@@ -13,18 +15,36 @@ pub record Choices : Type 0 where
   pub store : Option (List ℕ)
   pub timeout : Option ℕ
   pub replied : Bool
+  pub dot : Bool
+  pub progress : Bool
   pub plain : List (List ℕ)
 
 abbrev pub nothing : Choices
-nothing = record { budget = None; workers = None; store = None; timeout = None; replied = false; plain = [] }
+nothing = record { budget = None; workers = None; store = None; timeout = None; replied = false; dot = false; progress = false; plain = [] }
 
 -- no option is given that tells how a desk is served
 abbrev pub serves_by_default : Choices → Bool
 serves_by_default c = is_none c.timeout && not c.replied
 
+-- no option is given that tells what is shown, or how the work goes
+abbrev pub shows_by_default : Choices → Bool
+shows_by_default c = not c.dot && not c.progress
+
+-- no option is given but those of a decision of lines
+abbrev pub decides : Choices → Bool
+decides c = serves_by_default c && not c.dot
+
+-- no option is given that bounds the solver
+abbrev pub solves_by_default : Choices → Bool
+solves_by_default c = is_none c.budget && is_none c.workers
+
 -- no option is given
 abbrev pub has_no_options : Choices → Bool
-has_no_options c = is_none c.budget && (is_none c.workers && (is_none c.store && serves_by_default c))
+has_no_options c = solves_by_default c && (is_none c.store && (serves_by_default c && shows_by_default c))
+
+-- the file of proofs is given, and nothing else
+abbrev pub has_store_alone : Choices → Bool
+has_store_alone c = solves_by_default c && (is_some c.store && (serves_by_default c && shows_by_default c))
 
 -- a value is given to an option that has none yet
 abbrev pub with_budget : Option ℕ → Choices → Option Choices
@@ -42,9 +62,11 @@ abbrev pub with_timeout : Option ℕ → Choices → Option Choices
 with_timeout None c = None
 with_timeout (Some n) c = if is_some c.timeout then None else Some (record c { timeout = Some n })
 
--- the option that has no value is given, and wasn't yet
-abbrev pub with_replied : Choices → Option Choices
-with_replied c = if c.replied then None else Some (record c { replied = true })
+-- an option that has no value is given, and wasn't yet
+abbrev pub with_flag : Flag → Choices → Option Choices
+with_flag Replied c = if c.replied then None else Some (record c { replied = true })
+with_flag Dot c = if c.dot then None else Some (record c { dot = true })
+with_flag Progress c = if c.progress then None else Some (record c { progress = true })
 
 abbrev pub given : Choice → List ℕ → Choices → Option Choices
 given Budget word c = with_budget (number_within 1 10000000 word) c
@@ -63,13 +85,13 @@ all_plain (w ∷ ws) c = all_plain ws (with_plain w c)
 abbrev pub is_hyphened : List ℕ → Bool
 is_hyphened word = starts_with nat_eq word (45 ∷ [])
 
--- what a word is: `--` ends the options; `--x` waits for its value, and `--x=v` has it; `--replied` has none; any other word that begins with `-` and
+-- what a word is: `--` ends the options; `--x` waits for its value, and `--x=v` has it; a flag has none; any other word that begins with `-` and
 -- isn't `-` alone is wrong
 pub data Kind : Type 0 where
   ends : Kind
   waits : Choice → Kind
   gives : Choice → List ℕ → Kind
-  flag : Kind
+  flag : Flag → Kind
   wrong : Kind
   plain : Kind
 
@@ -80,6 +102,14 @@ named word =
     else if bytes_eq word (codes "--workers") then Some Workers
     else if bytes_eq word (codes "--store") then Some Store
     else if bytes_eq word (codes "--timeout") then Some Timeout
+    else None
+
+-- the option without a value that it names
+abbrev pub flag_named : List ℕ → Option Flag
+flag_named word =
+    if bytes_eq word (codes "--replied") then Some Replied
+    else if bytes_eq word (codes "--dot") then Some Dot
+    else if bytes_eq word (codes "--progress") then Some Progress
     else None
 
 -- a word that names none
@@ -96,11 +126,12 @@ abbrev pub kind_named : List ℕ → Option Choice → Kind
 kind_named word (Some o) = waits o
 kind_named word None = other_kind word
 
+abbrev pub kind_flagged : List ℕ → Option Flag → Kind
+kind_flagged word (Some f) = flag f
+kind_flagged word None = kind_named word (named word)
+
 abbrev pub kind_of : List ℕ → Kind
-kind_of word =
-    if bytes_eq word (codes "--") then ends
-    else if bytes_eq word (codes "--replied") then flag
-    else kind_named word (named word)
+kind_of word = if bytes_eq word (codes "--") then ends else kind_flagged word (flag_named word)
 
 abbrev pub and_then : Option Choices → (Choices → Option Choices) → Option Choices
 and_then None f = None
@@ -115,7 +146,7 @@ chosen (w ∷ ws) None c = elim (kind_of w) [
   | ends ↦ Some (all_plain ws c)
   | waits o ↦ chosen ws (Some o) c
   | gives o v ↦ and_then (given o v c) (chosen ws None)
-  | flag ↦ and_then (with_replied c) (chosen ws None)
+  | flag f ↦ and_then (with_flag f c) (chosen ws None)
   | wrong ↦ None
   | plain ↦ chosen ws None (with_plain w c)
 ]

@@ -1,45 +1,59 @@
 -- The command that words spell: its name, then options and plain words.
-use Rattle.std.specs.Prelude.{ℕ, ◌<◌, ◌≤◌, Bool, List, [], ◌∷◌, codes, Option, Some, None, is_none, unwrap_or, if◌then◌else◌}
+use Rattle.std.specs.Prelude.{ℕ, ◌<◌, ◌≤◌, ◌&&◌, Bool, List, [], ◌∷◌, codes, Option, Some, None, is_none, unwrap_or, if◌then◌else◌}
 use Rattle.std.specs.Option.{option_map}
 use Rattle.std.specs.Str.{bytes_eq}
 use Rattle.command_words.specs.declared.action.Action.{Action}
 use Rattle.command_words.specs.declared.action.Action.TheVariants.{Texts, Demo, Serve, Migrate}
 use Rattle.command_words.specs.declared.action.Verb.{Verb}
-use Rattle.command_words.specs.declared.action.Verb.TheVariants.{Ops, Check, Trace, Least, Meet, Machine, Walk, Lines}
+use Rattle.command_words.specs.declared.action.Verb.TheVariants.{Ops, Check, Trace, Least, Wave, Meet, Machine, Walk, Lines, Clauses, Accept}
 use Rattle.reports.specs.declared.which.Which.TheVariants as w
 use Rattle.command_words.specs.declared.action.Command.{Command}
 use Rattle.command_words.specs.declared.action.Command.TheVariants as c
+use Rattle.command_words.specs.declared.action.Form.{Form}
+use Rattle.command_words.specs.declared.action.Form.TheVariants.{Words, Graph}
 use Rattle.command_words.specs.declared.action.Job.{Job}
 use Rattle.command_words.specs.declared.action.Service.{Service}
 use Rattle.command_words.specs.declared.action.Task.{Task}
 use Rattle.command_words.specs.declared.action.Task.TheVariants as t
-use Rattle.command_words.specs.Choices.{Choices, chosen, has_no_options, nothing, serves_by_default}
+use Rattle.command_words.specs.Choices.{Choices, chosen, decides, has_no_options, has_store_alone, nothing, serves_by_default, shows_by_default}
 use Rattle.command_words.specs.Numbers.{number_within}
 
 -- a job over two files, with what options leave out
 abbrev pub job_of : Task → List ℕ → List ℕ → Choices → Job
-job_of task m s c = record { task = task; «module» = m; set = s; budget = unwrap_or c.budget 20000; workers = unwrap_or c.workers 4; store = c.store }
+job_of task m s c = record { task = task; «module» = m; set = s; budget = unwrap_or c.budget 20000; workers = unwrap_or c.workers 4; store = c.store; progress = c.progress }
 
--- where no line is decided there are no options, and else none of serving
+-- where no line is decided there are no options, and else none of serving; a machine may be shown as a graph; a derivation is accepted into a file of proofs,
+-- which has to be named
 abbrev pub takes : Task → Choices → Bool
-takes (t.Decide which) c = serves_by_default c
-takes (t.Meet name) c = serves_by_default c
-takes t.Machine c = serves_by_default c
-takes (t.Walk rows) c = serves_by_default c
+takes (t.Decide which) c = decides c
+takes (t.Wave name) c = decides c
+takes (t.Meet name) c = decides c
+takes (t.Machine form) c = serves_by_default c
+takes (t.Walk rows) c = decides c
 takes t.Lines c = has_no_options c
+takes (t.Clauses name) c = has_no_options c
+takes (t.Accept acceptance) c = has_store_alone c
 
--- what is done with two texts, by the words behind their files: the name of a line, which may stand for what can be met too; or a file of rows
-abbrev pub task_of : Verb → List (List ℕ) → Option Task
-task_of Ops [] = Some (t.Decide w.Ops)
-task_of Check [] = Some (t.Decide w.All)
-task_of Trace (n ∷ []) = Some (t.Decide (w.One n))
-task_of Least (n ∷ []) = Some (t.Decide (w.Least n))
-task_of Meet [] = Some (t.Meet None)
-task_of Meet (n ∷ []) = Some (t.Meet (Some n))
-task_of Machine [] = Some t.Machine
-task_of Walk (rows ∷ []) = Some (t.Walk rows)
-task_of Lines [] = Some t.Lines
-task_of verb words = None
+-- how a machine is shown
+abbrev pub form_of : Bool → Form
+form_of dot = if dot then Graph else Words
+
+-- what is done with two texts, by the words behind their files: the name of a line, which may stand for what can be met too; a file of rows; or the name of a
+-- line and a file with a derivation
+abbrev pub task_of : Verb → Bool → List (List ℕ) → Option Task
+task_of Ops dot [] = Some (t.Decide w.Ops)
+task_of Check dot [] = Some (t.Decide w.All)
+task_of Trace dot (n ∷ []) = Some (t.Decide (w.One n))
+task_of Least dot (n ∷ []) = Some (t.Decide (w.Least n))
+task_of Wave dot (n ∷ []) = Some (t.Wave n)
+task_of Meet dot [] = Some (t.Meet None)
+task_of Meet dot (n ∷ []) = Some (t.Meet (Some n))
+task_of Machine dot [] = Some (t.Machine (form_of dot))
+task_of Walk dot (rows ∷ []) = Some (t.Walk rows)
+task_of Lines dot [] = Some t.Lines
+task_of Clauses dot (n ∷ []) = Some (t.Clauses n)
+task_of Accept dot (n ∷ proof ∷ []) = Some (t.Accept (record { line = n; proof = proof }))
+task_of verb dot words = None
 
 abbrev pub job_with : Option Task → List ℕ → List ℕ → Choices → Option Command
 job_with None m s choices = None
@@ -49,7 +63,7 @@ job_with (Some task) m s choices = if takes task choices then Some (c.Texts (job
 abbrev pub texts_of : Verb → Choices → List (List ℕ) → Option Command
 texts_of verb choices [] = None
 texts_of verb choices (m ∷ []) = None
-texts_of verb choices (m ∷ s ∷ words) = job_with (task_of verb words) m s choices
+texts_of verb choices (m ∷ s ∷ words) = job_with (task_of verb choices.dot words) m s choices
 
 -- a generated check takes no options
 abbrev pub demo_of : Choices → List ℕ → Option Command
@@ -70,7 +84,7 @@ serve_within (Some port) None file choices = None
 
 abbrev pub serve_of : Choices → List ℕ → List ℕ → List ℕ → Option Command
 serve_of choices port count file =
-    if is_none choices.store then serve_within (number_within 1 65535 port) (number_within 1 1000000 count) file choices else None
+    if is_none choices.store && shows_by_default choices then serve_within (number_within 1 65535 port) (number_within 1 1000000 count) file choices else None
 
 -- the plain words are two files and what is done with them; for a generated check its number of stages; a port, a number of connections and a file; for a
 -- move of kept proofs one file
@@ -91,10 +105,13 @@ verb_of name =
     else if bytes_eq name (codes "check") then Some Check
     else if bytes_eq name (codes "trace") then Some Trace
     else if bytes_eq name (codes "least") then Some Least
+    else if bytes_eq name (codes "wave") then Some Wave
     else if bytes_eq name (codes "meet") then Some Meet
     else if bytes_eq name (codes "machine") then Some Machine
     else if bytes_eq name (codes "walk") then Some Walk
     else if bytes_eq name (codes "lines") then Some Lines
+    else if bytes_eq name (codes "clauses") then Some Clauses
+    else if bytes_eq name (codes "accept") then Some Accept
     else None
 
 abbrev pub action_of : List ℕ → Option Action

@@ -6,13 +6,13 @@ use Rattle.command_words.specs.declared.choices.Kind.TheVariants as v
 use Rattle.command_words.specs.Choices.{Choices, Kind, ends, flag, gives, plain, waits, wrong}
 
 abbrev pub choices_of : Chosen → Choices
-choices_of c = record { budget = c.budget; workers = c.workers; store = c.store; timeout = c.timeout; replied = c.replied; plain = c.plain.items }
+choices_of c = record { budget = c.budget; workers = c.workers; store = c.store; timeout = c.timeout; replied = c.replied; dot = c.dot; progress = c.progress; plain = c.plain.items }
 
 abbrev pub kind_meant : View → Kind
 kind_meant v.Ends = ends
 kind_meant (v.Waits o) = waits o
 kind_meant (v.Gives o w) = gives o w.now
-kind_meant v.Replied = flag
+kind_meant (v.Sets f) = flag f
 kind_meant v.Wrong = wrong
 kind_meant v.Plain = plain
 

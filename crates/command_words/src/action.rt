@@ -9,10 +9,13 @@ pub enum Verb {
     Check,
     Trace,
     Least,
+    Wave,
     Meet,
     Machine,
     Walk,
     Lines,
+    Clauses,
+    Accept,
 }
 
 /// The name of a command.
@@ -24,23 +27,46 @@ pub enum Action {
     Migrate,
 }
 
+/// How the operations of a set are shown.
+#[derive(Clone, Copy, Debug)]
+pub enum Form {
+    /// As lines of words.
+    Words,
+    /// As a graph in Graphviz's language.
+    Graph,
+}
+
 /// What is done with a module's text and a set's.
 #[derive(Drop)]
 pub enum Task {
     /// Lines of the report are decided: those on the design, all, or the one of a name, whose counterexample is shown, or the least one.
     Decide(Which),
+    /// The line of this name is decided, and its counterexample is shown as a waveform.
+    Wave(Text),
     /// What can be met is: `reset` and each operation, or the one of this name, of which the segment that meets it is shown.
     Meet(Option<Text>),
     /// All lines are decided, and the operations of a set that is signed off are shown as a machine.
-    Machine,
+    Machine(Form),
     /// So they are, and the path is shown that the run takes whose inputs stand in the file of this name.
     Walk(Text),
     /// The names of the lines are shown, and none is decided.
     Lines,
+    /// The clauses of the line of this name are shown, and nothing is decided.
+    Clauses(Text),
+    /// The line of a name is decided by a derivation that another solver made.
+    Accept(Acceptance),
+}
+
+/// The name of a line, and that of the file that holds a derivation of its clauses.
+#[derive(Drop)]
+pub struct Acceptance {
+    pub line: Text,
+    pub proof: Text,
 }
 
 /// What is done, the names of the two files, the most steps of the solver for a line (1 to 10,000,000, 20,000 where no option says), how many
-/// workers decide lines (1 to 64, 4 where no option says), and the file in which proofs are kept (none where no option says).
+/// workers decide lines (1 to 64, 4 where no option says), the file in which proofs are kept (none where no option says), and whether standard error is told
+/// how the work goes.
 #[derive(Drop)]
 pub struct Job {
     pub task: Task,
@@ -49,6 +75,7 @@ pub struct Job {
     pub budget: u64,
     pub workers: u32,
     pub store: Option<Text>,
+    pub progress: bool,
 }
 
 /// The port that is listened at (1 to 65,535), how many connections are served (1 to 1,000,000), the file that holds the desk, how many seconds a peer has

@@ -1,10 +1,10 @@
 // Options and plain words.
 ghost use Rattle.std.specs.Prelude.{◌≡◌, ◌≤◌, None, drop, length, map, option_map, string_bytes, IfOk, IfSome};
-ghost use Rattle.command_words.specs.Choices.{all_plain, chosen, given, is_hyphened, kind_of, named, other_kind, with_budget, with_plain, with_replied, with_store, with_timeout, with_workers};
+ghost use Rattle.command_words.specs.Choices.{all_plain, chosen, flag_named, given, is_hyphened, kind_of, named, other_kind, with_budget, with_flag, with_plain, with_store, with_timeout, with_workers};
 ghost use Rattle.command_words.specs.Numbers.{number_within};
 ghost use Rattle.command_words.specs.Seen.{AreBounded, choices_of, kind_meant};
 
-use crate::chosen::{Choice, Chosen};
+use crate::chosen::{Choice, Chosen, Flag};
 use crate::number::number_within;
 use outside::Text;
 use std::alloc::{AllocError, Global};
@@ -18,8 +18,8 @@ pub enum Kind<'a> {
     Waits(Choice),
     /// An option with its value.
     Gives(Choice, &'a [u8]),
-    /// The option that connections without a reply don't count.
-    Replied,
+    /// An option that has no value.
+    Sets(Flag),
     Wrong,
     Plain,
 }
@@ -36,6 +36,21 @@ fn named(word: &[u8]) -> Option<Choice>
         Some(Choice::Store)
     } else if word == b"--timeout".as_slice() {
         Some(Choice::Timeout)
+    } else {
+        None
+    }
+}
+
+// The option without a value that a word names.
+fn flag_named(word: &[u8]) -> Option<Flag>
+    ensures { result ≡ flag_named word.now }
+{
+    if word == b"--replied".as_slice() {
+        Some(Flag::Replied)
+    } else if word == b"--dot".as_slice() {
+        Some(Flag::Dot)
+    } else if word == b"--progress".as_slice() {
+        Some(Flag::Progress)
     } else {
         None
     }
@@ -73,8 +88,8 @@ fn kind_of(word: &[u8]) -> Kind<'_>
     if word == b"--".as_slice() {
         return Kind::Ends;
     }
-    if word == b"--replied".as_slice() {
-        return Kind::Replied;
+    if let Some(flag) = flag_named(word) {
+        return Kind::Sets(flag);
     }
     match named(word) {
         Some(choice) => Kind::Waits(choice),
@@ -139,19 +154,27 @@ fn with_timeout(word: &[u8], so_far: Chosen) -> Option<Chosen>
     })
 }
 
-// Choices with the option that has no value, where it isn't given yet.
-fn with_replied(so_far: Chosen) -> Option<Chosen>
+// Choices with an option that has no value, where it isn't given yet.
+fn with_flag(flag: Flag, so_far: Chosen) -> Option<Chosen>
     requires { AreBounded (choices_of so_far) }
-    ensures is { option_map choices_of result ≡ with_replied (choices_of so_far) }
+    ensures is { option_map choices_of result ≡ with_flag flag (choices_of so_far) }
     ensures bounded { IfSome result (λ c. AreBounded (choices_of c)) }
 {
-    if so_far.replied {
-        return None;
+    match flag {
+        Flag::Replied if !so_far.replied => Some(Chosen {
+            replied: true,
+            ..so_far
+        }),
+        Flag::Dot if !so_far.dot => Some(Chosen {
+            dot: true,
+            ..so_far
+        }),
+        Flag::Progress if !so_far.progress => Some(Chosen {
+            progress: true,
+            ..so_far
+        }),
+        Flag::Replied | Flag::Dot | Flag::Progress => None,
     }
-    Some(Chosen {
-        replied: true,
-        ..so_far
-    })
 }
 
 // Choices with a value of an option that has none yet.
@@ -236,7 +259,7 @@ pub fn choices_in(
                         Some(so_far) => choices_in(alloc, rest, None, so_far),
                         None => Ok(None),
                     },
-                    Kind::Replied => match with_replied(so_far) {
+                    Kind::Sets(flag) => match with_flag(flag, so_far) {
                         Some(so_far) => choices_in(alloc, rest, None, so_far),
                         None => Ok(None),
                     },

@@ -1,9 +1,9 @@
 // Commands.
 ghost use Rattle.std.specs.Prelude.{◌≡◌, ◌≤◌, map, option_map, string_bytes, IfOk, IfSome};
-ghost use Rattle.command_words.specs.Commands.{HasBounds, IsBounded, action_of, command_of, demo_of, job_of, migrate_of, port_of, serve_of, service_of, store_of, takes, task_of, texts_of, timeout_of, verb_of, with_plain_words, IsServed};
+ghost use Rattle.command_words.specs.Commands.{HasBounds, IsBounded, action_of, command_of, demo_of, form_of, job_of, migrate_of, port_of, serve_of, service_of, store_of, takes, task_of, texts_of, timeout_of, verb_of, with_plain_words, IsServed};
 ghost use Rattle.command_words.specs.Seen.{AreBounded, choices_of};
 
-use crate::action::{Action, Command, Job, Service, Task, Verb, Wants};
+use crate::action::{Acceptance, Action, Command, Form, Job, Service, Task, Verb, Wants};
 use crate::choices::choices_in;
 use crate::chosen::Chosen;
 use crate::number::number_within;
@@ -22,6 +22,8 @@ fn verb_of(name: &[u8]) -> Option<Verb>
         Some(Verb::Trace)
     } else if name == b"least".as_slice() {
         Some(Verb::Least)
+    } else if name == b"wave".as_slice() {
+        Some(Verb::Wave)
     } else if name == b"meet".as_slice() {
         Some(Verb::Meet)
     } else if name == b"machine".as_slice() {
@@ -30,6 +32,10 @@ fn verb_of(name: &[u8]) -> Option<Verb>
         Some(Verb::Walk)
     } else if name == b"lines".as_slice() {
         Some(Verb::Lines)
+    } else if name == b"clauses".as_slice() {
+        Some(Verb::Clauses)
+    } else if name == b"accept".as_slice() {
+        Some(Verb::Accept)
     } else {
         None
     }
@@ -73,35 +79,50 @@ fn job_of(
         budget: choices.budget.unwrap_or(20_000),
         workers: choices.workers.unwrap_or(4),
         store,
+        progress: choices.progress,
     })
 }
 
-// Whether a task may have these options: where no line is decided there are none, and else none of serving.
+// Whether a task may have these options: where no line is decided there are none, and else none of serving; a derivation is accepted into a file of proofs, which
+// has to be named.
 fn takes(task: &Task, choices: &Chosen) -> bool
     ensures { result ≡ takes task.now (choices_of choices.now) }
 {
     match task {
-        Task::Decide(_) | Task::Meet(_) | Task::Machine | Task::Walk(_) => {
-            choices.serves_by_default()
-        }
-        Task::Lines => choices.has_no_options(),
+        Task::Decide(_) | Task::Wave(_) | Task::Meet(_) | Task::Walk(_) => choices.decides(),
+        Task::Machine(_) => choices.serves_by_default(),
+        Task::Lines | Task::Clauses(_) => choices.has_no_options(),
+        Task::Accept(_) => choices.has_store_alone(),
     }
 }
 
-// What is done with two texts, by the words behind their files.
-fn task_of(alloc: Global, verb: Verb, words: &[Text]) -> Result<Option<Task>, AllocError>
-    ensures { IfOk result (λ o. o ≡ task_of verb words.now) }
+// How a machine is shown.
+fn form_of(dot: bool) -> Form
+    ensures { result ≡ form_of dot }
+{
+    if dot { Form::Graph } else { Form::Words }
+}
+
+// What is done with two texts, by the words behind their files, and whether a machine is shown as a graph.
+fn task_of(alloc: Global, verb: Verb, dot: bool, words: &[Text]) -> Result<Option<Task>, AllocError>
+    ensures { IfOk result (λ o. o ≡ task_of verb dot words.now) }
 {
     let task = match (verb, words) {
         (Verb::Ops, []) => Task::Decide(Which::Ops),
         (Verb::Check, []) => Task::Decide(Which::All),
         (Verb::Trace, [line]) => Task::Decide(Which::One(Text::copy(alloc, line.bytes())?)),
         (Verb::Least, [line]) => Task::Decide(Which::Least(Text::copy(alloc, line.bytes())?)),
+        (Verb::Wave, [line]) => Task::Wave(Text::copy(alloc, line.bytes())?),
         (Verb::Meet, []) => Task::Meet(None),
         (Verb::Meet, [line]) => Task::Meet(Some(Text::copy(alloc, line.bytes())?)),
-        (Verb::Machine, []) => Task::Machine,
+        (Verb::Machine, []) => Task::Machine(form_of(dot)),
         (Verb::Walk, [rows]) => Task::Walk(Text::copy(alloc, rows.bytes())?),
         (Verb::Lines, []) => Task::Lines,
+        (Verb::Clauses, [line]) => Task::Clauses(Text::copy(alloc, line.bytes())?),
+        (Verb::Accept, [line, proof]) => Task::Accept(Acceptance {
+            line: Text::copy(alloc, line.bytes())?,
+            proof: Text::copy(alloc, proof.bytes())?,
+        }),
         _ => return Ok(None),
     };
     Ok(Some(task))
@@ -121,7 +142,7 @@ fn texts_of(
     let [module, set, rest @ ..] = words else {
         return Ok(None);
     };
-    match task_of(alloc, verb, rest)? {
+    match task_of(alloc, verb, choices.dot, rest)? {
         Some(task) if takes(&task, choices) => {
             let job = job_of(alloc, task, module, set, choices)?;
             Ok(Some(Command::Texts(job)))
@@ -190,7 +211,7 @@ fn serve_of(
     ensures is { IfOk result (λ o. o ≡ serve_of (choices_of choices.now) port.now count.now file.now) }
     ensures bounded { IfOk result (λ o. IfSome o IsBounded) }
 {
-    if choices.store.is_some() {
+    if choices.store.is_some() || !choices.shows_by_default() {
         return Ok(None);
     }
     let Some(port) = number_within(1, 65_535, port.bytes()) else {
@@ -222,7 +243,7 @@ fn with_plain_words(
 }
 
 /// The command that words spell. The first one is its name. Options stand anywhere after it, each at most once, as `--x v` or `--x=v`, or as
-/// `--replied`, which has no value; a value of the first form doesn't begin with `-`. The word `--` ends the options, and before it any other word
+/// `--replied`, `--dot` and `--progress`, which have no value; a value of the first form doesn't begin with `-`. The word `--` ends the options, and before it any other word
 /// that begins with `-` and isn't `-` alone is wrong. A number is 1 to 10 decimal digits and nothing else. None: the words are no command.
 pub fn command_in(alloc: Global, words: &[String]) -> Result<Option<Command>, AllocError>
     ensures is { IfOk result (λ o. o ≡ command_of (map string_bytes words.now)) }
@@ -239,6 +260,8 @@ pub fn command_in(alloc: Global, words: &[String]) -> Result<Option<Command>, Al
                     store: None,
                     timeout: None,
                     replied: false,
+                    dot: false,
+                    progress: false,
                     plain: Vec::new(alloc),
                 };
                 match choices_in(alloc, rest, None, nothing)? {

@@ -7,5 +7,5 @@ mod chosen;
 mod command;
 mod number;
 
-pub use action::{Command, Job, Service, Task, Wants};
+pub use action::{Acceptance, Command, Form, Job, Service, Task, Wants};
 pub use command::{command_in, wants};

@@ -52,7 +52,7 @@ fn tile_sentence(alloc: Global, set: &Set, edge: Edge) -> Result<String, AllocEr
         (Some(end), Some(begin)) => {
             let begin = begin.from;
             format!(in alloc;
-                "where {to} follows {from}, the cover of `{output}` ends in cycle {end} of {to}, but that of {to} begins in cycle {begin}"
+                "in cycles of {to}, the cover of `{output}` by {from} ends in {end}, but that by {to} begins in {begin}"
             )
         }
         _ => format!(in alloc;

@@ -9,10 +9,15 @@ M is a file of Verilog modules, S a file with a set of operation properties.
   ops M S             decide the lines about the block alone
   trace M S LINE      decide one line, and put its counterexample
   least M S LINE      decide one line, and put its least counterexample
+  wave M S LINE       decide one line, and put its counterexample as a waveform
   lines M S           put the names of the report's lines
   meet M S [NAME]     say whether anything meets reset and each operation
-  machine M S         put the operations of a signed-off set as a machine
+  machine M S         put the operations of a signed-off set as a machine, or
+                      with --dot as a graph in Graphviz's language
   walk M S ROWS       put the path of operations of a run, by its rows of inputs
+  clauses M S LINE    put the clauses of a line for other solvers, in DIMACS
+  accept M S LINE PROOF --store FILE
+                      keep another solver's LRAT derivation, and decide the line
   demo N              check a generated chain of N stages, 1 to 64
   serve PORT COUNT FILE
                       serve the desk in FILE to COUNT local connections
@@ -22,9 +27,10 @@ Options, anywhere behind the command, as --budget 5 or --budget=5:
   --budget B          most steps of the solver a line, 1 to 10,000,000 (20,000)
   --workers W         lines decided side by side, 1 to 64 (4)
   --store FILE        file in which proofs are kept for the next check (none)
+  --progress          tell on standard error how the work goes
   --timeout S         serve: seconds for a request and a reply, 1 to 3,600 (10)
   --replied           serve: count connections that got a reply alone
-demo and migrate take no option; serve takes no --store.
+lines, clauses, demo and migrate take no option, accept takes --store alone.
 
 Status:
    0  all is proved, or met, or served      1  a line is refuted, or unmet
@@ -33,7 +39,7 @@ Status:
    6  a file can't be read                  7  the output can't be written
    8  the store failed                      9  there is no next connection
   10  a line is spent, none is refuted     11  rows are refused
-  70  out of memory
+  12  a derivation isn't accepted          70  out of memory
 ";
 
 const VERSION: &[u8] =

@@ -35,7 +35,7 @@ pub fn mem_finding(
             alloc,
             sources,
             name,
-            "is a memory and is used without exactly one index: write `m[i]`, and `@*` in a block that reads it",
+            "is a memory that is used without one index: write `m[i]`, and `@*` in a block that reads it",
         ),
         MemFault::Nested(name) => named(
             alloc,
@@ -47,7 +47,7 @@ pub fn mem_finding(
             alloc,
             sources,
             name,
-            "isn't written as a memory has to be: it is unsigned, and `<=` in clocked blocks and nothing else assigns it",
+            "isn't a memory as it has to be: unsigned, and assigned by `<=` in clocked blocks alone",
         ),
         MemFault::Uses => {
             let sentence =

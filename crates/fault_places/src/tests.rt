@@ -31,583 +31,105 @@ operation stay { length 1; assume !en@0; commit c@1 == c@0 + 2'd1; hand c@0;
   cover o from 1 to 2; next go, stay; }
 ";
 
-/// What is written in place of something, the begin of what is said then, and a part of its sentence.
-struct Row {
-    old: &'static str,
-    new: &'static str,
-    place: &'static str,
-    part: &'static str,
-}
+// Rows: what is written in place of something, the begin of what is said then, and a part of its sentence, with a tab between them. `\n` is a line feed.
 
-static MODULE_ROWS: [Row; 55] = [
-    Row {
-        old: "  wire n;",
-        new: "  wire n; /* open",
-        place: "m.v:6:11: error: ",
-        part: "has no end",
-    },
-    Row {
-        old: "  wire n;",
-        new: "  wire n; (* keep",
-        place: "m.v:6:11: error: ",
-        part: "attribute",
-    },
-    Row {
-        old: "2'd1",
-        new: "65'd1",
-        place: "m.v:9:59: error: ",
-        part: "a size is 1 to 64",
-    },
-    Row {
-        old: "2'd0",
-        new: "'0",
-        place: "m.v:9:39: error: ",
-        part: "SystemVerilog",
-    },
-    Row {
-        old: "  wire n;",
-        new: "  wire n; initial c = 0;",
-        place: "m.v:6:11: error: ",
-        part: "first value under the reset",
-    },
-    Row {
-        old: "  wire n;",
-        new: "  wire n; integer i;",
-        place: "m.v:6:11: error: ",
-        part: "`reg` or `wire` with a range",
-    },
-    Row {
-        old: "  wire n;",
-        new: "`ifdef X\n  wire n;\n`endif",
-        place: "m.v:6:1: error: ",
-        part: "preprocessor",
-    },
-    Row {
-        old: "else c <= c",
-        new: "else for (i = 0; i < 2; i = i + 1) c <= c",
-        place: "m.v:9:50: error: ",
-        part: "unroll",
-    },
-    Row {
-        old: "  wire n;",
-        new: "  wire n; function f; input a; f = a; endfunction",
-        place: "m.v:6:11: error: ",
-        part: "where it is called",
-    },
-    Row {
-        old: "  wire n;",
-        new: "  wire n; always @* casex (c) 0: n = 1; endcase",
-        place: "m.v:6:21: error: ",
-        part: "casez",
-    },
-    Row {
-        old: "  wire n;",
-        new: "  wire n; wire k = 1'bx;",
-        place: "m.v:6:20: error: ",
-        part: "a digit `x` has no value",
-    },
-    Row {
-        old: "  wire n;",
-        new: "  wire n; wire k = c === 2'd1;",
-        place: "m.v:6:22: error: ",
-        part: "use `==`",
-    },
-    Row {
-        old: "  wire n;",
-        new: "  wire n; wire k = $clog2(4);",
-        place: "m.v:6:20: error: ",
-        part: "it stands for no hardware",
-    },
-    Row {
-        old: "  wire n;",
-        new: "  wire n; and (n, a, b);",
-        place: "m.v:6:11: error: ",
-        part: "operator",
-    },
-    Row {
-        old: "reg [1:0] c;",
-        new: "reg [1:0] c = 0;",
-        place: "m.v:5:15: error: ",
-        part: "takes no value here",
-    },
-    Row {
-        old: "always @(posedge clk) if (rst) c",
-        new: "always_ff @(posedge clk) if (rst) c",
-        place: "m.v:9:13: error: ",
-        part: "`always_ff` is SystemVerilog",
-    },
-    Row {
-        old: "wire n;",
-        new: "logic n;",
-        place: "m.v:6:10: error: ",
-        part: "`logic` is SystemVerilog",
-    },
-    Row {
-        old: "wire n;",
-        new: "parameter int N = 4;",
-        place: "m.v:6:17: error: ",
-        part: "parameter without a type",
-    },
-    Row {
-        old: "wire n;",
-        new: "wire n",
-        place: "m.v:7:3: error: ",
-        part: "may be missing before",
-    },
-    Row {
-        old: "  assign o",
-        new: "  assign #1 o",
-        place: "m.v:8:10: error: ",
-        part: "delays",
-    },
-    Row {
-        old: "  assign o",
-        new: "  if (N) assign o",
-        place: "m.v:8:3: error: ",
-        part: "outside of an `always`",
-    },
-    Row {
-        old: ".d(en)",
-        new: ".d(en), .*",
-        place: "m.v:7:41: error: ",
-        part: ".port(expression)",
-    },
-    Row {
-        old: "2'd1;\nendmodule\n",
-        new: "2'd1;\n",
-        place: "m.v:9:64: error: ",
-        part: "the text ends within a module",
-    },
-    Row {
-        old: ".d(en)",
-        new: ".d(enn)",
-        place: "m.v:7:35: error: ",
-        part: "isn't declared in the module `top`",
-    },
-    Row {
-        old: "leaf u",
-        new: "leaff u",
-        place: "m.v:7:3: error: ",
-        part: "the text doesn't have",
-    },
-    Row {
-        old: "leaf u",
-        new: "leaf #(3) u",
-        place: "m.v:7:13: error: ",
-        part: "more parameters",
-    },
-    Row {
-        old: ".d(en)",
-        new: ".x(en)",
-        place: "m.v:7:33: error: ",
-        part: "no port or parameter",
-    },
-    Row {
-        old: "  wire n;",
-        new: "  wire n; wire n;",
-        place: "m.v:6:16: error: ",
-        part: "declared twice",
-    },
-    Row {
-        old: "module top",
-        new: "module leaf(input a); endmodule\nmodule top",
-        place: "m.v:4:8: error: ",
-        part: "two modules are named",
-    },
-    Row {
-        old: "(.clk(clk), .rst(rst), .d(en), .q(n))",
-        new: "(clk, rst, en)",
-        place: "m.v:7:8: error: ",
-        part: "more or fewer connections",
-    },
-    Row {
-        old: ".q(n)",
-        new: ".q(n & en)",
-        place: "m.v:7:41: error: ",
-        part: "can't be assigned",
-    },
-    Row {
-        old: "module leaf(input clk, input rst, input d, output reg q);",
-        new: "module leaf(clk, rst, d, q); input clk; input rst; output reg q;",
-        place: "m.v:1:23: error: ",
-        part: "isn't declared in the module `leaf`",
-    },
-    Row {
-        old: "module leaf(input clk, input rst, input d, output reg q);",
-        new: "module leaf(clk, rst, d, q); input clk, rst, d, z; output reg q;",
-        place: "m.v:1:49: error: ",
-        part: "isn't both listed in the header of `leaf`",
-    },
-    Row {
-        old: "endmodule\nmodule top",
-        new: "leaf v(clk, rst, d, q); endmodule\nmodule top",
-        place: "m.v:7:8: error: ",
-        part: "contains itself",
-    },
-    Row {
-        old: "reg [1:0] c",
-        new: "reg [en:0] c",
-        place: "m.v:5:14: error: ",
-        part: "isn't constant",
-    },
-    Row {
-        old: "c + 2",
-        new: "c / en + 2",
-        place: "m.v:9:57: error: ",
-        part: "operand of `/`",
-    },
-    Row {
-        old: "reg [1:0] c",
-        new: "reg [64:0] c",
-        place: "m.v:5:14: error: ",
-        part: "isn't 1 to 64 bits",
-    },
-    Row {
-        old: "c[0]",
-        new: "c[2:1]",
-        place: "m.v:8:19: error: ",
-        part: "leaves its vector",
-    },
-    Row {
-        old: "@(posedge clk) if (rst) c",
-        new: "@(negedge clk) if (rst) c",
-        place: "m.v:9:12: error: ",
-        part: "falling edge",
-    },
-    Row {
-        old: "@(posedge clk) if (rst) c",
-        new: "@(posedge clk or posedge rst or posedge en) if (rst) c",
-        place: "m.v:9:12: error: ",
-        part: "two others",
-    },
-    Row {
-        old: "@(posedge clk) if (rst) c",
-        new: "@(posedge clk or negedge rst) if (rst) c",
-        place: "m.v:9:12: error: ",
-        part: "so the block is `if (!rst) .. else ..`",
-    },
-    Row {
-        old: "@(posedge clk) if (rst) c",
-        new: "@(posedge n) if (rst) c",
-        place: "m.v:9:12: error: ",
-        part: "is no input of the top",
-    },
-    Row {
-        old: "@(posedge clk) if (rst) c",
-        new: "@(posedge en) if (rst) c",
-        place: "m.v:4:18: error: ",
-        part: "one of two clocks",
-    },
-    Row {
-        old: "{n, c[0]}",
-        new: "{clk, c[0]}",
-        place: "m.v:8:15: error: ",
-        part: "is read here",
-    },
-    Row {
-        old: "reg [1:0] c;",
-        new: "reg [1:0] c; reg [7:0] m [0:3];",
-        place: "m.v:5:26: error: ",
-        part: "as a memory has to be",
-    },
-    Row {
-        old: "  wire n;",
-        new: "  wire n; reg k; always @* if (en) k = 1;",
-        place: "m.v:6:15: error: ",
-        part: "leaves `k` unset",
-    },
-    Row {
-        old: "  wire n;",
-        new: "  wire n; wire k = !k;",
-        place: "m.v:6:16: error: ",
-        part: "depends on itself",
-    },
-    Row {
-        old: "  assign o",
-        new: "  assign n = 0;\n  assign o",
-        place: "m.v:6:8: error: ",
-        part: "bit 0 of `n` has two drivers",
-    },
-    Row {
-        old: ".q(n)",
-        new: ".q()",
-        place: "m.v:6:8: error: ",
-        part: "bit 0 of `n` is read",
-    },
-    Row {
-        old: "q <= 1'b0; else q <= d",
-        new: "",
-        place: "m.v:1:55: error: ",
-        part: "bit 0 of `u.q` is read",
-    },
-    Row {
-        old: "  wire n;",
-        new: "  wire n; reg k; always @(en) k = en & c[0];",
-        place: "m.v:5:13: error: ",
-        part: "list of events leaves out",
-    },
-    Row {
-        old: "c <= 2'd0",
-        new: "c = 2'd0",
-        place: "m.v:5:13: error: ",
-        part: "is a `reg`",
-    },
-    Row {
-        old: "reg [1:0] c;",
-        new: "wire [1:0] c;",
-        place: "m.v:5:14: error: ",
-        part: "is a wire",
-    },
-    Row {
-        old: "input en,",
-        new: "input en, input scan,",
-        place: "m.v:4:50: error: ",
-        part: "lacks the input `scan`",
-    },
-    Row {
-        old: "@(posedge clk) if (rst) c",
-        new: "@(posedge clk or negedge rst) if (!rst) c",
-        place: "s.set:1:29: error: ",
-        part: "isn't the block's reset",
-    },
-];
+const MODULE_ROWS: &str = "  wire n;\t  wire n; /* open\tm.v:6:11: error: \thas no end
+  wire n;\t  wire n; (* keep\tm.v:6:11: error: \tattribute
+2'd1\t65'd1\tm.v:9:59: error: \ta size is 1 to 64
+2'd0\t'0\tm.v:9:39: error: \tSystemVerilog
+  wire n;\t  wire n; initial c = 0;\tm.v:6:11: error: \tfirst value under the reset
+  wire n;\t  wire n; integer i;\tm.v:6:11: error: \t`reg` or `wire` with a range
+  wire n;\t`ifdef X\\n  wire n;\\n`endif\tm.v:6:1: error: \tpreprocessor
+else c <= c\telse for (i = 0; i < 2; i = i + 1) c <= c\tm.v:9:50: error: \tunroll
+  wire n;\t  wire n; function f; input a; f = a; endfunction\tm.v:6:11: error: \twhere it is called
+  wire n;\t  wire n; always @* casex (c) 0: n = 1; endcase\tm.v:6:21: error: \tcasez
+  wire n;\t  wire n; wire k = 1'bx;\tm.v:6:20: error: \ta digit `x` has no value
+  wire n;\t  wire n; wire k = c === 2'd1;\tm.v:6:22: error: \tuse `==`
+  wire n;\t  wire n; wire k = $clog2(4);\tm.v:6:20: error: \tit stands for no hardware
+  wire n;\t  wire n; and (n, a, b);\tm.v:6:11: error: \toperator
+reg [1:0] c;\treg [1:0] c = 0;\tm.v:5:15: error: \ttakes no value here
+always @(posedge clk) if (rst) c\talways_ff @(posedge clk) if (rst) c\tm.v:9:13: error: \t`always_ff` is SystemVerilog
+wire n;\tlogic n;\tm.v:6:10: error: \t`logic` is SystemVerilog
+wire n;\tparameter int N = 4;\tm.v:6:17: error: \tparameter without a type
+wire n;\twire n\tm.v:7:3: error: \tmay be missing before
+  assign o\t  assign #1 o\tm.v:8:10: error: \tdelays
+  assign o\t  if (N) assign o\tm.v:8:3: error: \toutside of an `always`
+.d(en)\t.d(en), .*\tm.v:7:41: error: \t.port(expression)
+2'd1;\\nendmodule\\n\t2'd1;\\n\tm.v:9:64: error: \tthe text ends within a module
+.d(en)\t.d(enn)\tm.v:7:35: error: \tisn't declared in the module `top`
+leaf u\tleaff u\tm.v:7:3: error: \tthe text doesn't have
+leaf u\tleaf #(3) u\tm.v:7:13: error: \tmore parameters
+.d(en)\t.x(en)\tm.v:7:33: error: \tno port or parameter
+  wire n;\t  wire n; wire n;\tm.v:6:16: error: \tdeclared twice
+module top\tmodule leaf(input a); endmodule\\nmodule top\tm.v:4:8: error: \ttwo modules are named
+(.clk(clk), .rst(rst), .d(en), .q(n))\t(clk, rst, en)\tm.v:7:8: error: \tmore or fewer connections
+.q(n)\t.q(n & en)\tm.v:7:41: error: \tcan't be assigned
+module leaf(input clk, input rst, input d, output reg q);\tmodule leaf(clk, rst, d, q); input clk; input rst; output reg q;\tm.v:1:23: error: \tisn't declared in the module `leaf`
+module leaf(input clk, input rst, input d, output reg q);\tmodule leaf(clk, rst, d, q); input clk, rst, d, z; output reg q;\tm.v:1:49: error: \tisn't both listed in the header of `leaf`
+endmodule\\nmodule top\tleaf v(clk, rst, d, q); endmodule\\nmodule top\tm.v:7:8: error: \tcontains itself
+reg [1:0] c\treg [en:0] c\tm.v:5:14: error: \tisn't constant
+c + 2\tc / en + 2\tm.v:9:57: error: \toperand of `/`
+reg [1:0] c\treg [64:0] c\tm.v:5:14: error: \tisn't 1 to 64 bits
+c[0]\tc[2:1]\tm.v:8:19: error: \tleaves its vector
+@(posedge clk) if (rst) c\t@(negedge clk) if (rst) c\tm.v:9:12: error: \tfalling edge
+@(posedge clk) if (rst) c\t@(posedge clk or posedge rst or posedge en) if (rst) c\tm.v:9:12: error: \ttwo others
+@(posedge clk) if (rst) c\t@(posedge clk or negedge rst) if (rst) c\tm.v:9:12: error: \tso the block is `if (!rst) .. else ..`
+@(posedge clk) if (rst) c\t@(posedge n) if (rst) c\tm.v:9:12: error: \tis no input of the top
+@(posedge clk) if (rst) c\t@(posedge en) if (rst) c\tm.v:4:18: error: \tone of two clocks
+{n, c[0]}\t{clk, c[0]}\tm.v:8:15: error: \tis read here
+reg [1:0] c;\treg [1:0] c; reg [7:0] m [0:3];\tm.v:5:26: error: \tisn't a memory as it has to be
+  wire n;\t  wire n; reg k; always @* if (en) k = 1;\tm.v:6:15: error: \tleaves `k` unset
+  wire n;\t  wire n; wire k = !k;\tm.v:6:16: error: \tdepends on itself
+  assign o\t  assign n = 0;\\n  assign o\tm.v:6:8: error: \tbit 0 of `n` has two drivers
+.q(n)\t.q()\tm.v:6:8: error: \tbit 0 of `n` is read
+q <= 1'b0; else q <= d\t\tm.v:1:55: error: \tbit 0 of `u.q` is read
+  wire n;\t  wire n; reg k; always @(en) k = en & c[0];\tm.v:5:13: error: \tlist of events leaves out
+c <= 2'd0\tc = 2'd0\tm.v:5:13: error: \tis a `reg`
+reg [1:0] c;\twire [1:0] c;\tm.v:5:14: error: \tis a wire
+input en,\tinput en, input scan,\tm.v:4:50: error: \tlacks the input `scan`
+@(posedge clk) if (rst) c\t@(posedge clk or negedge rst) if (!rst) c\ts.set:1:29: error: \tisn't the block's reset
+";
 
-static SET_ROWS: [Row; 39] = [
-    Row {
-        old: "block top",
-        new: "block topp",
-        place: "s.set:1:7: error: ",
-        part: "no module `topp`",
-    },
-    Row {
-        old: "assume en@0; commit c@1",
-        new: "commit c@1 == c@0; assume en@0; commit c@1",
-        place: "s.set:6:45: error: ",
-        part: "the order in a property is",
-    },
-    Row {
-        old: "property reset",
-        new: "state q;\nproperty reset",
-        place: "s.set:5:1: error: ",
-        part: "the order in a set is",
-    },
-    Row {
-        old: "property reset",
-        new: "property rst",
-        place: "s.set:5:10: error: ",
-        part: "`property reset`",
-    },
-    Row {
-        old: "c@0 + 2'd1; hand",
-        new: "c@0 / 2'd1; hand",
-        place: "s.set:6:57: error: ",
-        part: "no `/`",
-    },
-    Row {
-        old: "c@0 + 2'd1; hand",
-        new: "c@x + 2'd1; hand",
-        place: "s.set:6:55: error: ",
-        part: "plain number",
-    },
-    Row {
-        old: "next go, stay; }\n",
-        new: "next go, stay;",
-        place: "s.set:7:38: error: ",
-        part: "before this operation is missing",
-    },
-    Row {
-        old: "high 1",
-        new: "high 17",
-        place: "s.set:1:38: error: ",
-        part: "1 to 16 cycles",
-    },
-    Row {
-        old: "2'd3 ||",
-        new: "65'd3 ||",
-        place: "s.set:4:25: error: ",
-        part: "breaks a rule",
-    },
-    Row {
-        old: "@0 != 2'd3 ||",
-        new: "@0 !== 2'd3 ||",
-        place: "s.set:4:22: error: ",
-        part: "use `!=`",
-    },
-    Row {
-        old: "hand c@0;",
-        new: "hand k@0;",
-        place: "s.set:6:70: error: ",
-        part: "isn't declared in the set",
-    },
-    Row {
-        old: "next go; }",
-        new: "next goo; }",
-        place: "s.set:5:74: error: ",
-        part: "no operation is named `goo`",
-    },
-    Row {
-        old: "state u.q",
-        new: "state u.q; state u.q",
-        place: "s.set:2:59: error: ",
-        part: "declares `u.q` twice",
-    },
-    Row {
-        old: "constraint quiet",
-        new: "constraint tiny",
-        place: "s.set:4:11: error: ",
-        part: "are named `tiny`",
-    },
-    Row {
-        old: "next go; }",
-        new: "next go, go; }",
-        place: "s.set:5:78: error: ",
-        part: "twice in a list of successors",
-    },
-    Row {
-        old: "cover o from 0",
-        new: "cover k from 0",
-        place: "s.set:5:54: error: ",
-        part: "no output of the set",
-    },
-    Row {
-        old: "state [1:0] c",
-        new: "state [64:0] c",
-        place: "s.set:2:33: error: ",
-        part: "a width is 1 to 64",
-    },
-    Row {
-        old: "length 1; assume en",
-        new: "length 65; assume en",
-        place: "s.set:6:23: error: ",
-        part: "1 to 64 cycles",
-    },
-    Row {
-        old: "length 1; assume en",
-        new: "length 2 to 65 until en@0; assume en",
-        place: "s.set:6:28: error: ",
-        part: "the greatest length isn't below",
-    },
-    Row {
-        old: "cover o from 0",
-        new: "cover c from 0",
-        place: "s.set:5:54: error: ",
-        part: "no output of the set: a cover",
-    },
-    Row {
-        old: "length 1; assume en",
-        new: "length 2; window 1; assume en",
-        place: "s.set:6:33: error: ",
-        part: "from its property's greatest length",
-    },
-    Row {
-        old: "commit c@1 == c@0 + 2'd1; hand c@0;\n  cover o from 1 to 2; next go, stay; }\noperation",
-        new: "commit c@2 == c@0 + 2'd1; hand c@0;\n  cover o from 1 to 2; next go, stay; }\noperation",
-        place: "s.set:6:47: error: ",
-        part: "operation go reads behind its window, cycle 1",
-    },
-    Row {
-        old: "c@0 != 2'd3",
-        new: "c@1 != 2'd3",
-        place: "s.set:4:19: error: ",
-        part: "the invariant tiny",
-    },
-    Row {
-        old: "output [1:0] o;",
-        new: "output [1:0] o when en@1;",
-        place: "s.set:2:33: error: ",
-        part: "the `when` of `o`",
-    },
-    Row {
-        old: "next go; }",
-        new: "next reset, go; }",
-        place: "s.set:5:69: error: ",
-        part: "property reset has `reset` as a successor",
-    },
-    Row {
-        old: "== 2'd0; cover",
-        new: "== 2'd0; hand c@0; cover",
-        place: "s.set:5:48: error: ",
-        part: "hands something over",
-    },
-    Row {
-        old: "cover o from 0 to 1; ",
-        new: "",
-        place: "s.set:5:10: error: ",
-        part: "has no cover of `o`",
-    },
-    Row {
-        old: "cover o from 0 to 1",
-        new: "cover o from 1 to 2",
-        place: "s.set:5:48: error: ",
-        part: "begins at 0",
-    },
-    Row {
-        old: "cover o from 0 to 1;",
-        new: "cover o from 0 to 1; cover o from 0 to 1;",
-        place: "s.set:5:48: error: ",
-        part: "several covers",
-    },
-    Row {
-        old: "length 1; assume en@0;",
-        new: "length 1 to 2 until en; assume en@0;",
-        place: "s.set:7:3: error: ",
-        part: "to end + ..",
-    },
-    Row {
-        old: "length 1; assume en@0;",
-        new: "length 1 to 2 until en@1; assume en@0;",
-        place: "s.set:6:38: error: ",
-        part: "the `until` of operation go",
-    },
-    Row {
-        old: "  cover o from 1 to 2; next go, stay; }\noperation",
-        new: "  cover o from 1 to 1; next go, stay; }\noperation",
-        place: "s.set:7:3: error: ",
-        part: "ends in cycle 0 of go, but that of go begins in cycle 1",
-    },
-    Row {
-        old: "invariant tiny",
-        new: "invariant small",
-        place: "s.set:4:11: error: ",
-        part: "reserved word",
-    },
-    Row {
-        old: "state u.q",
-        new: "state u.r",
-        place: "s.set:2:48: error: ",
-        part: "no signal `u.r`",
-    },
-    Row {
-        old: "output [1:0] o",
-        new: "output [2:0] o",
-        place: "s.set:2:24: error: ",
-        part: "3 bits here and 2 in the block",
-    },
-    Row {
-        old: "input en;",
-        new: "state en;",
-        place: "s.set:2:7: error: ",
-        part: "declared as a state",
-    },
-    Row {
-        old: "input en;",
-        new: "input en; input n;",
-        place: "s.set:2:17: error: ",
-        part: "declared as an input",
-    },
-    Row {
-        old: "clock clk",
-        new: "clock en",
-        place: "m.v:4:18: error: ",
-        part: "its clock `en`",
-    },
-    Row {
-        old: "clock clk; reset rst high",
-        new: "clock rst; reset clk high",
-        place: "s.set:1:18: error: ",
-        part: "isn't the block's clock",
-    },
-];
+const SET_ROWS: &str = "block top\tblock topp\ts.set:1:7: error: \tno module `topp`
+assume en@0; commit c@1\tcommit c@1 == c@0; assume en@0; commit c@1\ts.set:6:45: error: \tthe order in a property is
+property reset\tstate q;\\nproperty reset\ts.set:5:1: error: \tthe order in a set is
+property reset\tproperty rst\ts.set:5:10: error: \t`property reset`
+c@0 + 2'd1; hand\tc@0 / 2'd1; hand\ts.set:6:57: error: \tno `/`
+c@0 + 2'd1; hand\tc@x + 2'd1; hand\ts.set:6:55: error: \tplain number
+next go, stay; }\\n\tnext go, stay;\ts.set:7:38: error: \tbefore this operation is missing
+high 1\thigh 17\ts.set:1:38: error: \t1 to 16 cycles
+2'd3 ||\t65'd3 ||\ts.set:4:25: error: \tbreaks a rule
+@0 != 2'd3 ||\t@0 !== 2'd3 ||\ts.set:4:22: error: \tuse `!=`
+hand c@0;\thand k@0;\ts.set:6:70: error: \tisn't declared in the set
+next go; }\tnext goo; }\ts.set:5:74: error: \tno operation is named `goo`
+state u.q\tstate u.q; state u.q\ts.set:2:59: error: \tdeclares `u.q` twice
+constraint quiet\tconstraint tiny\ts.set:4:11: error: \tare named `tiny`
+next go; }\tnext go, go; }\ts.set:5:78: error: \ttwice in a list of successors
+cover o from 0\tcover k from 0\ts.set:5:54: error: \tno output of the set
+state [1:0] c\tstate [64:0] c\ts.set:2:33: error: \ta width is 1 to 64
+length 1; assume en\tlength 65; assume en\ts.set:6:23: error: \t1 to 64 cycles
+length 1; assume en\tlength 2 to 65 until en@0; assume en\ts.set:6:28: error: \tthe greatest length isn't below
+cover o from 0\tcover c from 0\ts.set:5:54: error: \tno output of the set: a cover
+length 1; assume en\tlength 2; window 1; assume en\ts.set:6:33: error: \tfrom its property's greatest length
+commit c@1 == c@0 + 2'd1; hand c@0;\\n  cover o from 1 to 2; next go, stay; }\\noperation\tcommit c@2 == c@0 + 2'd1; hand c@0;\\n  cover o from 1 to 2; next go, stay; }\\noperation\ts.set:6:47: error: \toperation go reads behind its window, cycle 1
+c@0 != 2'd3\tc@1 != 2'd3\ts.set:4:19: error: \tthe invariant tiny
+output [1:0] o;\toutput [1:0] o when en@1;\ts.set:2:33: error: \tthe `when` of `o`
+next go; }\tnext reset, go; }\ts.set:5:69: error: \tproperty reset has `reset` as a successor
+== 2'd0; cover\t== 2'd0; hand c@0; cover\ts.set:5:48: error: \thands something over
+cover o from 0 to 1; \t\ts.set:5:10: error: \thas no cover of `o`
+cover o from 0 to 1\tcover o from 1 to 2\ts.set:5:48: error: \tbegins at 0
+cover o from 0 to 1;\tcover o from 0 to 1; cover o from 0 to 1;\ts.set:5:48: error: \tseveral covers
+length 1; assume en@0;\tlength 1 to 2 until en; assume en@0;\ts.set:7:3: error: \tto end + ..
+length 1; assume en@0;\tlength 1 to 2 until en@1; assume en@0;\ts.set:6:38: error: \tthe `until` of operation go
+  cover o from 1 to 2; next go, stay; }\\noperation\t  cover o from 1 to 1; next go, stay; }\\noperation\ts.set:7:3: error: \tby go ends in 0, but that by go begins in 1
+invariant tiny\tinvariant small\ts.set:4:11: error: \treserved word
+state u.q\tstate u.r\ts.set:2:48: error: \tno signal `u.r`
+output [1:0] o\toutput [2:0] o\ts.set:2:24: error: \t3 bits here and 2 in the block
+input en;\tstate en;\ts.set:2:7: error: \tdeclared as a state
+input en;\tinput en; input n;\ts.set:2:17: error: \tdeclared as an input
+clock clk\tclock en\tm.v:4:18: error: \tits clock `en`
+clock clk; reset rst high\tclock rst; reset clk high\ts.set:1:18: error: \tisn't the block's clock
+";
 
 /// What is said of two texts.
 fn said(alloc: Global, module: &str, set: &str) -> Result<String, AllocError> {
@@ -634,9 +156,36 @@ fn said(alloc: Global, module: &str, set: &str) -> Result<String, AllocError> {
     String::from_str(alloc, shown(text?.bytes()))
 }
 
-fn is_said(rt: &impl Abort, said: &str, row: &Row) {
+/// A row of a table.
+#[derive(Drop)]
+struct Row<'a> {
+    old: &'a str,
+    new: &'a str,
+    place: &'a str,
+    part: &'a str,
+}
+
+fn row_of(line: &str) -> Row<'_> {
+    let mut fields = line.split('\t');
+    Row {
+        old: fields.next().unwrap_or(""),
+        new: fields.next().unwrap_or(""),
+        place: fields.next().unwrap_or(""),
+        part: fields.next().unwrap_or(""),
+    }
+}
+
+/// A text with a row's change.
+fn changed(alloc: Global, text: &str, row: &Row<'_>) -> Result<String, AllocError> {
+    let old = row.old.replace(alloc, "\\n", "\n")?;
+    let new = row.new.replace(alloc, "\\n", "\n")?;
+    text.replacen(alloc, old.as_str(), new.as_str(), 1)
+}
+
+fn is_said(rt: &impl Abort, said: &str, row: &Row<'_>) {
     let place = row.place;
     let part = row.part;
+    assert!(rt; !part.is_empty(), "a row has four fields");
     assert!(rt;
         said.starts_with(place) && said.contains(part),
         "{said} in place of {place}{part}"
@@ -645,18 +194,20 @@ fn is_said(rt: &impl Abort, said: &str, row: &Row) {
 
 #[test]
 fn places_of_refused_modules(rt: HostRuntime) -> Result<(), Fail> {
-    for row in &MODULE_ROWS {
-        let module = MODULES.replacen(rt.alloc(), row.old, row.new, 1)?;
-        is_said(&rt, said(rt.alloc(), module.as_str(), SET)?.as_str(), row);
+    for line in MODULE_ROWS.lines() {
+        let row = row_of(line);
+        let module = changed(rt.alloc(), MODULES, &row)?;
+        is_said(&rt, said(rt.alloc(), module.as_str(), SET)?.as_str(), &row);
     }
     Ok(())
 }
 
 #[test]
 fn places_of_refused_sets(rt: HostRuntime) -> Result<(), Fail> {
-    for row in &SET_ROWS {
-        let set = SET.replacen(rt.alloc(), row.old, row.new, 1)?;
-        is_said(&rt, said(rt.alloc(), MODULES, set.as_str())?.as_str(), row);
+    for line in SET_ROWS.lines() {
+        let row = row_of(line);
+        let set = changed(rt.alloc(), SET, &row)?;
+        is_said(&rt, said(rt.alloc(), MODULES, set.as_str())?.as_str(), &row);
     }
     Ok(())
 }

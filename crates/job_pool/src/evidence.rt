@@ -2,9 +2,10 @@
 ghost use Rattle.std.specs.Prelude.{◌<◌, IfOk};
 ghost use Rattle.job_pool.specs.Shown.{IsShown};
 
-use cdcl::{End, solve};
+use cdcl::End;
 use clause_check::Step;
 use cnf_build::build;
+use presolve::solve;
 use std::alloc::{AllocError, Global};
 use word_dag::Ob;
 

@@ -4,3 +4,4 @@ pub mod Unmet
 pub mod Steps
 pub mod Texts
 pub mod Stimuli
+pub mod Graphs

@@ -2,6 +2,7 @@
 #![tactic(auto, using(replay::proofs::Putting::putting))]
 
 mod failing;
+mod graph;
 mod law;
 mod line;
 mod path;
@@ -14,6 +15,7 @@ mod texts;
 mod words;
 
 pub use failing::unmet;
+pub use graph::machine_graph;
 pub use law::run_traces_are_the_modules;
 pub use path::path_of;
 pub use rows::{RowFault, read_rows};

@@ -3,11 +3,15 @@ ghost use Rattle.std.specs.Prelude.{◌∷◌, []};
 ghost use Rattle.std.specs.List.{All};
 ghost use Rattle.vlog_tree.specs.Valuation.{IsLength};
 
+use crate::graph::graph_of;
 use crate::rows::{RowFault, rows_of};
 use crate::words::value_of;
-use set_tree::Rows;
-use std::alloc::Global;
+use outside::Text;
+use set_tree::{Length, Property, Rows, Set};
+use sqlite_items::Items;
+use std::alloc::{AllocError, Global};
 use std::test::Fail;
+use vlog_tree::{Expr, Number};
 
 // The rows of two inputs, of 4 and of 8 bits.
 fn two_inputs(alloc: Global, text: &[u8]) -> Result<Rows<Rows<u64>>, RowFault> {
@@ -75,5 +79,67 @@ fn no_text_has_no_rows(rt: HostRuntime) -> Result<(), Fail> {
         Ok(rows) => assert_eq!(rt; rows.as_slice().len(), 2),
         Err(_) => panic!(rt; "two empty rows"),
     }
+    Ok(())
+}
+
+fn length(low: u8, high: u8) -> Length {
+    let until = if low == high {
+        None
+    } else {
+        Some(Expr::Number(Number {
+            size: Some(1),
+            signed: false,
+            value: 1,
+            wild: 0,
+            wildcard: false,
+            plain: false,
+        }))
+    };
+    Length { low, high, until }
+}
+
+fn property(
+    alloc: Global,
+    name: &[u8],
+    length: Length,
+    next: &[u32],
+) -> Result<Property, AllocError> {
+    Ok(Property {
+        name: Text::copy(alloc, name)?,
+        window: length.high,
+        length,
+        assume: Items::new(alloc),
+        commit: Items::new(alloc),
+        hand: Items::new(alloc),
+        covers: Items::new(alloc),
+        next: Items::from_vec(next.to_vec(alloc)?),
+    })
+}
+
+// A reset property, an operation of 2 to 5 cycles, and one of a single cycle.
+fn three_properties(alloc: Global) -> Result<Set, AllocError> {
+    let mut operations = Vec::new(alloc);
+    operations.push(property(alloc, b"read", length(2, 5), &[1, 2])?)?;
+    operations.push(property(alloc, b"idle", length(1, 1), &[1])?)?;
+    Ok(Set {
+        block: Text::copy(alloc, b"block")?,
+        clock: Text::copy(alloc, b"clk")?,
+        reset: Text::copy(alloc, b"rst")?,
+        high: true,
+        cycles: 1,
+        names: Items::new(alloc),
+        constraints: Items::new(alloc),
+        invariants: Items::new(alloc),
+        first: property(alloc, b"reset", length(0, 0), &[2])?,
+        operations: Items::from_vec(operations),
+    })
+}
+
+#[test]
+fn a_graph_has_nodes_and_edges(rt: HostRuntime) -> Result<(), Fail> {
+    let graph = graph_of(rt.alloc(), &three_properties(rt.alloc())?)?;
+    let expected: &[u8] =
+        b"digraph machine {\n  rankdir=LR;\n  node [shape=box];\n  \"reset\" [label=\"reset\\n0\"];\n  \"reset\" -> \"idle\";\n  \"read\" [label=\"read\\n2..5\"];\n  \"read\" -> \"read\";\n  \"read\" -> \"idle\";\n  \"idle\" [label=\"idle\\n1\"];\n  \"idle\" -> \"read\";\n}\n";
+    assert_eq!(rt; graph.bytes(), expected);
     Ok(())
 }

@@ -13,8 +13,8 @@ use set_sound::Sound;
 use set_tree::{At, Length, Path, Property, Set};
 use std::alloc::{AllocError, Global};
 
-// The name of the property at a position.
-fn property_name(set: &Set, at: u32) -> &[u8]
+/// The name of the property at a position.
+pub fn property_name(set: &Set, at: u32) -> &[u8]
     ensures { result.now ≡ property_name set.now at }
 {
     if at == 0 {

@@ -1,5 +1,6 @@
 pub mod Asking
 pub mod Faults
+pub mod Single
 mod Ordered
 pub mod Placed
 mod Proving

@@ -27,6 +27,10 @@ pub record MayBeKept (d : Ended) (steps : Vec Step Global) : Type 0 where
   pub short_key : length (key_of d.ob) ≤ 16777216
   pub short_record : length (version_2 steps.items) ≤ 16777216
 
+-- it has one that may be kept
+abbrev pub MayKeep : Ended → Type 0
+MayKeep d = (steps : Vec Step Global) × MayBeKept d steps
+
 -- an obligation with this text that wasn't kept, and has a derivation that may be
 pub record IsNew (before : Tables) (key : List ℕ) (d : Ended) : Type 0 where
   pub text : key_of d.ob ≡ key

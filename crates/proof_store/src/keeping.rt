@@ -5,7 +5,7 @@ ghost use Rattle.proof_store.specs.Kept.{IsKept};
 ghost use Rattle.proof_store.specs.Rows.{FindsIn, HasProofs, IsAccepted, IsRowOf};
 ghost use Rattle.proof_store.specs.Goals.{ended, is_kept};
 ghost use Rattle.proof_store.specs.Provers.{Rises};
-ghost use Rattle.proof_store.specs.Stored.{AddsProofs, Puts, StoresNew, Told, ended_ob};
+ghost use Rattle.proof_store.specs.Stored.{AddsProofs, MayKeep, Puts, StoresNew, Told, ended_ob};
 
 use crate::fault::StoreFault;
 use crate::goal::{Decided, Source};
@@ -77,20 +77,26 @@ fn row_of<L: Drop>(alloc: Global, one: &Decided<L>) -> Result<Option<Row>, Alloc
     Ok(Some(Row { key, bytes }))
 }
 
-// Puts a proof under its obligation's text, where it may be kept.
-fn put_one<K: Keeper, L: Drop>(
+/// Puts a derivation that shows how a goal ended under the text of its obligation, where a record can be made of it and neither it nor the text has more
+/// than 16,777,216 bytes, and says whether that was so. It is refused with `Keeper` only where the keeper's count of faults rose in this call, or stands at its
+/// last value, and with `Memory` for want of memory alone; then nothing is new at the keeper.
+pub fn keep<K: Keeper, L: Drop>(
     alloc: Global,
     keeper: &mut K,
     one: &Decided<L>,
-) -> Result<(), StoreFault>
+) -> Result<bool, StoreFault>
     ensures ok { OnOk result (Told (Puts (ended one.now)) (K.tables keeper.old) (K.tables keeper.new)) }
+    ensures kept { IfOk result (λ kept. IsTrue kept ↔ MayKeep (ended one.now)) }
     ensures err { OnErr result (K.tables keeper.new ≡ K.tables keeper.old) }
     ensures faults { Rises (result ≡ Err StoreFault.Keeper) (K.faults keeper.old) (K.faults keeper.new) }
 {
-    if let Some(row) = row_of(alloc, one)? {
-        keeper.put_proof(alloc, row.key.as_slice(), row.bytes.as_slice())?;
+    match row_of(alloc, one)? {
+        Some(row) => {
+            keeper.put_proof(alloc, row.key.as_slice(), row.bytes.as_slice())?;
+            Ok(true)
+        }
+        None => Ok(false),
     }
-    Ok(())
 }
 
 fn is_kept<L: Drop>(decided: &Decided<L>) -> bool
@@ -113,7 +119,7 @@ pub(crate) fn put_new<K: Keeper, L: Drop>(
 {
     for one in decided {
         if !is_kept(one) {
-            put_one(alloc, keeper, one)?;
+            keep(alloc, keeper, one)?;
         }
     }
     Ok(())

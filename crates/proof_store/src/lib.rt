@@ -13,6 +13,7 @@ mod settling;
 
 pub use fault::StoreFault;
 pub use goal::{Decided, Goal, Source};
+pub use keeping::keep;
 pub use moving::{Moved, migrate};
 pub use prover::Prover;
 pub use settings::Settings;

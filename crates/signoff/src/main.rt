@@ -1,19 +1,32 @@
-//! signoff: reads a Verilog module and a set of operation properties, decides the lines of their report, and prints it. Where it refuses, it says on
-//! standard error where and why, or how it is called.
+//! signoff: reads a Verilog module and a set of operation properties, decides the lines of their report, and prints it. On standard error it says where and
+//! why it refused, or how it is called, what a counterexample shows, and where that is wanted how far it is.
 #![tactic(auto)]
 
+mod files;
 mod note;
+mod progress;
+mod summary;
 
 use crate::note::put_note;
+use crate::progress::{Wish, wish_of};
+use crate::summary::put_summary;
+use reports::Book;
 use signoff_objects::answer;
 use std::env;
 use std::process::ExitCode;
+use std::time::Instant;
 
 /// Answers the words over real objects, and ends with the status.
 fn main(rt: HostRuntime) -> ExitCode {
+    let since = Instant::now(&rt).ok();
     let words = words_of(&rt).unwrap_or(Vec::new(rt.alloc()));
-    let status = answer(&rt, &rt, &words);
-    put_note(&rt, &words, status);
+    let Wish { told, summary } = wish_of(&rt, &words);
+    let mut book = Book::new(rt.alloc());
+    let status = answer(&rt, &rt, &words, told, &mut book);
+    if summary {
+        put_summary(&rt, &book, since);
+    }
+    put_note(&rt, &words, status, &book);
     ExitCode::from(status)
 }
 

@@ -1,28 +1,38 @@
-// What standard error says of a refusal. The status and what went to standard output stand before, and don't depend on it.
+// What standard error says of a refusal, and of a counterexample. The status and what went to standard output stand before, and don't depend on it.
+use crate::files::read_again;
+use asked_lines::all_lines;
+use binding::Bound;
 use check_faults::CheckFault;
 use check_stages::bound_of;
-use command_words::{Command, Job, command_in};
+use command_words::{Command, Job, Task, command_in};
 use fault_places::{Files, Texts, explained, usage, version};
-use outside::{FileShelf, OutFault, Shelf, Text};
+use line_laws::line_name;
+use outside::Text;
+use replay::Shown;
+use reports::{Book, Which};
+use set_tree::Line;
 use std::alloc::{AllocError, Global};
 use std::io::Write;
+use trace_notes::{SetFile, trace_note};
 
-/// The most bytes of a text.
-const LIMIT: usize = 1048576;
-
-/// Says on standard error where and why the words were refused with a status, or how the program is called. Where that can't be said, as for want of
-/// memory, nothing is.
-pub fn put_note(rt: &HostRuntime, words: &[String], status: u8) {
-    if let Ok(Some(note)) = note_of(rt, words, status) {
+/// Says on standard error where and why the words were refused with a status, how the program is called, or what the counterexample shows that the book
+/// has. Where that can't be said, as for want of memory, nothing is.
+pub fn put_note(rt: &HostRuntime, words: &[String], status: u8, book: &Book) {
+    if let Ok(Some(note)) = note_of(rt, words, status, book) {
         let _ = rt.stderr().write_all(note.bytes());
     }
 }
 
-/// What is said of words and their status, nothing where they weren't refused.
-fn note_of(rt: &HostRuntime, words: &[String], status: u8) -> Result<Option<Text>, AllocError> {
+/// What is said of words, their status and the lines that were decided; nothing where the words weren't refused and no counterexample is shown.
+fn note_of(
+    rt: &HostRuntime,
+    words: &[String],
+    status: u8,
+    book: &Book,
+) -> Result<Option<Text>, AllocError> {
     let alloc = rt.alloc();
     match command_in(alloc, words)? {
-        Some(Command::Texts(job)) => note_of_job(rt, &job, status),
+        Some(Command::Texts(job)) => note_of_job(rt, &job, status, book),
         None if status == 2 => Ok(Some(how_called(alloc, words)?)),
         _ => Ok(None),
     }
@@ -36,36 +46,93 @@ fn how_called(alloc: Global, words: &[String]) -> Result<Text, AllocError> {
     }
 }
 
-fn note_of_job(rt: &HostRuntime, job: &Job, status: u8) -> Result<Option<Text>, AllocError> {
+fn note_of_job(
+    rt: &HostRuntime,
+    job: &Job,
+    status: u8,
+    book: &Book,
+) -> Result<Option<Text>, AllocError> {
     match status {
+        1 => note_of_trace(rt, job, book),
         2 => said(rt.alloc(), job, &[], &[], &CheckFault::NoLine),
         3..=5 => note_of_texts(rt, job),
         _ => Ok(None),
     }
 }
 
-/// What is said of two texts that were refused: they are read again, and go through the stages again.
+/// What is said of two texts that were refused: they go through the stages again.
 fn note_of_texts(rt: &HostRuntime, job: &Job) -> Result<Option<Text>, AllocError> {
     let alloc = rt.alloc();
-    let mut shelf = FileShelf::new(rt.clone()?);
-    let Some(module) = read(&mut shelf, alloc, &job.module)? else {
+    let Some(read) = read_again(rt, job)? else {
         return Ok(None);
     };
-    let Some(set) = read(&mut shelf, alloc, &job.set)? else {
-        return Ok(None);
-    };
-    match bound_of(alloc, &module, &set) {
+    match bound_of(alloc, &read.module, &read.set) {
         Ok(bound) => {
             // calls, since a proof would write out the drops of all trees here
             drop(bound);
             Ok(None)
         }
         Err(fault) => {
-            let note = said(alloc, job, &module, &set, &fault);
+            let note = said(alloc, job, &read.module, &read.set, &fault);
             drop(fault);
             note
         }
     }
+}
+
+/// What the counterexample shows of the one line that was asked for.
+fn note_of_trace(rt: &HostRuntime, job: &Job, book: &Book) -> Result<Option<Text>, AllocError> {
+    let name = match &job.task {
+        Task::Decide(Which::One(name) | Which::Least(name)) | Task::Wave(name) => name,
+        _ => return Ok(None),
+    };
+    let Some(shown) = book.lines.first().and_then(|line| line.trace.as_ref()) else {
+        return Ok(None);
+    };
+    let Some(read) = read_again(rt, job)? else {
+        return Ok(None);
+    };
+    match bound_of(rt.alloc(), &read.module, &read.set) {
+        Ok(bound) => {
+            let file = SetFile {
+                name: job.set.bytes(),
+                text: &read.set,
+            };
+            let note = shown_in(rt.alloc(), file, &bound, name, shown);
+            // a call, as above
+            drop(bound);
+            note
+        }
+        Err(fault) => {
+            drop(fault);
+            Ok(None)
+        }
+    }
+}
+
+/// What a counterexample shows of the line of this name.
+fn shown_in(
+    alloc: Global,
+    file: SetFile<'_>,
+    bound: &Bound,
+    name: &Text,
+    shown: &Shown,
+) -> Result<Option<Text>, AllocError> {
+    let set = bound.set().set();
+    match line_named(alloc, bound, name)? {
+        Some(line) => Ok(Some(trace_note(alloc, file, set, line, shown)?)),
+        None => Ok(None),
+    }
+}
+
+/// The line of a name.
+fn line_named(alloc: Global, bound: &Bound, name: &Text) -> Result<Option<Line>, AllocError> {
+    for line in all_lines(alloc, bound)? {
+        if line_name(alloc, bound.set().set(), line)?.bytes() == name.bytes() {
+            return Ok(Some(line));
+        }
+    }
+    Ok(None)
 }
 
 fn said(
@@ -81,17 +148,4 @@ fn said(
     };
     let texts = Texts { module, set };
     Ok(Some(explained(alloc, &names, &texts, fault)?))
-}
-
-/// A file, none where it can't be read any more.
-fn read<F: Shelf>(
-    shelf: &mut F,
-    alloc: Global,
-    name: &Text,
-) -> Result<Option<Vec<u8>>, AllocError> {
-    match shelf.read(alloc, name.bytes(), LIMIT) {
-        Ok(bytes) => Ok(Some(bytes)),
-        Err(OutFault::Failed) => Ok(None),
-        Err(OutFault::Memory) => Err(AllocError),
-    }
 }

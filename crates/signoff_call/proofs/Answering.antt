@@ -15,7 +15,11 @@ use Rattle.check_stages.specs.Stages.{IsBoundOf, Refuses as RefusesStage}
 use Rattle.path_machine.specs.declared.rows.RowFault.{RowFault}
 use Rattle.path_machine.specs.declared.rows.RowFault.TheVariants.{Memory as NoMemory}
 use Rattle.path_machine.specs.Rows.{Stands}
-use Rattle.path_machine.specs.Texts.{fault_text, machine_text, path_text}
+use Rattle.path_machine.specs.Texts.{fault_text, path_text}
+use Rattle.clause_texts.specs.declared.fault.ProofFault.{ProofFault}
+use Rattle.clause_texts.specs.Faults.{fault_text as proof_fault_text}
+use Rattle.line_clauses.specs.declared.fault.KeepFault.TheVariants.{Large}
+use Rattle.line_clauses.specs.Keeping.{RefusesProof, RefusesText}
 use Rattle.check_faults.specs.declared.fault.CheckFault.{CheckFault}
 use Rattle.check_faults.specs.declared.fault.CheckFault.TheVariants as f
 use Rattle.fault_texts.specs.Texts.{fault_line, status_of}
@@ -40,14 +44,15 @@ use Rattle.command_words.specs.declared.action.Task.{Task}
 use Rattle.command_words.specs.declared.action.Task.TheVariants as t
 use Rattle.signoff_call.specs.declared.answer.Answer.{Answer}
 use Rattle.signoff_call.specs.declared.files.Read.{Read}
-use Rattle.signoff_call.specs.declared.files.Read.TheVariants.{All, NoModule, NoMore, NoSet}
+use Rattle.signoff_call.specs.declared.files.Read.TheVariants.{All, NoModule, NoThird, NoSet}
 use Rattle.signoff_call.specs.declared.files.Texts.{Texts}
 use Rattle.signoff_call.specs.Answers.{done, is_refuted, is_spent, met, moved_text, refusal, report_bytes, reported, summary}
-use Rattle.signoff_call.specs.Tasks.{AnswersMeet, AnswersTask, AnswersTexts, AnswersWalk, AreObsOfTask, HasTrace, IsChecked, IsUnmetAt, ListsLines, Meets, RefusesBy, RefusesRows, RefusesTexts, Reports, ReportsTexts, ShowsMachine, ShowsPath, Stores, WalksRows, names_text, signed_text, stores}
-use Rattle.signoff_call.specs.Run.{Answers, AnswersJob, AnswersMove, AnswersService, AppendsPrefix, Around, Delivers, IsRead, LeavesRead, LeavesRows, LeavesServed, LeavesTexts, Reads, around, limits_for, more_name, quota_of, refused_status, served_text, stores_of}
+use Rattle.signoff_call.specs.Waves.{first_waved}
+use Rattle.signoff_call.specs.Tasks.{AnswersAccept, AnswersMeet, AnswersTask, AnswersTexts, AnswersWalk, HasTrace, IsChecked, IsUnmetAt, KeepsThenDecides, LeavesTask, ListsClauses, ListsLines, Meets, RefusesBoundProof, RefusesBy, RefusesRows, RefusesTexts, Reports, ReportsTexts, ShowsMachine, ShowsPath, ShowsWave, Stores, WalksRows, machine_shown, names_text, signed_text, stores}
+use Rattle.signoff_call.specs.Run.{Answers, AnswersJob, AnswersMove, AnswersService, AppendsPrefix, Around, Delivers, IsRead, LeavesRead, LeavesRows, LeavesServed, LeavesTexts, Reads, around, limits_for, third_name, quota_of, refused_status, served_text, stores_of}
 
 pub texts_answered : {E : Type 0} (r : Result Answer E) (j : Job) (read : Read) (texts : Texts) (book : Book) (st : Stores) → read ≡ All texts →
-    IfOk r (AnswersTask j.task texts.module texts.set texts.more j.budget j.workers book st) → IfOk r (AnswersJob j read book st)
+    IfOk r (AnswersTask j.task texts.module texts.set texts.third j.budget j.workers book st) → IfOk r (AnswersJob j read book st)
 texts_answered r j read texts book st is h = subst (λ (z : Read). IfOk r (AnswersJob j z book st)) (sym is) h
 
 pub turned_answered : {E : Type 0} (r : Result Answer E) (Refuses : CheckFault → Type 0) (OfCall : List Parts → Type 0) (Reports : Answer → Type 0) (book : Book) (st : Stores) (fault : CheckFault) →
@@ -99,19 +104,19 @@ met_keeper a r P same is = absurd (no_8 (list_any is_proved r.verdicts.items) (l
 -- ---- what is done with two texts
 
 -- the task is this one
-pub task_answered : {E : Type 0} (r : Result Answer E) (task other : Task) (m s more : List ℕ) (budget workers : ℕ) (book : Book) (st : Stores) → task ≡ other →
-    IfOk r (AnswersTask other m s more budget workers book st) → IfOk r (AnswersTask task m s more budget workers book st)
-task_answered r task other m s more budget workers book st is h = subst (λ (z : Task). IfOk r (AnswersTask z m s more budget workers book st)) (sym is) h
+pub task_answered : {E : Type 0} (r : Result Answer E) (task other : Task) (m s third : List ℕ) (budget workers : ℕ) (book : Book) (st : Stores) → task ≡ other →
+    IfOk r (AnswersTask other m s third budget workers book st) → IfOk r (AnswersTask task m s third budget workers book st)
+task_answered r task other m s third budget workers book st is h = subst (λ (z : Task). IfOk r (AnswersTask z m s third budget workers book st)) (sym is) h
 
-pub meet_answered : {E : Type 0} (r : Result Answer E) (task : Task) (name other : Option (List ℕ)) (m s more : List ℕ) (budget workers : ℕ) (book : Book) (st : Stores) → task ≡ t.Meet name → other ≡ name →
-    IfOk r (AnswersMeet m s other budget workers book st) → IfOk r (AnswersTask task m s more budget workers book st)
-meet_answered r task name other m s more budget workers book st is same h =
-    task_answered r task (t.Meet name) m s more budget workers book st is (subst (λ (z : Option (List ℕ)). IfOk r (AnswersMeet m s z budget workers book st)) same h)
+pub meet_answered : {E : Type 0} (r : Result Answer E) (task : Task) (name other : Option (List ℕ)) (m s third : List ℕ) (budget workers : ℕ) (book : Book) (st : Stores) → task ≡ t.Meet name → other ≡ name →
+    IfOk r (AnswersMeet m s other budget workers book st) → IfOk r (AnswersTask task m s third budget workers book st)
+meet_answered r task name other m s third budget workers book st is same h =
+    task_answered r task (t.Meet name) m s third budget workers book st is (subst (λ (z : Option (List ℕ)). IfOk r (AnswersMeet m s z budget workers book st)) same h)
 
-pub task_left : (task other : Task) (m s : List ℕ) (before after : Option Tables) → task ≡ other → AddsProofsOf (AreObsOfTask other m s) before after → AddsProofsOf (AreObsOfTask task m s) before after
-task_left task other m s before after is h = subst (λ (z : Task). AddsProofsOf (AreObsOfTask z m s) before after) (sym is) h
+pub task_left : (task other : Task) (m s : List ℕ) (before after : Option Tables) → task ≡ other → LeavesTask other m s before after → LeavesTask task m s before after
+task_left task other m s before after is h = subst (λ (z : Task). LeavesTask z m s before after) (sym is) h
 
-pub meet_left : (task : Task) (name other : Option (List ℕ)) (m s : List ℕ) (before after : Option Tables) → task ≡ t.Meet name → other ≡ name → AddsProofsOf (AreMeetObsOfTexts m s other) before after → AddsProofsOf (AreObsOfTask task m s) before after
+pub meet_left : (task : Task) (name other : Option (List ℕ)) (m s : List ℕ) (before after : Option Tables) → task ≡ t.Meet name → other ≡ name → AddsProofsOf (AreMeetObsOfTexts m s other) before after → LeavesTask task m s before after
 meet_left task name other m s before after is same h =
     task_left task (t.Meet name) m s before after is (subst (λ (z : Option (List ℕ)). AddsProofsOf (AreMeetObsOfTexts m s z) before after) same h)
 
@@ -124,14 +129,24 @@ told_none None = tt
 pub adds_none : (OfCall : List Parts → Type 0) (t : Option Tables) → AddsProofsOf OfCall t t
 adds_none OfCall t = ([], inl refl, told_none t)
 
+pub task_none : (task : Task) (m s : List ℕ) (t : Option Tables) → LeavesTask task m s t t
+task_none (t.Decide which) m s x = adds_none (AreObsOfTexts m s which) x
+task_none (t.Wave name) m s x = adds_none (AreObsOfTexts m s (w.One name)) x
+task_none (t.Meet name) m s x = adds_none (AreMeetObsOfTexts m s name) x
+task_none (t.Machine form) m s x = adds_none (AreObsOfTexts m s w.All) x
+task_none (t.Walk rows) m s x = adds_none (AreObsOfTexts m s w.All) x
+task_none t.Lines m s x = refl
+task_none (t.Clauses name) m s x = refl
+task_none (t.Accept given) m s x = (x, adds_none (AreObsOfTexts m s (w.One given.line)) x, adds_none (AreObsOfTexts m s (w.One given.line)) x)
+
 pub read_none : (j : Job) (read : Read) (t : Option Tables) → LeavesRead j read t t
 read_none j NoModule t = refl
 read_none j NoSet t = refl
-read_none j NoMore t = refl
-read_none j (All texts) t = adds_none (AreObsOfTask j.task texts.module texts.set) t
+read_none j NoThird t = refl
+read_none j (All texts) t = task_none j.task texts.module texts.set t
 
 -- what comes of texts that were read
-pub read_left : (j : Job) (read : Read) (texts : Texts) (before after : Option Tables) → read ≡ All texts → AddsProofsOf (AreObsOfTask j.task texts.module texts.set) before after →
+pub read_left : (j : Job) (read : Read) (texts : Texts) (before after : Option Tables) → read ≡ All texts → LeavesTask j.task texts.module texts.set before after →
     LeavesRead j read before after
 read_left j read texts before after is h = subst (λ (z : Read). LeavesRead j z before after) (sym is) h
 
@@ -139,7 +154,7 @@ texts_left : (shelf : Option (List ℕ → Option (List ℕ))) (faults now : ℕ
     LeavesRead j read before after → LeavesTexts shelf j before after
 texts_left shelf faults now j NoModule before after read h = inl h
 texts_left shelf faults now j NoSet before after read h = inl h
-texts_left shelf faults now j NoMore before after read h = inl h
+texts_left shelf faults now j NoThird before after read h = inl h
 texts_left shelf faults now j (All texts) before after read h = inr (texts.module, texts.set, read.0, read.1, h)
 
 -- ---- statuses that a check of texts doesn't answer
@@ -203,9 +218,27 @@ signed_other text r a n p same is = by r.complete same
     by true same = done_other n p (status_is a (done (text ++ codes "signed off\n")) n same is)
     by false same = reports_other r.verdicts.items r.text a n p same is
 
--- 11 is none of them
+-- 11 and 12 are none of them
 rows_other : (line : List ℕ) (book : Book) (st : Stores) (a : Answer) (n : ℕ) → IsApart n → RefusesBy 11 line book st a → a.status ≡ n → ⊥
 rows_other line book st a n p r is = let eleven : 11 ≡ n = status_is a (refusal 11 line) n r.answer_is is in let high : n < 10 = p.high in omega arith
+
+proof_other : (line : List ℕ) (book : Book) (st : Stores) (a : Answer) (n : ℕ) → IsApart n → RefusesBy 12 line book st a → a.status ≡ n → ⊥
+proof_other line book st a n p r is = let twelve : 12 ≡ n = status_is a (refusal 12 line) n r.answer_is is in let high : n < 10 = p.high in omega arith
+
+stage_other : (Refuses : CheckFault → Type 0) (OfCall : List Parts → Type 0) (book : Book) (st : Stores) (a : Answer) (n : ℕ) → IsApart n → RefusesTexts Refuses OfCall book st a → a.status ≡ n → ⊥
+stage_other Refuses OfCall book st a n p r is = fault_other r.fault n p (status_is a (refusal (status_of r.fault) (fault_line r.fault)) n r.answer_is is)
+
+accept_other : (m s name text : List ℕ) (budget workers : ℕ) (book : Book) (st : Stores) (a : Answer) (n : ℕ) → IsApart n → AnswersAccept m s name text budget workers book st a → a.status ≡ n → ⊥
+accept_other m s name text budget workers book st a n p h is = ⊎_elim
+    (λ (r : RefusesTexts (Refuses m s (w.One name)) (λ obs. ⊥) book st a). stage_other (Refuses m s (w.One name)) (λ obs. ⊥) book st a n p r is)
+    (λ (x : (b : Pair) × IsBoundOf m s b × (RefusesBoundProof b name text book st a ⊎ KeepsThenDecides m s name text b budget workers book st a)). ⊎_elim
+    (λ (r : RefusesBoundProof x.0 name text book st a). refused x.0 r)
+    (λ (k : KeepsThenDecides m s name text x.0 budget workers book st a). texts_other m s (w.One name) budget workers (λ r. r.text) book (stores k.between st.after st.asked) a n p k.decides is) x.2) h
+  where
+    refused : (b : Pair) → RefusesBoundProof b name text book st a → ⊥
+    refused b r = ⊎_elim
+        (λ (x : (fault : ProofFault) × RefusesText b name text fault × RefusesBy 12 (codes "proof: " ++ proof_fault_text fault) book st a). proof_other (codes "proof: " ++ proof_fault_text x.0) book st a n p x.2 is)
+        (λ (x : RefusesProof b name text Large × RefusesBy 12 (codes "proof: Large") book st a). proof_other (codes "proof: Large") book st a n p x.1 is) r
 
 walk_other : (m s text : List ℕ) (budget workers : ℕ) (book : Book) (st : Stores) (a : Answer) (n : ℕ) → IsApart n → AnswersWalk m s text budget workers book st a → a.status ≡ n → ⊥
 walk_other m s text budget workers book st a n p h is = ⊎_elim
@@ -222,24 +255,31 @@ walk_other m s text budget workers book st a n p h is = ⊎_elim
         whole_other (Refuses m s w.All) (AreObsOfTexts m s w.All) (IsChecked m s w.All budget book) workers (ShowsPath x.0) book st a n p
         (λ r shows. signed_other (path_text x.0.bound.set shows.0) r a n p shows.2) x.2 is
 
-task_other : (task : Task) (m s more : List ℕ) (budget workers : ℕ) (book : Book) (st : Stores) (a : Answer) (n : ℕ) → IsApart n → AnswersTask task m s more budget workers book st a → a.status ≡ n → ⊥
-task_other (t.Decide which) m s more budget workers book st a n p h is = texts_other m s which budget workers (report_bytes which book) book st a n p h is
-task_other (t.Meet name) m s more budget workers book st a n p h is =
+task_other : (task : Task) (m s third : List ℕ) (budget workers : ℕ) (book : Book) (st : Stores) (a : Answer) (n : ℕ) → IsApart n → AnswersTask task m s third budget workers book st a → a.status ≡ n → ⊥
+task_other (t.Decide which) m s third budget workers book st a n p h is = texts_other m s which budget workers (report_bytes which book) book st a n p h is
+task_other (t.Meet name) m s third budget workers book st a n p h is =
     whole_other (RefusesMeet m s name) (AreMeetObsOfTexts m s name) (IsMeetReport m s name budget book.lines.items) workers Meets book st a n p
     (λ r same is. verdicts_other (list_any is_proved r.verdicts.items) (list_any is_spent r.verdicts.items) n p (status_is a (met r) n same is)) h is
-task_other t.Machine m s more budget workers book st a n p h is =
-    whole_other (Refuses m s w.All) (AreObsOfTexts m s w.All) (IsChecked m s w.All budget book) workers (ShowsMachine m s) book st a n p
-    (λ r shows. signed_other (machine_text shows.0.set) r a n p shows.2) h is
-task_other (t.Walk rows) m s more budget workers book st a n p h is = walk_other m s more budget workers book st a n p h is
-task_other t.Lines m s more budget workers book st a n p h is = ⊎_elim
+task_other (t.Machine form) m s third budget workers book st a n p h is =
+    whole_other (Refuses m s w.All) (AreObsOfTexts m s w.All) (IsChecked m s w.All budget book) workers (ShowsMachine m s form) book st a n p
+    (λ r shows. signed_other (machine_shown shows.0.set form) r a n p shows.2) h is
+task_other (t.Wave name) m s third budget workers book st a n p h is =
+    whole_other (Refuses m s (w.One name)) (AreObsOfTexts m s (w.One name)) (IsChecked m s (w.One name) budget book) workers (ShowsWave m s book.lines.items) book st a n p
+    (λ r shows. reports_other r.verdicts.items (first_waved shows.0 book.lines.items r.text) a n p shows.2) h is
+task_other (t.Clauses name) m s third budget workers book st a n p h is = ⊎_elim
+    (λ (r : RefusesTexts (Refuses m s (w.One name)) (λ obs. ⊥) book st a). stage_other (Refuses m s (w.One name)) (λ obs. ⊥) book st a n p r is)
+    (λ (l : ListsClauses m s name book st a). done_other n p (status_is a (done l.text) n l.answer_is is)) h
+task_other (t.Accept given) m s third budget workers book st a n p h is = accept_other m s given.line third budget workers book st a n p h is
+task_other (t.Walk rows) m s third budget workers book st a n p h is = walk_other m s third budget workers book st a n p h is
+task_other t.Lines m s third budget workers book st a n p h is = ⊎_elim
     (λ (r : RefusesTexts (RefusesStage m s) (λ obs. ⊥) book st a). fault_other r.fault n p (status_is a (refusal (status_of r.fault) (fault_line r.fault)) n r.answer_is is))
     (λ (l : ListsLines m s book st a). done_other n p (status_is a (done (names_text l.bound.set)) n l.answer_is is)) h
 
 job_other : (j : Job) (read : Read) (book : Book) (st : Stores) (a : Answer) (n : ℕ) → IsApart n → (6 ≡ n → ⊥) → AnswersJob j read book st a → a.status ≡ n → ⊥
 job_other j NoModule book st a n p not_6 h is = not_6 (status_is a (refusal 6 (codes "read: " ++ j.module)) n h.answer_is is)
 job_other j NoSet book st a n p not_6 h is = not_6 (status_is a (refusal 6 (codes "read: " ++ j.set)) n h.answer_is is)
-job_other j NoMore book st a n p not_6 h is = not_6 (status_is a (refusal 6 (codes "read: " ++ more_name j.task)) n h.answer_is is)
-job_other j (All texts) book st a n p not_6 h is = task_other j.task texts.module texts.set texts.more j.budget j.workers book st a n p h is
+job_other j NoThird book st a n p not_6 h is = not_6 (status_is a (refusal 6 (codes "read: " ++ third_name j.task)) n h.answer_is is)
+job_other j (All texts) book st a n p not_6 h is = task_other j.task texts.module texts.set texts.third j.budget j.workers book st a n p h is
 
 move_other : (book : Book) (st : Stores) (a : Answer) (n : ℕ) → IsApart n → AnswersMove book st a → a.status ≡ n → ⊥
 move_other book st a n p h is = ⊎_elim
@@ -266,8 +306,8 @@ job_6 : (shelf : Option (List ℕ → Option (List ℕ))) (before now : ℕ) (j 
     AnswersJob j read book st a → a.status ≡ 6 → Rose before now
 job_6 shelf before now j NoModule book st a read h is = read
 job_6 shelf before now j NoSet book st a read h is = read
-job_6 shelf before now j NoMore book st a read h is = read
-job_6 shelf before now j (All texts) book st a read h is = absurd (task_other j.task texts.module texts.set texts.more j.budget j.workers book st a 6 apart_6 h is)
+job_6 shelf before now j NoThird book st a read h is = read
+job_6 shelf before now j (All texts) book st a read h is = absurd (task_other j.task texts.module texts.set texts.third j.budget j.workers book st a 6 apart_6 h is)
 
 -- the status 6 is a shelf's
 pub is_read : (shelf : Option (List ℕ → Option (List ℕ))) (before now : ℕ) (cmd : Option Command) (read : Read) (a b : Around) (x : Answer) → Reads shelf before now cmd read →
@@ -345,10 +385,10 @@ pub no_set_answered : {E : Type 0} (r : Result Answer E) (j : Job) (read : Read)
 no_set_answered (Ok a) j read book st is empty same h = subst (λ (z : Read). AnswersJob j z book st a) (sym is) (record { empty = empty; same = same; answer_is = h })
 no_set_answered (Err e) j read book st is empty same h = tt
 
-pub no_more_answered : {E : Type 0} (r : Result Answer E) (j : Job) (read : Read) (book : Book) (st : Stores) → read ≡ NoMore → book.lines.items ≡ [] → st.after ≡ st.before →
-    IfOk r (λ a. a ≡ refusal 6 (codes "read: " ++ more_name j.task)) → IfOk r (AnswersJob j read book st)
-no_more_answered (Ok a) j read book st is empty same h = subst (λ (z : Read). AnswersJob j z book st a) (sym is) (record { empty = empty; same = same; answer_is = h })
-no_more_answered (Err e) j read book st is empty same h = tt
+pub no_third_answered : {E : Type 0} (r : Result Answer E) (j : Job) (read : Read) (book : Book) (st : Stores) → read ≡ NoThird → book.lines.items ≡ [] → st.after ≡ st.before →
+    IfOk r (λ a. a ≡ refusal 6 (codes "read: " ++ third_name j.task)) → IfOk r (AnswersJob j read book st)
+no_third_answered (Ok a) j read book st is empty same h = subst (λ (z : Read). AnswersJob j z book st a) (sym is) (record { empty = empty; same = same; answer_is = h })
+no_third_answered (Err e) j read book st is empty same h = tt
 
 -- ---- the answer to a command
 

@@ -1,5 +1,5 @@
 -- What is answered to a set that is bound to a design.
-use Rattle.std.specs.Prelude.{◌≡◌, ◌≢◌, ℕ, ◌⊎◌, ◌++◌, List, Some, None, codes}
+use Rattle.std.specs.Prelude.{◌≡◌, ◌≢◌, ℕ, ◌⊎◌, ◌++◌, List, Option, Some, None, codes}
 use Rattle.std.specs.Fmt.{decimal}
 use Rattle.set_tree.specs.declared.path.Path.{Path}
 use Rattle.set_tree.specs.declared.set.Set.{Set}
@@ -12,31 +12,48 @@ use Rattle.path_machine.specs.declared.rows.RowFault.{RowFault}
 use Rattle.path_machine.specs.declared.rows.RowFault.TheVariants.{Memory}
 use Rattle.path_machine.specs.Rows.{IsRead, Stands}
 use Rattle.path_machine.specs.Runs.{IsRunTrace}
-use Rattle.path_machine.specs.Texts.{fault_text, machine_text, path_text}
+use Rattle.path_machine.specs.Texts.{fault_text, path_text}
 use Rattle.path_machine.specs.Unmet.{IsUnmet}
+use Rattle.outside.specs.Tables.{Tables}
+use Rattle.command_words.specs.declared.action.Form.{Form}
+use Rattle.line_clauses.specs.Keeping.{IsClausesText, KeepsProof}
 use Rattle.reports.specs.declared.book.Book.{Book}
+use Rattle.reports.specs.declared.book.Line.{Line}
 use Rattle.reports.specs.declared.report.Report.{Report}
+use Rattle.reports.specs.declared.which.Which.{Which}
 use Rattle.reports.specs.declared.which.Which.TheVariants as w
 use Rattle.asked_lines.specs.Decided.{AreDecided}
 use Rattle.asked_lines.specs.Least.{HasLeast}
-use Rattle.asked_lines.specs.Settled.{AreObsOf}
+use Rattle.asked_lines.specs.Settled.{AddsProofsOf, AreObsOf}
 use Rattle.desk_core.specs.Checks.{IsReportOf, RefusesAsked}
 use Rattle.signoff_call.specs.declared.answer.Answer.{Answer}
-use Rattle.signoff_call.specs.Tasks.{RefusesBy, RefusesTexts, ReportsTexts, Stores, signed_text}
+use Rattle.check_faults.specs.declared.fault.CheckFault.TheVariants as f
+use Rattle.fault_texts.specs.Texts.{fault_line, status_of}
+use Rattle.clause_texts.specs.Faults.{fault_text as proof_fault_text}
+use Rattle.line_clauses.specs.declared.fault.KeepFault.{KeepFault}
+use Rattle.line_clauses.specs.declared.fault.KeepFault.TheVariants as k
+use Rattle.asked_lines.specs.declared.fault.LineFault.TheVariants as l
+use Rattle.asked_lines.specs.Asked.{LacksName}
+use Rattle.signoff_call.specs.Answers.{done, refusal, reported}
+use Rattle.signoff_call.specs.Waves.{first_waved}
+use Rattle.signoff_call.specs.Tasks.{RefusesBoundProof, RefusesBy, RefusesTexts, Reports, ReportsTexts, Stores, machine_shown, signed_text, stores}
 
--- the report of all lines of the set
-pub record IsBoundReport (b : Pair) (budget : ℕ) (book : Book) (r : Report) : Type 0 where
-  pub lines : AreDecided budget b w.All book.lines.items
-  pub is : IsReportOf w.All book.lines.items r
-  pub least : HasLeast w.All budget book
+-- the report of the lines of the set that are asked for
+pub record IsBoundReport (b : Pair) (which : Which) (budget : ℕ) (book : Book) (r : Report) : Type 0 where
+  pub lines : AreDecided budget b which book.lines.items
+  pub is : IsReportOf which book.lines.items r
+  pub least : HasLeast which budget book
 
--- all its lines are decided, or why not
-abbrev pub SaysBound : (Report → Answer → Type 0) → Pair → ℕ → ℕ → Book → Stores → Answer → Type 0
-SaysBound Says b budget workers book st answer =
-    RefusesTexts (RefusesAsked b.set w.All) (AreObsOf b w.All) book st answer ⊎ ReportsTexts (IsBoundReport b budget book) workers Says book st answer
+-- they are decided, or why not
+abbrev pub SaysBound : (Report → Answer → Type 0) → Pair → Which → ℕ → ℕ → Book → Stores → Answer → Type 0
+SaysBound Says b which budget workers book st answer =
+    RefusesTexts (RefusesAsked b.set which) (AreObsOf b which) book st answer ⊎ ReportsTexts (IsBoundReport b which budget book) workers Says book st answer
 
-abbrev pub SaysMachine : Set → Report → Answer → Type 0
-SaysMachine set r answer = answer ≡ signed_text (machine_text set) r
+abbrev pub SaysMachine : Set → Form → Report → Answer → Type 0
+SaysMachine set form r answer = answer ≡ signed_text (machine_shown set form) r
+
+abbrev pub SaysWave : Pair → List Line → Report → Answer → Type 0
+SaysWave b lines r answer = answer ≡ reported r.verdicts.items (first_waved b lines r.text)
 
 abbrev pub SaysPath : Set → List Row → Report → Answer → Type 0
 SaysPath set trace r answer = (path : Path) × IsPath (meaning_of set) set trace path × (answer ≡ signed_text (path_text set path) r)
@@ -53,4 +70,35 @@ WalksBound b text budget workers book st answer =
     ((fault : RowFault) × (fault ≢ Memory) × Stands b.set text fault × RefusesBy 11 (codes "rows: " ++ fault_text fault) book st answer)
     ⊎ ((trace : List Row) × Gives b text trace
     × (((t : ℕ) × IsUnmet (meaning_of b.set) b.set trace (Some t) × RefusesBy 11 (codes "rows: Unmet " ++ decimal t) book st answer)
-    ⊎ (IsUnmet (meaning_of b.set) b.set trace None × SaysBound (SaysPath b.set trace) b budget workers book st answer)))
+    ⊎ (IsUnmet (meaning_of b.set) b.set trace None × SaysBound (SaysPath b.set trace) b w.All budget workers book st answer)))
+
+-- a derivation of the line's clauses is kept, and then the line is decided over what the keeper has
+pub record KeepsFirst (b : Pair) (name text : List ℕ) (budget workers : ℕ) (book : Book) (st : Stores) (answer : Answer) : Type 0 where
+  pub between : Option Tables
+  pub kept : KeepsProof b name text st.before between
+  pub says : SaysBound (Reports (λ r. r.text)) b (w.One name) budget workers book (stores between st.after st.asked) answer
+
+-- why no derivation is kept, as an answer
+abbrev pub IsRefusalOf : KeepFault → Answer → Type 0
+IsRefusalOf k.NoLine a = a ≡ refusal (status_of f.NoLine) (fault_line f.NoLine)
+IsRefusalOf (k.Proof fault) a = a ≡ refusal 12 (codes "proof: " ++ proof_fault_text fault)
+IsRefusalOf k.Large a = a ≡ refusal 12 (codes "proof: Large")
+IsRefusalOf k.Keeper a = a ≡ refusal (status_of f.Keeper) (fault_line f.Keeper)
+IsRefusalOf k.Memory a = ⊥
+
+-- a proof of the line of a name is kept, and then proofs of it are as the line is decided
+abbrev pub AddsTwiceTo : Pair → List ℕ → Option Tables → Option Tables → Type 0
+AddsTwiceTo b name before after =
+    (between : Option Tables) × AddsProofsOf (AreObsOf b (w.One name)) before between × AddsProofsOf (AreObsOf b (w.One name)) between after
+
+-- no line has the name, or the keeper failed; or the text has no derivation that may be kept; or it is kept
+abbrev pub AcceptsBound : Pair → List ℕ → List ℕ → ℕ → ℕ → Book → Stores → Answer → Type 0
+AcceptsBound b name text budget workers book st answer =
+    RefusesTexts (RefusesAsked b.set (w.One name)) (λ obs. ⊥) book st answer
+    ⊎ (RefusesBoundProof b name text book st answer ⊎ KeepsFirst b name text budget workers book st answer)
+
+-- the clauses of the line of a name, or that there is no such line
+abbrev pub ShowsClauses : Pair → List ℕ → Answer → Type 0
+ShowsClauses b name a =
+    (LacksName b.set name l.NoLine × (a ≡ refusal (status_of f.NoLine) (fault_line f.NoLine)))
+    ⊎ ((text : List ℕ) × IsClausesText b name text × (a ≡ done text))

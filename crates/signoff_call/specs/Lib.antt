@@ -1,4 +1,5 @@
 pub mod Answers
+pub mod Waves
 pub mod Tasks
 pub mod Bound
 pub mod Run

@@ -24,24 +24,27 @@ use Rattle.desk_http.specs.declared.serving.Quota.{Quota}
 use Rattle.desk_http.specs.Serving.{Line as Wires, ServesMany, ServesQuota, State, StopsWithin}
 use Rattle.signoff_call.specs.declared.answer.Answer.{Answer}
 use Rattle.signoff_call.specs.declared.files.Read.{Read}
-use Rattle.signoff_call.specs.declared.files.Read.TheVariants.{NoModule, NoSet, NoMore, All}
+use Rattle.signoff_call.specs.declared.files.Read.TheVariants.{NoModule, NoSet, NoThird, All}
 use Rattle.signoff_call.specs.Answers.{counted_word, done, moved_text, refusal, summary}
-use Rattle.signoff_call.specs.Tasks.{AnswersTask, AnswersTexts, AreObsOfTask, RefusesBy, Stores, stores}
+use Rattle.signoff_call.specs.Tasks.{AnswersTask, AnswersTexts, LeavesTask, RefusesBy, Stores, stores}
 
 -- the name of the third file, where there is one
-abbrev pub more_name : Task → List ℕ
-more_name (t.Decide which) = []
-more_name (t.Meet name) = []
-more_name t.Machine = []
-more_name (t.Walk rows) = rows
-more_name t.Lines = []
+abbrev pub third_name : Task → List ℕ
+third_name (t.Decide which) = []
+third_name (t.Wave name) = []
+third_name (t.Meet name) = []
+third_name (t.Machine form) = []
+third_name (t.Walk rows) = rows
+third_name t.Lines = []
+third_name (t.Clauses name) = []
+third_name (t.Accept given) = given.proof
 
 -- the answer to two texts that were read, or to a file that wasn't
 abbrev pub AnswersJob : Job → Read → Book → Stores → Answer → Type 0
 AnswersJob j NoModule book st answer = RefusesBy 6 (codes "read: " ++ j.module) book st answer
 AnswersJob j NoSet book st answer = RefusesBy 6 (codes "read: " ++ j.set) book st answer
-AnswersJob j NoMore book st answer = RefusesBy 6 (codes "read: " ++ more_name j.task) book st answer
-AnswersJob j (All texts) book st answer = AnswersTask j.task texts.module texts.set texts.more j.budget j.workers book st answer
+AnswersJob j NoThird book st answer = RefusesBy 6 (codes "read: " ++ third_name j.task) book st answer
+AnswersJob j (All texts) book st answer = AnswersTask j.task texts.module texts.set texts.third j.budget j.workers book st answer
 
 -- the keeper failed while rows were moved, or the answer tells what became of them, no line in the book
 pub record AnswersMove (book : Book) (st : Stores) (answer : Answer) : Type 0 where
@@ -98,24 +101,31 @@ pub record LeavesServed (s : Service) (a b : Around) : Type 0 where
 
 -- ---- files
 
--- the first bytes of the file, where the shelf tells
-abbrev pub IsFile : Option (List ℕ → Option (List ℕ)) → List ℕ → List ℕ → Type 0
-IsFile shelf name text = IfSome shelf (λ files. IsSomeAnd (files name) (λ file. text ≡ take (1048576 + 1) file))
+-- the first bytes of the file, one past a limit at most, where the shelf tells
+abbrev pub IsFile : Option (List ℕ → Option (List ℕ)) → ℕ → List ℕ → List ℕ → Type 0
+IsFile shelf limit name text = IfSome shelf (λ files. IsSomeAnd (files name) (λ file. text ≡ take (limit + 1) file))
+
+-- of a module or a set
+abbrev pub IsText : Option (List ℕ → Option (List ℕ)) → List ℕ → List ℕ → Type 0
+IsText shelf name text = IsFile shelf 1048576 name text
 
 -- the third file, where there is one, and else no bytes
-abbrev pub IsMore : Option (List ℕ → Option (List ℕ)) → Task → List ℕ → Type 0
-IsMore shelf (t.Decide which) text = text ≡ []
-IsMore shelf (t.Meet name) text = text ≡ []
-IsMore shelf t.Machine text = text ≡ []
-IsMore shelf (t.Walk rows) text = IsFile shelf rows text
-IsMore shelf t.Lines text = text ≡ []
+abbrev pub IsThird : Option (List ℕ → Option (List ℕ)) → Task → List ℕ → Type 0
+IsThird shelf (t.Decide which) text = text ≡ []
+IsThird shelf (t.Wave name) text = text ≡ []
+IsThird shelf (t.Meet name) text = text ≡ []
+IsThird shelf (t.Machine form) text = text ≡ []
+IsThird shelf (t.Walk rows) text = IsText shelf rows text
+IsThird shelf t.Lines text = text ≡ []
+IsThird shelf (t.Clauses name) text = text ≡ []
+IsThird shelf (t.Accept given) text = IsFile shelf 67108864 given.proof text
 
 -- what was read is what the shelf has; it failed only where its count rose, and the files are read in this order
 abbrev pub IsRead : Option (List ℕ → Option (List ℕ)) → ℕ → ℕ → Job → Read → Type 0
 IsRead shelf before now j NoModule = Rose before now
 IsRead shelf before now j NoSet = Rose before now
-IsRead shelf before now j NoMore = Rose before now
-IsRead shelf before now j (All texts) = IsFile shelf j.module texts.module × IsFile shelf j.set texts.set × IsMore shelf j.task texts.more
+IsRead shelf before now j NoThird = Rose before now
+IsRead shelf before now j (All texts) = IsText shelf j.module texts.module × IsText shelf j.set texts.set × IsThird shelf j.task texts.third
 
 -- what was read for a command; without files nothing is
 abbrev pub Reads : Option (List ℕ → Option (List ℕ)) → ℕ → ℕ → Option Command → Read → Type 0
@@ -132,13 +142,13 @@ Reads shelf before now (Some (c.Migrate file)) read = now ≡ before
 abbrev pub LeavesRead : Job → Read → Option Tables → Option Tables → Type 0
 LeavesRead j NoModule before after = after ≡ before
 LeavesRead j NoSet before after = after ≡ before
-LeavesRead j NoMore before after = after ≡ before
-LeavesRead j (All texts) before after = AddsProofsOf (AreObsOfTask j.task texts.module texts.set) before after
+LeavesRead j NoThird before after = after ≡ before
+LeavesRead j (All texts) before after = LeavesTask j.task texts.module texts.set before after
 
 -- nothing is new, or what is left comes of two texts that the shelf has under the names of the job
 abbrev pub LeavesTexts : Option (List ℕ → Option (List ℕ)) → Job → Option Tables → Option Tables → Type 0
 LeavesTexts shelf j before after = (after ≡ before)
-    ⊎ ((m : List ℕ) × (s : List ℕ) × IsFile shelf j.module m × IsFile shelf j.set s × AddsProofsOf (AreObsOfTask j.task m s) before after)
+    ⊎ ((m : List ℕ) × (s : List ℕ) × IsText shelf j.module m × IsText shelf j.set s × LeavesTask j.task m s before after)
 
 -- what a command leaves at the keeper, whatever is answered: new proofs of obligations of its texts alone, what connections did, or rows that were moved
 abbrev pub LeavesRows : Option (List ℕ → Option (List ℕ)) → Option Command → Around → Around → Type 0

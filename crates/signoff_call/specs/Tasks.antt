@@ -21,10 +21,13 @@ use Rattle.path_machine.specs.declared.rows.RowFault.{RowFault}
 use Rattle.path_machine.specs.declared.rows.RowFault.TheVariants.{Memory}
 use Rattle.path_machine.specs.Rows.{IsRead, Stands}
 use Rattle.path_machine.specs.Runs.{IsRunTrace}
+use Rattle.path_machine.specs.Graphs.{machine_graph}
 use Rattle.path_machine.specs.Texts.{fault_text, machine_text, path_text}
 use Rattle.path_machine.specs.Unmet.{IsUnmet}
 use Rattle.word_dag.specs.Nodes.{Parts}
+use Rattle.signoff_call.specs.Waves.{first_waved}
 use Rattle.reports.specs.declared.book.Book.{Book}
+use Rattle.reports.specs.declared.book.Line.{Line as Told}
 use Rattle.reports.specs.declared.report.Report.{Report}
 use Rattle.reports.specs.declared.which.Which.{Which}
 use Rattle.reports.specs.declared.which.Which.TheVariants as w
@@ -32,6 +35,12 @@ use Rattle.asked_lines.specs.Least.{HasLeast}
 use Rattle.asked_lines.specs.Settled.{AddsProofsOf, AreSettled}
 use Rattle.desk_core.specs.Checks.{AreObsOfTexts, IsReport, Refuses}
 use Rattle.meet_lines.specs.Meetings.{AreObsOfTexts as AreMeetObsOfTexts, IsMeetReport, Refuses as RefusesMeet}
+use Rattle.clause_texts.specs.declared.fault.ProofFault.{ProofFault}
+use Rattle.clause_texts.specs.Faults.{fault_text as proof_fault_text}
+use Rattle.line_clauses.specs.declared.fault.KeepFault.TheVariants.{Large}
+use Rattle.line_clauses.specs.Keeping.{IsClausesText, KeepsProof, RefusesProof, RefusesText}
+use Rattle.command_words.specs.declared.action.Form.{Form}
+use Rattle.command_words.specs.declared.action.Form.TheVariants.{Words, Graph}
 use Rattle.command_words.specs.declared.action.Task.{Task}
 use Rattle.command_words.specs.declared.action.Task.TheVariants as t
 use Rattle.signoff_call.specs.declared.answer.Answer.{Answer}
@@ -100,14 +109,30 @@ AnswersMeet m s name budget workers book st answer =
 abbrev pub signed_text : List ℕ → Report → Answer
 signed_text text r = if r.complete then done (text ++ codes "signed off\n") else reported r.verdicts.items r.text
 
--- the machine of the set, where it is signed off
-abbrev pub ShowsMachine : List ℕ → List ℕ → Report → Answer → Type 0
-ShowsMachine m s r answer = (b : Pair) × IsBoundOf m s b × (answer ≡ signed_text (machine_text b.set) r)
+-- a machine as lines of words, or as a graph
+abbrev pub machine_shown : Set → Form → List ℕ
+machine_shown set Words = machine_text set
+machine_shown set Graph = machine_graph set
 
-abbrev pub AnswersMachine : List ℕ → List ℕ → ℕ → ℕ → Book → Stores → Answer → Type 0
-AnswersMachine m s budget workers book st answer =
+-- the machine of the set, where it is signed off
+abbrev pub ShowsMachine : List ℕ → List ℕ → Form → Report → Answer → Type 0
+ShowsMachine m s form r answer = (b : Pair) × IsBoundOf m s b × (answer ≡ signed_text (machine_shown b.set form) r)
+
+abbrev pub AnswersMachine : List ℕ → List ℕ → Form → ℕ → ℕ → Book → Stores → Answer → Type 0
+AnswersMachine m s form budget workers book st answer =
     RefusesTexts (Refuses m s w.All) (AreObsOfTexts m s w.All) book st answer
-    ⊎ ReportsTexts (IsChecked m s w.All budget book) workers (ShowsMachine m s) book st answer
+    ⊎ ReportsTexts (IsChecked m s w.All budget book) workers (ShowsMachine m s form) book st answer
+
+-- ---- a counterexample as a waveform
+
+-- the waveform of the line's counterexample where it is refuted, and else the report
+abbrev pub ShowsWave : List ℕ → List ℕ → List Told → Report → Answer → Type 0
+ShowsWave m s lines r answer = (b : Pair) × IsBoundOf m s b × (answer ≡ reported r.verdicts.items (first_waved b lines r.text))
+
+abbrev pub AnswersWave : List ℕ → List ℕ → List ℕ → ℕ → ℕ → Book → Stores → Answer → Type 0
+AnswersWave m s name budget workers book st answer =
+    RefusesTexts (Refuses m s (w.One name)) (AreObsOfTexts m s (w.One name)) book st answer
+    ⊎ ReportsTexts (IsChecked m s (w.One name) budget book) workers (ShowsWave m s book.lines.items) book st answer
 
 -- ---- the path of a run
 
@@ -160,20 +185,65 @@ pub record ListsLines (m s : List ℕ) (book : Book) (st : Stores) (answer : Ans
 abbrev pub AnswersLines : List ℕ → List ℕ → Book → Stores → Answer → Type 0
 AnswersLines m s book st answer = RefusesTexts (RefusesStage m s) (λ obs. ⊥) book st answer ⊎ ListsLines m s book st answer
 
+-- ---- the clauses of a line
+
+pub record ListsClauses (m s name : List ℕ) (book : Book) (st : Stores) (answer : Answer) : Type 0 where
+  pub bound : Pair
+  pub from : IsBoundOf m s bound
+  pub text : List ℕ
+  pub clauses : IsClausesText bound name text
+  pub empty : book.lines.items ≡ []
+  pub same : st.after ≡ st.before
+  pub answer_is : answer ≡ done text
+
+abbrev pub AnswersClauses : List ℕ → List ℕ → List ℕ → Book → Stores → Answer → Type 0
+AnswersClauses m s name book st answer = RefusesTexts (Refuses m s (w.One name)) (λ obs. ⊥) book st answer ⊎ ListsClauses m s name book st answer
+
+-- ---- derivations of other solvers
+
+-- the text has no derivation of the line's clauses, or one that may not be kept
+abbrev pub RefusesBoundProof : Pair → List ℕ → List ℕ → Book → Stores → Answer → Type 0
+RefusesBoundProof b name text book st answer =
+    ((fault : ProofFault) × RefusesText b name text fault × RefusesBy 12 (codes "proof: " ++ proof_fault_text fault) book st answer)
+    ⊎ (RefusesProof b name text Large × RefusesBy 12 (codes "proof: Large") book st answer)
+
+-- a derivation of the line's clauses is kept, and then the line is decided over what the keeper has
+pub record KeepsThenDecides (m s name text : List ℕ) (bound : Pair) (budget workers : ℕ) (book : Book) (st : Stores) (answer : Answer) : Type 0 where
+  pub between : Option Tables
+  pub kept : KeepsProof bound name text st.before between
+  pub decides : AnswersTexts m s (w.One name) budget workers (λ r. r.text) book (stores between st.after st.asked) answer
+
+-- a stage refuses the texts, no line has the name, or the keeper failed; or the proof is refused; or it is kept
+abbrev pub AnswersAccept : List ℕ → List ℕ → List ℕ → List ℕ → ℕ → ℕ → Book → Stores → Answer → Type 0
+AnswersAccept m s name text budget workers book st answer =
+    RefusesTexts (Refuses m s (w.One name)) (λ obs. ⊥) book st answer
+    ⊎ ((b : Pair) × IsBoundOf m s b × (RefusesBoundProof b name text book st answer ⊎ KeepsThenDecides m s name text b budget workers book st answer))
+
 -- ---- all of them
 
 -- of two texts, and of the text of the third file
 abbrev pub AnswersTask : Task → List ℕ → List ℕ → List ℕ → ℕ → ℕ → Book → Stores → Answer → Type 0
-AnswersTask (t.Decide which) m s more budget workers book st answer = AnswersTexts m s which budget workers (report_bytes which book) book st answer
-AnswersTask (t.Meet name) m s more budget workers book st answer = AnswersMeet m s name budget workers book st answer
-AnswersTask t.Machine m s more budget workers book st answer = AnswersMachine m s budget workers book st answer
-AnswersTask (t.Walk rows) m s more budget workers book st answer = AnswersWalk m s more budget workers book st answer
-AnswersTask t.Lines m s more budget workers book st answer = AnswersLines m s book st answer
+AnswersTask (t.Decide which) m s third budget workers book st answer = AnswersTexts m s which budget workers (report_bytes which book) book st answer
+AnswersTask (t.Wave name) m s third budget workers book st answer = AnswersWave m s name budget workers book st answer
+AnswersTask (t.Meet name) m s third budget workers book st answer = AnswersMeet m s name budget workers book st answer
+AnswersTask (t.Machine form) m s third budget workers book st answer = AnswersMachine m s form budget workers book st answer
+AnswersTask (t.Walk rows) m s third budget workers book st answer = AnswersWalk m s third budget workers book st answer
+AnswersTask t.Lines m s third budget workers book st answer = AnswersLines m s book st answer
+AnswersTask (t.Clauses name) m s third budget workers book st answer = AnswersClauses m s name book st answer
+AnswersTask (t.Accept given) m s third budget workers book st answer = AnswersAccept m s given.line third budget workers book st answer
 
--- the obligations of what is done with two texts
-abbrev pub AreObsOfTask : Task → List ℕ → List ℕ → List Parts → Type 0
-AreObsOfTask (t.Decide which) m s = AreObsOfTexts m s which
-AreObsOfTask (t.Meet name) m s = AreMeetObsOfTexts m s name
-AreObsOfTask t.Machine m s = AreObsOfTexts m s w.All
-AreObsOfTask (t.Walk rows) m s = AreObsOfTexts m s w.All
-AreObsOfTask t.Lines m s = λ obs. ⊥
+-- a proof of the line of a name is kept, and then proofs of it are as the line is decided
+abbrev pub AddsTwice : List ℕ → List ℕ → List ℕ → Option Tables → Option Tables → Type 0
+AddsTwice m s name before after =
+    (between : Option Tables) × AddsProofsOf (AreObsOfTexts m s (w.One name)) before between × AddsProofsOf (AreObsOfTexts m s (w.One name)) between after
+
+-- what is left at the keeper, whatever is answered: each proof that differs is one of an obligation of the lines that are decided, under its text
+abbrev pub LeavesTask : Task → List ℕ → List ℕ → Option Tables → Option Tables → Type 0
+LeavesTask (t.Decide which) m s before after = AddsProofsOf (AreObsOfTexts m s which) before after
+LeavesTask (t.Wave name) m s before after = AddsProofsOf (AreObsOfTexts m s (w.One name)) before after
+LeavesTask (t.Meet name) m s before after = AddsProofsOf (AreMeetObsOfTexts m s name) before after
+LeavesTask (t.Machine form) m s before after = AddsProofsOf (AreObsOfTexts m s w.All) before after
+LeavesTask (t.Walk rows) m s before after = AddsProofsOf (AreObsOfTexts m s w.All) before after
+LeavesTask t.Lines m s before after = after ≡ before
+LeavesTask (t.Clauses name) m s before after = after ≡ before
+LeavesTask (t.Accept given) m s before after = AddsTwice m s given.line before after

@@ -1,16 +1,19 @@
-// The names of lines that aren't decided.
+// The names of lines that aren't decided, and their clauses.
 ghost use Rattle.std.specs.Prelude.{◌≡◌, ◌++◌, ◌∷◌, [], List, Option, ℕ, IfOk, OnOk};
 ghost use Rattle.std.specs.List.{flat_map};
 ghost use Rattle.outside.specs.Tables.{Tables};
 ghost use Rattle.set_tree.specs.declared.line.Line.{Line as Lines};
 ghost use Rattle.reports.specs.declared.book.Book.{Book};
 ghost use Rattle.line_laws.specs.Names.{line_name};
-ghost use Rattle.signoff_call.specs.Tasks.{AnswersLines, names_text, stores};
+ghost use Rattle.signoff_call.specs.Bound.{ShowsClauses};
+ghost use Rattle.signoff_call.specs.Tasks.{AnswersClauses, AnswersLines, names_text, stores};
 
 use crate::answer::{Answer, done, turned_down};
 use asked_lines::all_lines;
 use binding::Bound;
 use check_stages::bound_of;
+use desk_core::check_fault_of;
+use line_clauses::clauses_text;
 use line_laws::line_name;
 use outside::Text;
 use set_tree::{Line, Set};
@@ -56,6 +59,37 @@ pub fn lines_listed(alloc: Global, module: &Text, set: &Text) -> Result<Answer, 
             // a call, since a proof would write out the drop of all trees here
             drop(bound);
             Ok(done(names?))
+        }
+        Err(fault) => turned_down(alloc, fault),
+    }
+}
+
+// The clauses of the line of a name of a set that is bound.
+fn clauses_shown(alloc: Global, bound: &Bound, name: &Text) -> Result<Answer, AllocError>
+    ensures answer { IfOk result (ShowsClauses bound.now name.now) }
+    ensures keeper { IfOk result (λ a. a.status ≡ 8 → ⊥) }
+{
+    match clauses_text(alloc, bound, name) {
+        Ok(text) => Ok(done(text)),
+        Err(fault) => turned_down(alloc, check_fault_of(fault)),
+    }
+}
+
+/// The clauses of the line of a name of two texts, in DIMACS.
+pub fn clauses_listed(
+    alloc: Global,
+    module: &Text,
+    set: &Text,
+    name: &Text,
+) -> Result<Answer, AllocError>
+    ensures answer { IfOk result (λ a. (book : Book) (tables : Option Tables) (asked : List ℕ) → book.lines.items ≡ [] → AnswersClauses «module».now set.now name.now book (stores tables tables asked) a) }
+    ensures keeper { IfOk result (λ a. a.status ≡ 8 → ⊥) }
+{
+    match bound_of(alloc, module.bytes(), set.bytes()) {
+        Ok(bound) => {
+            let answer = clauses_shown(alloc, &bound, name);
+            drop(bound);
+            answer
         }
         Err(fault) => turned_down(alloc, fault),
     }

@@ -11,19 +11,22 @@ ghost use Rattle.reports.specs.declared.which.Which.TheVariants as w;
 ghost use Rattle.signoff_call.specs.Answers.{refusal};
 ghost use Rattle.signoff_call.specs.Bound.{SaysBound, SaysMachine, SaysPath, WalksBound};
 ghost use Rattle.signoff_call.specs.Run.{HasSame};
-ghost use Rattle.signoff_call.specs.Tasks.{AnswersMachine, AnswersWalk, signed_text, stores};
+ghost use Rattle.signoff_call.specs.Tasks.{AnswersMachine, AnswersWalk, machine_shown, signed_text, stores};
 
 use crate::answer::{Answer, done, refusal, reported, turned_down};
 use binding::Bound;
 use check_stages::bound_of;
+use command_words::Form;
 use desk_core::Checker;
 use helper_box::Helper;
 use outside::{Gate, Keeper, Text};
 use path_machine::{
-    RowFault, fault_text, machine_text, path_of, path_text, read_rows, run_trace, unmet,
+    RowFault, fault_text, machine_graph, machine_text, path_of, path_text, read_rows, run_trace,
+    unmet,
 };
 use replay::Trace;
 use reports::{Report, Which};
+use set_sound::Sound;
 use std::alloc::{AllocError, Global};
 use std::thread::Threads;
 
@@ -40,12 +43,23 @@ fn signed_text(alloc: Global, text: &Text, report: &Report) -> Result<Answer, Al
     Ok(done(Text::new(bytes)))
 }
 
+// A machine as lines of words, or as a graph.
+fn machine_bytes(alloc: Global, set: &Sound, form: Form) -> Result<Text, AllocError>
+    ensures { IfOk result (λ text. text ≡ machine_shown set.now form) }
+{
+    match form {
+        Form::Words => machine_text(alloc, set),
+        Form::Graph => machine_graph(alloc, set),
+    }
+}
+
 // The machine of a set that is bound, where it is signed off.
 fn machine_shown<R: Threads + Sync, K: Keeper, H: Helper, G: Gate + Sync>(
     checker: &mut Checker<'_, '_, '_, '_, R, K, H, G>,
     bound: &Bound,
+    form: Form,
 ) -> Result<Answer, AllocError>
-    ensures answer { IfOk result (SaysBound (SaysMachine bound.now.set) bound.now checker.old.prover.settings.budget checker.old.prover.settings.workers checker.new.book.now
+    ensures answer { IfOk result (SaysBound (SaysMachine bound.now.set form) bound.now w.All checker.old.prover.settings.budget checker.old.prover.settings.workers checker.new.book.now
         (stores (kept_by K.tables checker.old.prover) (kept_by K.tables checker.new.prover) (asked_by H.asked checker.old.prover))) }
     ensures left { AddsProofsOf (AreObsOf bound.now w.All) (kept_by K.tables checker.old.prover) (kept_by K.tables checker.new.prover) }
     ensures keeper { IfOk result (λ a. a.status ≡ 8 → Rose (K.faults checker.old.prover.keeper.now) (K.faults checker.new.prover.keeper.now)) }
@@ -54,7 +68,7 @@ fn machine_shown<R: Threads + Sync, K: Keeper, H: Helper, G: Gate + Sync>(
     let alloc = checker.prover.alloc;
     match checker.check_bound(bound, &Which::All) {
         Ok(report) => {
-            let text = machine_text(alloc, bound.set())?;
+            let text = machine_bytes(alloc, bound.set(), form)?;
             signed_text(alloc, &text, &report)
         }
         Err(fault) => turned_down(alloc, fault),
@@ -66,9 +80,10 @@ pub fn machine_of<R: Threads + Sync, K: Keeper, H: Helper, G: Gate + Sync>(
     checker: &mut Checker<'_, '_, '_, '_, R, K, H, G>,
     module: &Text,
     set: &Text,
+    form: Form,
 ) -> Result<Answer, AllocError>
     requires empty { checker.old.book.now.lines.items ≡ [] }
-    ensures answer { IfOk result (AnswersMachine «module».now set.now checker.old.prover.settings.budget checker.old.prover.settings.workers checker.new.book.now
+    ensures answer { IfOk result (AnswersMachine «module».now set.now form checker.old.prover.settings.budget checker.old.prover.settings.workers checker.new.book.now
         (stores (kept_by K.tables checker.old.prover) (kept_by K.tables checker.new.prover) (asked_by H.asked checker.old.prover))) }
     ensures left { AddsProofsOf (AreObsOfTexts «module».now set.now w.All) (kept_by K.tables checker.old.prover) (kept_by K.tables checker.new.prover) }
     ensures keeper { IfOk result (λ a. a.status ≡ 8 → Rose (K.faults checker.old.prover.keeper.now) (K.faults checker.new.prover.keeper.now)) }
@@ -77,7 +92,7 @@ pub fn machine_of<R: Threads + Sync, K: Keeper, H: Helper, G: Gate + Sync>(
     let alloc = checker.prover.alloc;
     match bound_of(alloc, module.bytes(), set.bytes()) {
         Ok(bound) => {
-            let answer = machine_shown(checker, &bound);
+            let answer = machine_shown(checker, &bound, form);
             // a call, since a proof would write out the drop of all trees here
             drop(bound);
             answer
@@ -109,7 +124,7 @@ fn path_shown<R: Threads + Sync, K: Keeper, H: Helper, G: Gate + Sync>(
     trace: &Trace,
 ) -> Result<Answer, AllocError>
     requires { IsTrace bound.now.set trace.now.rows }
-    ensures answer { IfOk result (SaysBound (SaysPath bound.now.set trace.now.rows) bound.now checker.old.prover.settings.budget checker.old.prover.settings.workers checker.new.book.now
+    ensures answer { IfOk result (SaysBound (SaysPath bound.now.set trace.now.rows) bound.now w.All checker.old.prover.settings.budget checker.old.prover.settings.workers checker.new.book.now
         (stores (kept_by K.tables checker.old.prover) (kept_by K.tables checker.new.prover) (asked_by H.asked checker.old.prover))) }
     ensures left { AddsProofsOf (AreObsOf bound.now w.All) (kept_by K.tables checker.old.prover) (kept_by K.tables checker.new.prover) }
     ensures keeper { IfOk result (λ a. a.status ≡ 8 → Rose (K.faults checker.old.prover.keeper.now) (K.faults checker.new.prover.keeper.now)) }

@@ -5,7 +5,7 @@ ghost use Rattle.outside.specs.Faults.{Rose};
 ghost use Rattle.command_words.specs.Commands.{IsBounded, HasBounds, command_of};
 ghost use Rattle.proof_store.specs.Provers.{asked_by, kept_by};
 ghost use Rattle.desk_http.specs.Serving.{line, state, state_of};
-ghost use Rattle.signoff_call.specs.Run.{Answers, AnswersJob, Delivers, HasSame, LeavesRead, LeavesRows, Reads, around, more_name};
+ghost use Rattle.signoff_call.specs.Run.{Answers, AnswersJob, Delivers, HasSame, LeavesRead, LeavesRows, Reads, around, third_name};
 ghost use Rattle.signoff_call.specs.Tasks.{stores};
 ghost use Rattle.signoff_call.specs.declared.answer.Answer.{Answer};
 ghost use Rattle.signoff_call.specs.declared.files.Read.{Read};
@@ -26,10 +26,12 @@ use std::thread::Threads;
 
 /// The top call: answers the words, and puts the answer; the lines that it decides stand in the book. The commands are `ops M S`, which decides the
 /// lines on the design of the module in the file M with the set in the file S, `check M S`, which decides all lines, `trace M S NAME`, which decides the
-/// line of this name and puts its counterexample where it is refuted, `least M S NAME`, which puts the least one, `meet M S` and `meet M S NAME`, which
-/// say what can be met, `machine M S`, which decides all lines and puts the operations of a set that is signed off as a machine, and `walk M S ROWS`,
-/// which puts the path of the run from reset whose registers are 0 at first and whose inputs the file ROWS gives, each with the options `--budget B`,
-/// `--workers W` and `--store FILE`; `lines M S`, which puts the names of all lines and decides none, `demo N`, which checks the generated texts of N
+/// line of this name and puts its counterexample where it is refuted, `least M S NAME`, which puts the least one, `wave M S NAME`, which puts it as a
+/// waveform, `meet M S` and `meet M S NAME`, which say what can be met, `machine M S`, which decides all lines and puts the operations of a set that is
+/// signed off as a machine, with the option `--dot` as a graph, and `walk M S ROWS`, which puts the path of the run from reset whose registers are 0 at
+/// first and whose inputs the file ROWS gives, each with the options `--budget B`, `--workers W`, `--store FILE` and `--progress`; `lines M S`, which puts
+/// the names of all lines and decides none, `clauses M S NAME`, which puts the clauses of the line of this name, `accept M S NAME PROOF --store FILE`, which
+/// keeps the derivation of them in the file PROOF and then decides the line, `demo N`, which checks the generated texts of N
 /// stages, `serve PORT COUNT FILE`, which serves the desk that FILE holds to COUNT connections at PORT, and `migrate FILE`, which puts the proofs that
 /// FILE keeps again as records of the newest form. Lines whose proofs the keeper holds aren't solved again, and new proofs are
 /// put to it; the helpers are asked before the workers. The status is
@@ -39,6 +41,7 @@ use std::thread::Threads;
 /// - 3 where the module text is refused, `module: ` and the fault; 4 where the set's text is, `set: ` and the fault; 5 where the set doesn't fit the
 ///   design, `bind: ` and the fault. The first stage that refuses is answered: the module text is read, then the set's, then the modules are made a design;
 /// - 11 where rows are refused or their run breaks a constraint, with the line `rows: ` and the fault or the cycle;
+/// - 12 where a derivation isn't accepted or may not be kept, with the line `proof: ` and the fault;
 /// - 8 where the keeper fails, with the line `keeper`; while the desk is served a peer is told so;
 /// - 9 where the port has no next connection, with the line `port`;
 /// - 7 where the sink refuses a report;
@@ -133,12 +136,18 @@ fn answered<R: Threads + Sync, F: Shelf, K: Keeper, P: Port, H: Helper, G: Gate 
 }
 
 // The name of the third file, where there is one.
-fn more_name(task: &Task) -> &[u8]
-    ensures { result.now ≡ more_name task.now }
+fn third_name(task: &Task) -> &[u8]
+    ensures { result.now ≡ third_name task.now }
 {
     match task {
-        Task::Decide(_) | Task::Meet(_) | Task::Machine | Task::Lines => b"",
         Task::Walk(rows) => rows.bytes(),
+        Task::Accept(given) => given.proof.bytes(),
+        Task::Decide(_)
+        | Task::Wave(_)
+        | Task::Meet(_)
+        | Task::Machine(_)
+        | Task::Lines
+        | Task::Clauses(_) => b"",
     }
 }
 
@@ -159,7 +168,7 @@ fn job_answer<R: Threads + Sync, K: Keeper, H: Helper, G: Gate + Sync>(
     match read {
         Read::NoModule => refusal(alloc, 6, b"read: ", job.module.bytes()),
         Read::NoSet => refusal(alloc, 6, b"read: ", job.set.bytes()),
-        Read::NoMore => refusal(alloc, 6, b"read: ", more_name(&job.task)),
+        Read::NoThird => refusal(alloc, 6, b"read: ", third_name(&job.task)),
         Read::All(texts) => judged(checker, job, texts),
     }
 }

@@ -5,7 +5,7 @@ ghost use Rattle.command_words.specs.Commands.{HasBounds};
 ghost use Rattle.outside.specs.Faults.{Rose};
 ghost use Rattle.signoff_call.specs.Answers.{counted, first_traced, least_line, report_bytes, summary, summary_line};
 ghost use Rattle.signoff_call.specs.Run.{HasSame};
-ghost use Rattle.signoff_call.specs.Tasks.{AnswersMeet, AnswersTask, AnswersTexts, AreObsOfTask, stores};
+ghost use Rattle.signoff_call.specs.Tasks.{AnswersMeet, AnswersTask, AnswersTexts, LeavesTask, stores};
 ghost use Rattle.reports.specs.Reports.{last_line};
 ghost use Rattle.asked_lines.specs.Settled.{AddsProofsOf};
 ghost use Rattle.proof_store.specs.Provers.{asked_by, kept_by};
@@ -14,10 +14,12 @@ ghost use Rattle.meet_lines.specs.Meetings.{AreObsOfTexts as AreMeetObsOfTexts};
 ghost use Rattle.demo_gen.specs.Texts.{module_text, set_text};
 ghost use Rattle.reports.specs.declared.which.Which.TheVariants as w;
 
+use crate::accepting::accepted_in;
 use crate::answer::{Answer, met, reported, turned_down};
 use crate::files::Texts;
-use crate::listing::lines_listed;
+use crate::listing::{clauses_listed, lines_listed};
 use crate::paths::{machine_of, walk_of};
+use crate::waves::wave_of_texts;
 use command_words::{Job, Task};
 use demo_gen::{module_text, set_text};
 use desk_core::Checker;
@@ -134,9 +136,9 @@ pub fn judged<R: Threads + Sync, K: Keeper, H: Helper, G: Gate + Sync>(
 ) -> Result<Answer, AllocError>
     requires bounds { HasBounds job.now }
     requires empty { checker.old.book.now.lines.items ≡ [] }
-    ensures answer { IfOk result (AnswersTask job.now.task texts.now.«module» texts.now.set texts.now.more job.now.budget job.now.workers checker.new.book.now
+    ensures answer { IfOk result (AnswersTask job.now.task texts.now.«module» texts.now.set texts.now.third job.now.budget job.now.workers checker.new.book.now
         (stores (kept_by K.tables checker.old.prover) (kept_by K.tables checker.new.prover) (asked_by H.asked checker.old.prover))) }
-    ensures left { AddsProofsOf (AreObsOfTask job.now.task texts.now.«module» texts.now.set) (kept_by K.tables checker.old.prover) (kept_by K.tables checker.new.prover) }
+    ensures left { LeavesTask job.now.task texts.now.«module» texts.now.set (kept_by K.tables checker.old.prover) (kept_by K.tables checker.new.prover) }
     ensures keeper { IfOk result (λ a. a.status ≡ 8 → Rose (K.faults checker.old.prover.keeper.now) (K.faults checker.new.prover.keeper.now)) }
     ensures same { HasSame checker.old checker.new }
 {
@@ -149,9 +151,12 @@ pub fn judged<R: Threads + Sync, K: Keeper, H: Helper, G: Gate + Sync>(
     match &job.task {
         Task::Decide(which) => decided(checker, which, module, set),
         Task::Meet(name) => met_in(checker, name.as_ref(), module, set),
-        Task::Machine => machine_of(checker, module, set),
-        Task::Walk(_) => walk_of(checker, module, set, &texts.more),
+        Task::Wave(name) => wave_of_texts(checker, module, set, name),
+        Task::Machine(form) => machine_of(checker, module, set, *form),
+        Task::Walk(_) => walk_of(checker, module, set, &texts.third),
         Task::Lines => lines_listed(checker.prover.alloc, module, set),
+        Task::Clauses(name) => clauses_listed(checker.prover.alloc, module, set, name),
+        Task::Accept(given) => accepted_in(checker, module, set, given, &texts.third),
     }
 }
 

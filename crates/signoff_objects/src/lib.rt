@@ -2,5 +2,7 @@
 #![tactic(auto)]
 
 mod objects;
+mod progress;
 
 pub use objects::answer;
+pub use progress::Told;

@@ -1,11 +1,12 @@
 // The real objects that the top call works on.
-ghost use Rattle.std.specs.Prelude.{◌≡◌, ◌⊎◌, None, IfOk, map, string_bytes};
+ghost use Rattle.std.specs.Prelude.{◌≡◌, ◌⊎◌, None, IfOk, map, string_bytes, []};
 ghost use Rattle.command_words.specs.Commands.{command_of};
 
+use crate::progress::{Progress, Screen, Told};
 use command_words::{Wants, wants};
 use helper_box::{Helper, Sampler, Table, Units};
 use keeper_sql::SqlKeeper;
-use outside::{Console, FileShelf, Keeper, MemKeeper, QuietGate, Sink, TcpPort, Text};
+use outside::{Console, FileShelf, Keeper, MemKeeper, Sink, TcpPort, Text};
 use reports::Book;
 use signoff_call::signoff;
 use std::alloc::{AllocError, Global};
@@ -13,13 +14,35 @@ use std::net::{Ipv4Addr, SocketAddr, TcpListener};
 use std::thread::Threads;
 use std::time::Duration;
 
+/// What a call runs on, beside its keeper, its port and its book: threads, the words, and the gate of its workers.
+#[derive(Clone, Copy)]
+struct Call<'a, R: Threads + Sync> {
+    threads: &'a R,
+    words: &'a [String],
+    gate: &'a Progress,
+}
+
 /// Answers words over real objects: the status of the top call. The proofs and the desk are kept in the file that the words name, and in memory
-/// where they name none; connections come from this machine alone. Threads are started by a handle of their own. It is 8, with the line `keeper`, where a
-/// desk that is to be served can't be opened, and 70 where there is no memory for the objects.
-pub fn answer<R: Threads + Sync>(threads: &R, rt: &HostRuntime, words: &[String]) -> u8
+/// where they name none; connections come from this machine alone. Threads are started by a handle of their own. The book takes the lines that were
+/// decided. Where it is to be told, standard error says how many lines the workers were handed so far, each time that one is. It is 8, with the line
+/// `keeper`, where a desk that is to be served can't be opened, and 70 where there is no memory for the objects.
+pub fn answer<R: Threads + Sync>(
+    threads: &R,
+    rt: &HostRuntime,
+    words: &[String],
+    told: Told,
+    book: &mut Book,
+) -> u8
+    requires { book.old.lines.items ≡ [] }
     ensures no_command { command_of (map string_bytes words.now) ≡ None → (result ≡ 2) ⊎ (result ≡ 70) }
 {
-    match ended(threads, rt, words) {
+    let gate = Progress::new(rt, told);
+    let call = Call {
+        threads,
+        words,
+        gate: &gate,
+    };
+    match ended(&call, rt, book) {
         Ok(status) => status,
         Err(AllocError) => 70,
     }
@@ -27,18 +50,19 @@ pub fn answer<R: Threads + Sync>(threads: &R, rt: &HostRuntime, words: &[String]
 
 // The status of the top call, unless there is no memory for the objects.
 fn ended<R: Threads + Sync>(
-    threads: &R,
+    call: &Call<'_, R>,
     rt: &HostRuntime,
-    words: &[String],
+    book: &mut Book,
 ) -> Result<u8, AllocError>
-    ensures { IfOk result (λ status. command_of (map string_bytes words.now) ≡ None → (status ≡ 2) ⊎ (status ≡ 70)) }
+    requires { book.old.lines.items ≡ [] }
+    ensures { IfOk result (λ status. command_of (map string_bytes call.now.words.now) ≡ None → (status ≡ 2) ⊎ (status ≡ 70)) }
 {
     let alloc = rt.alloc();
     let Wants {
         store,
         port,
         timeout,
-    } = wants(alloc, words)?;
+    } = wants(alloc, call.words)?;
     let serves = port.is_some();
     let limit = Duration::from_secs(u64::from(timeout));
     let mut port = TcpPort::new(rt.clone()?, listener(rt, port), limit);
@@ -48,15 +72,12 @@ fn ended<R: Threads + Sync>(
             if serves && !keeper.is_open() {
                 return no_desk(rt);
             }
-            over(threads, rt, words, &mut keeper, &mut port)
+            over(call, &mut keeper, &mut port, book)
         }
-        None => over(
-            threads,
-            rt,
-            words,
-            &mut MemKeeper::new(alloc, Vec::new(alloc)),
-            &mut port,
-        ),
+        None => {
+            let mut keeper = MemKeeper::new(alloc, Vec::new(alloc));
+            over(call, &mut keeper, &mut port, book)
+        }
     }
 }
 
@@ -79,29 +100,34 @@ fn opened(rt: &HostRuntime, path: &Text) -> Result<SqlKeeper, AllocError> {
 }
 
 fn over<R: Threads + Sync, K: Keeper>(
-    threads: &R,
-    rt: &HostRuntime,
-    words: &[String],
+    call: &Call<'_, R>,
     keeper: &mut K,
     port: &mut TcpPort<HostRuntime>,
+    book: &mut Book,
 ) -> Result<u8, AllocError>
-    ensures { IfOk result (λ status. command_of (map string_bytes words.now) ≡ None → (status ≡ 2) ⊎ (status ≡ 70)) }
+    requires { book.old.lines.items ≡ [] }
+    ensures { IfOk result (λ status. command_of (map string_bytes call.now.words.now) ≡ None → (status ≡ 2) ⊎ (status ≡ 70)) }
 {
+    let rt = call.gate.runtime();
     let alloc = rt.alloc();
     let mut helpers: Vec<Box<dyn Helper>> = Vec::new(alloc);
     helpers.push(Box::new(alloc, Sampler::new(1, 1_000))?)?;
     helpers.push(Box::new(alloc, Table::new())?)?;
     helpers.push(Box::new(alloc, Units::new())?)?;
+    let mut screen = Screen {
+        out: Console::new(rt.clone()?),
+        progress: call.gate,
+    };
     Ok(signoff(
-        threads,
+        call.threads,
         alloc,
-        words,
+        call.words,
         &mut FileShelf::new(rt.clone()?),
-        &mut Console::new(rt.clone()?),
+        &mut screen,
         keeper,
         port,
-        &QuietGate,
+        call.gate,
         helpers,
-        &mut Book::new(alloc),
+        book,
     ))
 }

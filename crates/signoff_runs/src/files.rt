@@ -1,5 +1,6 @@
 // Runs over the program's real objects. The texts of their script become files.
-use signoff_objects::answer;
+use reports::Book;
+use signoff_objects::{Told, answer};
 use std::alloc::AllocError;
 use std::thread::Threads;
 use std::{fs, io};
@@ -62,7 +63,8 @@ pub fn words_of(rt: &HostRuntime, line: &str) -> Result<Vec<String>, AllocError>
 fn run<R: Threads + Sync>(threads: &R, rt: &HostRuntime, line: &str) -> io::Result<()> {
     println!(rt; ">{line}")?;
     let words = words_of(rt, line)?;
-    let status = answer(threads, rt, &words);
+    let mut book = Book::new(rt.alloc());
+    let status = answer(threads, rt, &words, Told::Nothing, &mut book);
     println!(rt; "status {status}")
 }
 

@@ -10,7 +10,7 @@ returns-in-Ok-clause-answer g c =
     let m = c.args.module.now in
     let s = c.args.set.now in
     let from = bound_as c.bytes.result.now m c.bytes-2.result.now s c.in-Ok.bound c.bytes.ensures c.bytes-2.ensures c.in-Ok.ensures.ok in
-    machine_answered m s c.in-Ok.bound from _ _ _ _ c.machine_shown-answer.result c.machine_shown-answer.ensures.answer
+    machine_answered m s c.in-Ok.bound from _ _ _ _ c.machine_shown-answer.result c.args.form c.machine_shown-answer.ensures.answer
 
 pub returns-in-Err-clause-answer : goal.returns-in-Err-clause-answer
 returns-in-Err-clause-answer g c =

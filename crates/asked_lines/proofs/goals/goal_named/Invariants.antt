@@ -1,6 +1,6 @@
 use Rattle.std.specs.Vec.Iter.{into_iter_items}
 use Rattle.asked_lines.proofs.Finding.{FindLoop}
-use Rattle.asked_lines.proofs.goals.one_goal.Given as goal
+use Rattle.asked_lines.proofs.goals.goal_named.Given as goal
 
 -- the goals before
 abbrev pub invariant-loop-goal : goal.invariant-loop-goal

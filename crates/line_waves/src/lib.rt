@@ -1,0 +1,6 @@
+//! The counterexample of a line as a waveform.
+#![tactic(auto)]
+
+mod waves;
+
+pub use waves::wave_of;

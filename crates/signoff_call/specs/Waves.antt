@@ -1,0 +1,16 @@
+-- What is shown as a waveform.
+use Rattle.std.specs.Prelude.{ℕ, List, [], ◌∷◌, Option, Some, None}
+use Rattle.binding.specs.Binding.{Pair}
+use Rattle.replay.specs.declared.shown.Shown.{Shown}
+use Rattle.reports.specs.declared.book.Line.{Line}
+use Rattle.wave_text.specs.Waves.{wave_text}
+use Rattle.line_waves.specs.Waves.{wave_of}
+
+-- a counterexample's waveform, and where there is none this text
+abbrev pub waved : Pair → Option Shown → List ℕ → List ℕ
+waved b None text = text
+waved b (Some shown) text = wave_text (wave_of b shown)
+
+abbrev pub first_waved : Pair → List Line → List ℕ → List ℕ
+first_waved b [] text = text
+first_waved b (l ∷ lines) text = waved b l.trace text

@@ -1,0 +1,119 @@
+// A derivation of another solver, kept for a line, which is then decided.
+ghost use Rattle.std.specs.Prelude.{◌≡◌, ◌++◌, [], Err, codes, IfOk};
+ghost use Rattle.outside.specs.Faults.{Rose};
+ghost use Rattle.asked_lines.specs.Settled.{AddsProofsOf, AreObsOf};
+ghost use Rattle.desk_core.specs.Checks.{AreObsOfTexts};
+ghost use Rattle.clause_texts.specs.Faults.{fault_text as proof_fault_text};
+ghost use Rattle.line_clauses.specs.declared.fault.KeepFault.{KeepFault as Faults};
+ghost use Rattle.line_clauses.specs.declared.fault.KeepFault.TheVariants as k;
+ghost use Rattle.proof_store.specs.Provers.{asked_by, kept_by};
+ghost use Rattle.reports.specs.declared.which.Which.TheVariants as w;
+ghost use Rattle.signoff_call.specs.Answers.{refusal};
+ghost use Rattle.signoff_call.specs.Bound.{AcceptsBound, AddsTwiceTo, IsRefusalOf, SaysBound};
+ghost use Rattle.signoff_call.specs.Run.{HasSame};
+ghost use Rattle.signoff_call.specs.Tasks.{AddsTwice, AnswersAccept, Reports, stores};
+
+use crate::answer::{Answer, refusal, reported, turned_down};
+use binding::Bound;
+use check_faults::CheckFault;
+use check_stages::bound_of;
+use clause_texts::{ProofFault, fault_text};
+use command_words::Acceptance;
+use desk_core::Checker;
+use helper_box::Helper;
+use line_clauses::{KeepFault, keep_proof};
+use outside::{Gate, Keeper, Text};
+use reports::Which;
+use std::alloc::{AllocError, Global};
+use std::thread::Threads;
+
+// The refusal of a text that has no derivation of a line's clauses.
+fn refused_proof(alloc: Global, fault: &ProofFault) -> Result<Answer, AllocError>
+    ensures { IfOk result (λ a. a ≡ refusal 12 (codes "proof: " ++ proof_fault_text fault.now)) }
+{
+    let text = fault_text(alloc, fault)?;
+    refusal(alloc, 12, b"proof: ", text.bytes())
+}
+
+// Why no derivation is kept.
+fn not_kept(alloc: Global, fault: KeepFault) -> Result<Answer, AllocError>
+    ensures { IfOk result (IsRefusalOf fault) }
+{
+    match fault {
+        KeepFault::NoLine => turned_down(alloc, CheckFault::NoLine),
+        KeepFault::Proof(fault) => refused_proof(alloc, &fault),
+        KeepFault::Large => refusal(alloc, 12, b"proof: Large", b""),
+        KeepFault::Keeper => turned_down(alloc, CheckFault::Keeper),
+        KeepFault::Memory => Err(AllocError),
+    }
+}
+
+// The line of a name of a set that is bound, decided, as a report.
+fn line_reported<R: Threads + Sync, K: Keeper, H: Helper, G: Gate + Sync>(
+    checker: &mut Checker<'_, '_, '_, '_, R, K, H, G>,
+    bound: &Bound,
+    name: &Text,
+) -> Result<Answer, AllocError>
+    ensures answer { IfOk result (SaysBound (Reports (λ r. r.text)) bound.now (w.One name.now) checker.old.prover.settings.budget checker.old.prover.settings.workers checker.new.book.now
+        (stores (kept_by K.tables checker.old.prover) (kept_by K.tables checker.new.prover) (asked_by H.asked checker.old.prover))) }
+    ensures left { AddsProofsOf (AreObsOf bound.now (w.One name.now)) (kept_by K.tables checker.old.prover) (kept_by K.tables checker.new.prover) }
+    ensures keeper { IfOk result (λ a. a.status ≡ 8 → Rose (K.faults checker.old.prover.keeper.now) (K.faults checker.new.prover.keeper.now)) }
+    ensures same { HasSame checker.old checker.new }
+{
+    let alloc = checker.prover.alloc;
+    let which = Which::One(Text::copy(alloc, name.bytes())?);
+    match checker.check_bound(bound, &which) {
+        Ok(report) => {
+            let bytes = Text::copy(alloc, report.text.bytes())?;
+            Ok(reported(&report.verdicts, bytes))
+        }
+        Err(fault) => turned_down(alloc, fault),
+    }
+}
+
+// The derivation that a text has of the clauses of the line of a name, kept, and the line decided.
+fn accepted<R: Threads + Sync, K: Keeper, H: Helper, G: Gate + Sync>(
+    checker: &mut Checker<'_, '_, '_, '_, R, K, H, G>,
+    bound: &Bound,
+    name: &Text,
+    proof: &Text,
+) -> Result<Answer, AllocError>
+    requires empty { checker.old.book.now.lines.items ≡ [] }
+    ensures answer { IfOk result (AcceptsBound bound.now name.now proof.now checker.old.prover.settings.budget checker.old.prover.settings.workers checker.new.book.now
+        (stores (kept_by K.tables checker.old.prover) (kept_by K.tables checker.new.prover) (asked_by H.asked checker.old.prover))) }
+    ensures left { AddsTwiceTo bound.now name.now (kept_by K.tables checker.old.prover) (kept_by K.tables checker.new.prover) }
+    ensures keeper { IfOk result (λ a. a.status ≡ 8 → Rose (K.faults checker.old.prover.keeper.now) (K.faults checker.new.prover.keeper.now)) }
+    ensures same { HasSame checker.old checker.new }
+{
+    let alloc = checker.prover.alloc;
+    match keep_proof(alloc, checker.prover.keeper, bound, name, proof) {
+        Ok(()) => line_reported(checker, bound, name),
+        Err(fault) => not_kept(alloc, fault),
+    }
+}
+
+/// The derivation that a text has of the clauses of a line of two texts, kept where our own checker accepts it, and the line decided over what is kept.
+pub fn accepted_in<R: Threads + Sync, K: Keeper, H: Helper, G: Gate + Sync>(
+    checker: &mut Checker<'_, '_, '_, '_, R, K, H, G>,
+    module: &Text,
+    set: &Text,
+    given: &Acceptance,
+    proof: &Text,
+) -> Result<Answer, AllocError>
+    requires empty { checker.old.book.now.lines.items ≡ [] }
+    ensures answer { IfOk result (AnswersAccept «module».now set.now given.now.line proof.now checker.old.prover.settings.budget checker.old.prover.settings.workers checker.new.book.now
+        (stores (kept_by K.tables checker.old.prover) (kept_by K.tables checker.new.prover) (asked_by H.asked checker.old.prover))) }
+    ensures left { AddsTwice «module».now set.now given.now.line (kept_by K.tables checker.old.prover) (kept_by K.tables checker.new.prover) }
+    ensures keeper { IfOk result (λ a. a.status ≡ 8 → Rose (K.faults checker.old.prover.keeper.now) (K.faults checker.new.prover.keeper.now)) }
+    ensures same { HasSame checker.old checker.new }
+{
+    let alloc = checker.prover.alloc;
+    match bound_of(alloc, module.bytes(), set.bytes()) {
+        Ok(bound) => {
+            let answer = accepted(checker, &bound, &given.line, proof);
+            drop(bound);
+            answer
+        }
+        Err(fault) => turned_down(alloc, fault),
+    }
+}
