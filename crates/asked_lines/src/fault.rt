@@ -5,9 +5,11 @@ ghost use Rattle.asked_lines.specs.Settled.{line_fault_of};
 
 use proof_store::StoreFault;
 use std::alloc::AllocError;
+use std::error::Error;
+use std::fmt;
 
 /// Why no lines are decided.
-#[derive(Drop)]
+#[derive(Debug, Drop)]
 pub enum LineFault {
     /// The set's report has no line of the name that was asked for.
     NoLine,
@@ -16,6 +18,18 @@ pub enum LineFault {
     /// Want of memory.
     Memory,
 }
+
+impl fmt::Display for LineFault {
+    fn fmt<W: fmt::Write>(&self, f: &mut fmt::Formatter<W>) -> fmt::Result {
+        f.write_str(match self {
+            LineFault::NoLine => "the report has no line of this name",
+            LineFault::Keeper => "the keeper of proofs failed",
+            LineFault::Memory => "out of memory",
+        })
+    }
+}
+
+impl Error for LineFault {}
 
 impl From<AllocError> for LineFault {
     ghost from_gives = { λ _ fault. fault ≡ Memory };

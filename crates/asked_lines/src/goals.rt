@@ -1,6 +1,6 @@
 // The goals that are asked for.
 ghost use Rattle.std.specs.Prelude.{◌≡◌, ◌∷◌, [], IfErr, IfOk};
-ghost use Rattle.std.specs.List.{AllZip};
+ghost use Rattle.std.specs.List.{AllZip, position};
 ghost use Rattle.set_tree.specs.Report.{design_lines};
 ghost use Rattle.line_obs.specs.Obligations.{IsObOf, all_lines};
 ghost use Rattle.asked_lines.specs.Asked.{AreGoalsOf, Asks, AsksOne, IsGoalNamed, LacksLine, LacksName, has_name};
@@ -8,7 +8,7 @@ ghost use Rattle.asked_lines.specs.Asked.{AreGoalsOf, Asks, AsksOne, IsGoalNamed
 use crate::fault::LineFault;
 use binding::Bound;
 use line_laws::line_name;
-use line_obs::{obs_of_all, obs_of_design};
+use line_obs::{ob_of_line, obs_of_all, obs_of_design};
 use outside::Text;
 use proof_store::Goal;
 use reports::Which;
@@ -83,19 +83,38 @@ pub fn only<L: Drop>(alloc: Global, goal: Goal<L>) -> Result<Vec<Goal<L>>, Alloc
     Ok(goals)
 }
 
-/// The goal of the line of this name. Refused where the set's report has no such line, and for want of memory.
+// The number of the first of these lines that has this name.
+fn number_of(
+    alloc: Global,
+    set: &Set,
+    lines: &[Line],
+    name: &[u8],
+) -> Result<Option<usize>, AllocError>
+    ensures { IfOk result (λ number. number ≡ position (has_name set.now name.now) lines.now) }
+{
+    for (number, line) in lines.iter().enumerate() {
+        if has_name(alloc, set, *line, name)? {
+            return Ok(Some(number));
+        }
+    }
+    Ok(None)
+}
+
+/// The goal of the line of this name: its obligation is the one that the goals of all lines have, node by node, and no other line's is made. Refused
+/// where the set's report has no such line, and for want of memory.
 pub fn goal_named(alloc: Global, bound: &Bound, name: &Text) -> Result<Goal<Line>, LineFault>
     ensures ok { IfOk result (IsGoalNamed bound.now name.now) }
     ensures err { IfErr result (LacksName bound.now.set name.now) }
 {
-    let set = bound.set().set();
-    let all = all_goals(alloc, bound)?;
-    for goal in all {
-        if has_name(alloc, set, goal.line, name.bytes())? {
-            return Ok(goal);
+    let lines = all_lines(alloc, bound)?;
+    match number_of(alloc, bound.set().set(), lines.as_slice(), name.bytes())? {
+        Some(number) => {
+            let Named { ob, .. } = ob_of_line(alloc, bound, number)?;
+            let line = lines[number];
+            Ok(Goal { line, ob })
         }
+        None => Err(LineFault::NoLine),
     }
-    Err(LineFault::NoLine)
 }
 
 // The goal of the line of this name alone.

@@ -1,6 +1,8 @@
 -- Obligations of lines are obligations on the design and the set.
-use Rattle.std.proofs.Common.{ℕ, suc, List, [], ◌∷◌, ◌++◌, length, map}
+use Rattle.std.proofs.Common.{◌≡◌, ◌<◌, ◌≤◌, ◌-◌, ℕ, zero, suc, List, [], ◌∷◌, ◌++◌, length, length-append, map, get_or, sym, arith}
 use Rattle.std.specs.List.{All, AllZip, flat_map}
+use Rattle.std.proofs.Math.Seq.{get_or-append_right}
+use Rattle.std.proofs.lemmas.List.{get_or_append_left}
 use Rattle.std.proofs.lemmas.List.Elements.{All-head, All-tail}
 use Rattle.set_tree.specs.declared.line.Line.{Line}
 use Rattle.set_tree.specs.declared.line.Line.TheVariants.{Base, Step, Reset, Operation, End, Split, SameEnd, Choose, Hand, Determine}
@@ -20,9 +22,12 @@ use Rattle.segment_laws.specs.Laws.{IsDesignLine}
 use Rattle.segment_laws.proofs.Named.{values_are_violations as design_shown, violations_have_values as design_named}
 use Rattle.binding.specs.Binding.{Pair}
 use Rattle.twin_tests.specs.Framing.{SpeaksOf}
-use Rattle.twin_tests.specs.Named.{IsNamedOf as IsOfSet}
-use Rattle.unroll.specs.Named.{IsNamedOf as IsOfDesign}
-use Rattle.line_obs.specs.Obligations.{IsExact, IsObOf}
+use Rattle.twin_tests.specs.Named.{IsNamedOf as IsOfSet, set_line}
+use Rattle.twin_tests.specs.Reading.{HasStructure}
+use Rattle.twin_tests.proofs.Spoken.{line_speaks as set_speaks}
+use Rattle.unroll.specs.Named.{IsNamedOf as IsOfDesign, design_line}
+use Rattle.unroll.proofs.Obtaining.{line_speaks as design_speaks}
+use Rattle.line_obs.specs.Obligations.{IsExact, IsObOf, all_lines, line_at}
 
 -- ---- lines by their kinds
 
@@ -139,3 +144,29 @@ zip_append b [] [] ys ps h k = k
 zip_append b [] (o ∷ os) ys ps h k = absurd h
 zip_append b (x ∷ xs) [] ys ps h k = absurd h
 zip_append b (x ∷ xs) (o ∷ os) ys ps h k = (h.0, zip_append b xs os ys ps h.1 k)
+
+-- ---- the obligation of the line of a number
+
+each_at : (P : Line → Type 0) (lines : List Line) (number : ℕ) (d : Line) → Each P lines → number < length lines → P (get_or lines number d)
+each_at P [] number d h lt = absurd (omega (arith, lt))
+each_at P (line ∷ lines) zero d h lt = h.0
+each_at P (line ∷ lines) (suc number) d h lt = each_at P lines number d h.1 (omega (arith, lt))
+
+pub ob_of_design : (b : Pair) → IsDesign b.design → (number : ℕ) → number < length (design_lines b.set) → (named : Named) → IsOfDesign b.design b.set (design_line b.set number) named → IsObOf b (design_line b.set number) named
+ob_of_design b design number lt named h =
+    one_of_design b design (design_line b.set number) (each_at IsDesignLine (design_lines b.set) number Reset (are_design_lines b.set) lt) (design_speaks b.set number lt) named h
+
+pub ob_of_set : (b : Pair) → HasDistinctNames b.set → HasStructure b.set → (number : ℕ) → number < length (set_lines b.set) → (named : Named) → IsOfSet b.set (set_line b.set number) named → IsObOf b (set_line b.set number) named
+ob_of_set b distinct structure number lt named h =
+    one_of_set b distinct (set_line b.set number) (each_at IsSetLine (set_lines b.set) number Reset (are_set_lines b.set) lt) (set_speaks b.set number structure lt) named h
+
+-- a number below the count of the design's lines is that of one of these
+pub on_design : (set : Set) (number : ℕ) → number < length (design_lines set) → design_line set number ≡ line_at set number
+on_design set number lt = sym (get_or_append_left (design_lines set) (set_lines set) Reset number lt)
+
+-- and any other is that of a line on the set
+pub on_set : (set : Set) (number : ℕ) → length (design_lines set) ≤ number → set_line set (number - length (design_lines set)) ≡ line_at set number
+on_set set number le = sym (get_or-append_right (design_lines set) (set_lines set) number Reset le)
+
+pub within_set : (set : Set) (number : ℕ) → number < length (all_lines set) → length (design_lines set) ≤ number → number - length (design_lines set) < length (set_lines set)
+within_set set number lt le = let all = length-append (design_lines set) (set_lines set) in omega (arith, all, lt, le)

@@ -1,5 +1,5 @@
 -- The obligations of a report's lines, on a set and the design that it fits.
-use Rattle.std.specs.Prelude.{◌≡◌, List, ◌++◌}
+use Rattle.std.specs.Prelude.{◌≡◌, ℕ, List, ◌++◌, get_or}
 use Rattle.set_tree.specs.declared.line.Line.{Line}
 use Rattle.set_tree.specs.declared.line.Line.TheVariants.{Base, Step, Reset, Operation, End, Split, SameEnd, Choose, Hand, Determine}
 use Rattle.set_tree.specs.declared.set.Set.{Set}
@@ -19,6 +19,10 @@ use Rattle.unroll.specs.Named.{IsNamedOf as IsOfDesign}
 -- all lines, in the order of a report
 abbrev pub all_lines : Set → List Line
 all_lines set = design_lines set ++ set_lines set
+
+-- the line of this number, in the order of a report
+abbrev pub line_at : Set → ℕ → Line
+line_at set number = get_or (all_lines set) number Reset
 
 -- something violates the line
 abbrev pub IsBroken : Pair → Line → Type 0

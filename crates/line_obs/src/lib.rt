@@ -3,4 +3,4 @@
 
 mod obs;
 
-pub use obs::{obs_of_all, obs_of_design};
+pub use obs::{ob_of_line, obs_of_all, obs_of_design};

@@ -1,14 +1,16 @@
 // The obligations that a check asks for.
-ghost use Rattle.std.specs.Prelude.{◌≡◌, ◌++◌, IfOk, IfNone, IfSome};
+ghost use Rattle.std.specs.Prelude.{◌≡◌, ◌++◌, ◌<◌, length, IfOk, IfNone, IfSome};
 ghost use Rattle.std.specs.List.{AllZip};
 ghost use Rattle.set_tree.specs.declared.line.Line.{Line as Lines};
 ghost use Rattle.set_tree.specs.Report.{design_lines, set_lines};
-ghost use Rattle.line_obs.specs.Obligations.{IsObOf, all_lines};
+ghost use Rattle.twin_tests.specs.Named.{set_line};
+ghost use Rattle.unroll.specs.Named.{design_line};
+ghost use Rattle.line_obs.specs.Obligations.{IsObOf, all_lines, line_at};
 
 use binding::Bound;
 use std::alloc::{AllocError, Global};
-use twin_tests::twin_obs;
-use unroll::design_obs;
+use twin_tests::{twin_ob, twin_obs};
+use unroll::{design_ob, design_obs, lines_of};
 use word_dag::Named;
 
 /// The obligations of the lines on the design.
@@ -17,8 +19,7 @@ pub fn obs_of_design(alloc: Global, bound: &Bound) -> Result<Vec<Named>, AllocEr
 {
     // the nodes of a design are nodes of a block
     let _design = bound.design().dag();
-    let obs = design_obs(alloc, bound)?;
-    Ok(obs)
+    design_obs(alloc, bound)
 }
 
 // The obligations of the lines on the set.
@@ -27,8 +28,7 @@ fn obs_of_set(alloc: Global, bound: &Bound) -> Result<Vec<Named>, AllocError>
 {
     // no two names of a set are one
     let _set = bound.set().set();
-    let obs = twin_obs(alloc, bound.set())?;
-    Ok(obs)
+    twin_obs(alloc, bound.set())
 }
 
 /// The obligations of all lines, in the order of a report.
@@ -39,4 +39,38 @@ pub fn obs_of_all(alloc: Global, bound: &Bound) -> Result<Vec<Named>, AllocError
     let mut more = obs_of_set(alloc, bound)?;
     obs.append(&mut more)?;
     Ok(obs)
+}
+
+// The obligation of the line of this number among those on the design.
+fn ob_of_design(alloc: Global, bound: &Bound, number: usize) -> Result<Named, AllocError>
+    requires { number < length (design_lines bound.now.set) }
+    ensures { IfOk result (IsObOf bound.now (design_line bound.now.set number)) }
+{
+    // the nodes of a design are nodes of a block
+    let _design = bound.design().dag();
+    design_ob(alloc, bound, number)
+}
+
+// The obligation of the line of this number among those on the set.
+fn ob_of_set(alloc: Global, bound: &Bound, number: usize) -> Result<Named, AllocError>
+    requires { number < length (set_lines bound.now.set) }
+    ensures { IfOk result (IsObOf bound.now (set_line bound.now.set number)) }
+{
+    // no two names of a set are one
+    let _set = bound.set().set();
+    twin_ob(alloc, bound.set(), number)
+}
+
+/// The obligation of one line, that of this number in the order of a report: it is the one that `obs_of_all` makes of the line, node by node. No other
+/// line's obligation is made. Refused for want of memory alone.
+pub fn ob_of_line(alloc: Global, bound: &Bound, number: usize) -> Result<Named, AllocError>
+    requires { number < length (all_lines bound.now.set) }
+    ensures { IfOk result (IsObOf bound.now (line_at bound.now.set number)) }
+{
+    let on_design = lines_of(alloc, bound.set().set())?;
+    if number < on_design.len() {
+        ob_of_design(alloc, bound, number)
+    } else {
+        ob_of_set(alloc, bound, number - on_design.len())
+    }
 }

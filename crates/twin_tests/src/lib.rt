@@ -20,7 +20,7 @@ pub use formula::{all_node, constraints_node, rows_after, test_node};
 pub use frame::largest_window;
 pub use lines::lines_of;
 pub use obligation::obligation_of;
-pub use obs::twin_obs;
+pub use obs::{twin_ob, twin_obs};
 pub use property::{assumed_node, property_of};
 pub use window::{NodeRow, rows_before};
 pub use words::{both, constant, negated};

@@ -1,9 +1,9 @@
 // The obligations of a set's lines.
-ghost use Rattle.std.specs.Prelude.{◌≡◌, IfOk};
-ghost use Rattle.std.specs.List.{AllZip};
+ghost use Rattle.std.specs.Prelude.{◌≡◌, ◌<◌, length, IfOk, OnOk};
+ghost use Rattle.std.specs.List.{All, AllZip};
 ghost use Rattle.set_tree.specs.Report.{set_lines};
 ghost use Rattle.twin_tests.specs.Framing.{AreFrames, SpeaksOf};
-ghost use Rattle.twin_tests.specs.Named.{IsNamedOf};
+ghost use Rattle.twin_tests.specs.Named.{IsNamedOf, set_line};
 ghost use Rattle.twin_tests.specs.Reading.{HasStructure};
 ghost use Rattle.word_dag.specs.Adding.{Keeps};
 ghost use Rattle.word_names.specs.Names.{HasOneWidthEach};
@@ -17,6 +17,25 @@ use set_sound::Sound;
 use set_tree::{Line, Set};
 use std::alloc::{AllocError, Global};
 use word_dag::{Dag, Named};
+
+// Puts the nodes of lines into the dag, one line after another.
+fn add_lines(
+    alloc: Global,
+    dag: &mut Dag,
+    set: &Set,
+    lines: &[Line],
+    frames: &Frames,
+) -> Result<(), AllocError>
+    requires structure { HasStructure set.now }
+    requires lines { All (SpeaksOf set.now) lines.now }
+    requires frames { AreFrames set.now dag.old frames.now }
+    ensures { OnOk result (Keeps dag.old dag.new) }
+{
+    for line in lines {
+        line_node(alloc, dag, set, *line, frames)?;
+    }
+    Ok(())
+}
 
 // The obligation of a line, with the line's name.
 fn named_ob(
@@ -55,4 +74,19 @@ pub fn twin_obs(alloc: Global, sound: &Sound) -> Result<Vec<Named>, AllocError>
         obs.push(named)?;
     }
     Ok(obs)
+}
+
+/// The obligation of one line of a set, that of this number in the order of a report: it is the one that `twin_obs` makes of the line, node by node. So
+/// the nodes of the lines before it are put into the dag too, but no other line's obligation is taken out of it. It is refused for want of memory alone.
+pub fn twin_ob(alloc: Global, sound: &Sound, number: usize) -> Result<Named, AllocError>
+    requires { number < length (set_lines sound.now) }
+    ensures { IfOk result (IsNamedOf sound.now (set_line sound.now number)) }
+{
+    let set = sound.set();
+    let lines = lines_of(alloc, set)?;
+    let mut dag = Dag::new(alloc);
+    let frames = frames_of(alloc, &mut dag, set)?;
+    add_lines(alloc, &mut dag, set, &lines[..number], &frames)?;
+    let named = named_ob(alloc, &mut dag, set, lines[number], &frames)?;
+    Ok(named)
 }

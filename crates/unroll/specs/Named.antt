@@ -1,9 +1,10 @@
 -- The obligations of a design's lines.
-use Rattle.std.specs.Prelude.{◌≡◌, ℕ}
+use Rattle.std.specs.Prelude.{◌≡◌, ℕ, get_or}
 use Rattle.set_tree.specs.declared.line.Line.{Line}
 use Rattle.set_tree.specs.declared.line.Line.TheVariants as l
 use Rattle.set_tree.specs.declared.set.Set.{Set}
 use Rattle.set_tree.specs.Formulas.{meaning_of}
+use Rattle.set_tree.specs.Report.{design_lines}
 use Rattle.word_dag.specs.declared.ob.Named.{Named}
 use Rattle.word_design.specs.Designs.{Parts}
 use Rattle.line_laws.specs.Names.{line_name}
@@ -17,6 +18,10 @@ abbrev pub numbered_line : OfNumber → ℕ → Line
 numbered_line one.Base i = l.Base i
 numbered_line one.Step i = l.Step i
 numbered_line one.Operation p = l.Operation p
+
+-- the line of this number among those on the design, in the order of a report
+abbrev pub design_line : Set → ℕ → Line
+design_line set number = get_or (design_lines set) number l.Reset
 
 -- an obligation of the line under the line's name, no two free words of which have one name, side and cycle
 pub record IsNamedOf (d : Parts) (set : Set) (line : Line) (named : Named) : Type 0 where

@@ -13,6 +13,6 @@ mod segment;
 pub use leaves::{Moment, cycle_of, level};
 pub use line::begins_node;
 pub use lines::lines_of;
-pub use obs::design_obs;
+pub use obs::{design_ob, design_obs};
 pub use rows::segment_nodes;
 pub use segment::places_of;

@@ -1,6 +1,6 @@
 // The obligations of a design's lines.
-ghost use Rattle.std.specs.Prelude.{◌≡◌, IfOk};
-ghost use Rattle.std.specs.List.{AllZip};
+ghost use Rattle.std.specs.Prelude.{◌≡◌, ◌<◌, length, IfOk, OnOk};
+ghost use Rattle.std.specs.List.{All, AllZip};
 ghost use Rattle.binding.specs.Binding.{Fits};
 ghost use Rattle.segment_laws.specs.Tests.{line_test};
 ghost use Rattle.set_tree.specs.Formulas.{meaning_of};
@@ -8,7 +8,7 @@ ghost use Rattle.set_tree.specs.Report.{design_lines};
 ghost use Rattle.twin_tests.specs.Building.{HasWidth, Tests};
 ghost use Rattle.twin_tests.specs.Framing.{SpeaksOf};
 ghost use Rattle.twin_tests.specs.Reading.{HasStructure};
-ghost use Rattle.unroll.specs.Named.{IsNamedOf};
+ghost use Rattle.unroll.specs.Named.{IsNamedOf, design_line};
 ghost use Rattle.unroll.specs.Unrolled.{AreSegments};
 ghost use Rattle.word_dag.specs.Adding.{Keeps};
 ghost use Rattle.word_names.specs.Names.{HasOneWidthEach};
@@ -74,6 +74,25 @@ fn line_node(
     }
 }
 
+// Puts the nodes of lines into the dag, one line after another.
+fn add_lines(
+    alloc: Global,
+    dag: &mut Dag,
+    set: &Set,
+    lines: &[Line],
+    segments: &Segments,
+) -> Result<(), AllocError>
+    requires structure { HasStructure set.now }
+    requires lines { All (SpeaksOf set.now) lines.now }
+    requires segments { (d : Parts) × AreSegments d set.now dag.old segments.now }
+    ensures { OnOk result (Keeps dag.old dag.new) }
+{
+    for line in lines {
+        line_node(alloc, dag, set, *line, segments)?;
+    }
+    Ok(())
+}
+
 // The obligation of a line, with the line's name.
 fn named_ob(
     alloc: Global,
@@ -113,4 +132,22 @@ pub fn design_obs(alloc: Global, bound: &Bound) -> Result<Vec<Named>, AllocError
         obs.push(named)?;
     }
     Ok(obs)
+}
+
+/// The obligation of one line of a design, that of this number in the order of a report: it is the one that `design_obs` makes of the line, node by
+/// node. So the nodes of the lines before it are put into the dag too, but no other line's obligation is taken out of it. It is refused for want of
+/// memory alone.
+pub fn design_ob(alloc: Global, bound: &Bound, number: usize) -> Result<Named, AllocError>
+    requires { number < length (design_lines bound.now.set) }
+    ensures { IfOk result (IsNamedOf bound.now.design bound.now.set (design_line bound.now.set number)) }
+{
+    // the nodes of a design fit
+    let _fit = bound.design().dag();
+    let set = bound.set().set();
+    let lines = lines_of(alloc, set)?;
+    let mut dag = Dag::new(alloc);
+    let segments = segments_of(alloc, &mut dag, bound)?;
+    add_lines(alloc, &mut dag, set, &lines[..number], &segments)?;
+    let named = named_ob(alloc, &mut dag, set, lines[number], &segments)?;
+    Ok(named)
 }

@@ -1,4 +1,5 @@
 use Rattle.std.proofs.Common.{subst}
+use Rattle.std.proofs.lemmas.Result.{IfOk-weaker}
 use Rattle.word_design.specs.Designs.{IsDesign}
 use Rattle.set_tree.specs.Report.{design_lines}
 use Rattle.unroll.proofs.Obtaining.{lines_speak}
@@ -9,4 +10,4 @@ pub returns : goal.returns
 returns c =
     let b = c.args.bound.now in
     let design = subst IsDesign c.design.ensures.value c.dag-design.ensures.design in
-    obs_of_design b design (design_lines b.set) c.in_ok-obs.obs.items (are_design_lines b.set) (lines_speak b.set) c.in_ok-obs.ensures
+    IfOk-weaker c.design_obs.result _ _ (λ obs named. obs_of_design b design (design_lines b.set) obs.items (are_design_lines b.set) (lines_speak b.set) named) c.design_obs.ensures

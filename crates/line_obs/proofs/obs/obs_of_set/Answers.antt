@@ -1,4 +1,5 @@
 use Rattle.std.proofs.Common.{subst}
+use Rattle.std.proofs.lemmas.Result.{IfOk-weaker}
 use Rattle.std.specs.List.{AllZip}
 use Rattle.set_tree.specs.declared.set.Set.{Set}
 use Rattle.set_tree.specs.Report.{set_lines}
@@ -14,6 +15,6 @@ returns c =
     let b = c.args.bound.now in
     let distinct = subst HasDistinctNames c.set.ensures c.set-set.ensures.formed.distinct_names in
     let structure = subst HasStructure c.set.ensures (record { sound = c.set-set.ensures.sound; formed = c.set-set.ensures.formed }) in
-    let obs = c.in_ok-obs.obs.items in
-    let named = subst (λ (z : Set). AllZip (IsNamedOf z) (set_lines z) obs) c.set-2.ensures c.in_ok-obs.ensures in
-    obs_of_set b distinct (set_lines b.set) obs (are_set_lines b.set) (lines_speak b.set structure) named
+    IfOk-weaker c.twin_obs.result _ _
+    (λ obs named. obs_of_set b distinct (set_lines b.set) obs.items (are_set_lines b.set) (lines_speak b.set structure)
+    (subst (λ (z : Set). AllZip (IsNamedOf z) (set_lines z) obs.items) c.set-2.ensures named)) c.twin_obs.ensures
