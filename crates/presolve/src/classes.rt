@@ -5,7 +5,7 @@ use clause_check::Lit;
 use std::alloc::{AllocError, Global};
 
 /// What is known of a variable.
-#[derive(Clone, Copy, Debug)]
+#[derive(Clone, Copy)]
 pub enum Class {
     /// Nothing.
     Root,
@@ -17,7 +17,7 @@ pub enum Class {
 }
 
 /// What a literal comes to.
-#[derive(Clone, Copy, Debug)]
+#[derive(Clone, Copy)]
 pub enum Meaning {
     Known(bool),
     Open(Lit),

@@ -5,7 +5,8 @@ ghost use Rattle.cdcl.specs.Ends.{IsDecided, IsEnd};
 ghost use Rattle.presolve.specs.Decided.{Decides};
 
 use crate::classes::Classes;
-use crate::smaller::{Smaller, shrink};
+use crate::reduce::reduce;
+use crate::smaller::{Smaller, kept_clauses, shrink};
 use crate::sweep::swept;
 use crate::trim::trimmed;
 use cdcl::End;
@@ -85,7 +86,15 @@ fn simplified(alloc: Global, cnf: &Cnf, budget: u64) -> Result<Option<End>, Allo
         let (_, steps) = facts.into_parts();
         return refuted(alloc, cnf, budget, steps);
     }
-    match shrink(alloc, &mut facts, open.as_slice())? {
+    let Some(left) = kept_clauses(alloc, &mut facts, open.as_slice())? else {
+        return Ok(None);
+    };
+    let (facts, reduced) = reduce(alloc, facts, left)?;
+    if facts.is_refuted() {
+        let (_, steps) = facts.into_parts();
+        return refuted(alloc, cnf, budget, steps);
+    }
+    match shrink(alloc, cnf.vars, reduced)? {
         Some(small) if is_gain(small.cnf.clauses.len(), cnf.clauses.len()) => {
             by_smaller(alloc, cnf, budget, &small, facts.into_parts())
         }
@@ -94,7 +103,8 @@ fn simplified(alloc: Global, cnf: &Cnf, budget: u64) -> Result<Option<End>, Allo
 }
 
 /// Decides the formula, or learns as many clauses as the budget has, as `cdcl::solve` does, with the same evidence. First it
-/// simplifies: what single literals force, variables that are equal, and gates that are the same function of the same inputs.
+/// simplifies: what single literals force, variables that are equal, and gates that are the same function of the same inputs; then
+/// subsumption, and the elimination of variables by resolution.
 ///
 /// Where a tenth of the clauses goes, `cdcl::solve` decides what is left within the budget, and its answer is taken back to the
 /// input formula and checked there, by `accept` or `holds`. If that budget is spent, the input formula is searched with the same

@@ -5,7 +5,7 @@ use clause_check::{Clause, Cnf, Lit, Look, Step};
 use std::alloc::{AllocError, Global};
 
 /// A clause that unit propagation used: what it forced, or none where it is false.
-#[derive(Clone, Copy, Debug)]
+#[derive(Clone, Copy)]
 struct Used {
     number: u64,
     forced: Option<Lit>,
@@ -223,7 +223,7 @@ impl<'a> Derivation<'a> {
     }
 
     /// Adds a step. The answer is the number of its clause; none where a variable stands twice.
-    fn add(
+    pub fn add(
         &mut self,
         alloc: Global,
         lits: Vec<Lit>,
@@ -252,9 +252,8 @@ impl<'a> Derivation<'a> {
         for level in (0..splits.len()).rev() {
             let mut joined = Vec::new(alloc);
             let shorter = cases_of(alloc, clause, &splits[..level])?;
-            for (i, lits) in shorter.into_iter().enumerate() {
-                let pair = numbers.chunks(2).nth(i).unwrap_or(&[]).to_vec(alloc)?;
-                match self.add(alloc, lits, pair)? {
+            for (lits, pair) in shorter.into_iter().zip(numbers.chunks(2)) {
+                match self.add(alloc, lits, pair.to_vec(alloc)?)? {
                     Some(number) => joined.push(number)?,
                     None => return Ok(None),
                 }

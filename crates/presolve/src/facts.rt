@@ -1,7 +1,7 @@
 //! The facts found so far, and what they leave of a clause. A clause is read through the classes of its variables, so nothing
 //! is rewritten until the end.
 
-use crate::classes::{Class, Classes, Meaning, turned};
+use crate::classes::{Class, Classes, Meaning};
 use crate::derivation::Derivation;
 use clause_check::{Cnf, Lit, Step};
 use std::alloc::{AllocError, Global};
@@ -95,29 +95,86 @@ impl<'a> Facts<'a> {
         }
     }
 
-    /// Adds the clauses of these numbers, behind those that say what is known of their variables.
-    fn add_sources(&self, sources: &[u64], numbers: &mut Vec<u64>) -> Result<(), AllocError> {
+    /// These numbers of input clauses, each behind those of the clauses that say what is known of its variables.
+    fn with_links(&self, alloc: Global, sources: &[u64]) -> Result<Vec<u64>, AllocError> {
+        let mut numbers: Vec<u64> = Vec::new(alloc);
         for source in sources {
             for lit in self.lits(*source) {
-                self.classes.add_links(lit.var, numbers)?;
+                self.classes.add_links(lit.var, &mut numbers)?;
             }
             numbers.push(*source)?;
         }
-        Ok(())
+        Ok(numbers)
     }
 
-    /// Derives the clause from input clauses and what is known of their variables.
+    /// Derives the clause from the input clause of this number and what is known of its variables. The answer is the number of the
+    /// step; none where no hints are found.
     pub fn derive(
         &mut self,
         alloc: Global,
         clause: &[Lit],
-        splits: &[u64],
-        sources: &[u64],
+        number: u64,
     ) -> Result<Option<u64>, AllocError> {
-        let mut numbers: Vec<u64> = Vec::new(alloc);
-        self.add_sources(sources, &mut numbers)?;
+        let numbers = self.with_links(alloc, &[number])?;
         self.derivation
-            .derive(alloc, clause, splits, numbers.as_slice())
+            .derive(alloc, clause, &[], numbers.as_slice())
+    }
+
+    /// Adds a step for a clause that two clauses imply. The answer is its number; none where a variable stands twice.
+    pub fn add_step(
+        &mut self,
+        alloc: Global,
+        lits: &[Lit],
+        hints: [u64; 2],
+    ) -> Result<Option<u64>, AllocError> {
+        let hints = hints.to_vec(alloc)?;
+        let number = self.derivation.add(alloc, lits.to_vec(alloc)?, hints)?;
+        if lits.is_empty() && number.is_some() {
+            self.refuted = true;
+        }
+        Ok(number)
+    }
+
+    /// Makes it known that the literal is true, if the clauses of these numbers imply it. The answer is whether they do.
+    fn set_true(
+        &mut self,
+        alloc: Global,
+        lit: Lit,
+        splits: &[u64],
+        numbers: &[u64],
+    ) -> Result<bool, AllocError> {
+        let Some(unit) = self.derivation.derive(alloc, &[lit], splits, numbers)? else {
+            return Ok(false);
+        };
+        let value = !lit.negative;
+        self.classes.set(lit.var, Class::Fixed { value, unit });
+        Ok(true)
+    }
+
+    /// Makes it known that the variable is equal to the literal of a variable before it, if the clauses of these numbers imply it.
+    /// The answer is whether they do.
+    fn set_equal(
+        &mut self,
+        alloc: Global,
+        var: u64,
+        to: Lit,
+        splits: &[u64],
+        numbers: &[u64],
+    ) -> Result<bool, AllocError> {
+        let on = Lit {
+            var,
+            negative: false,
+        };
+        let if_on = [on.negated(), to];
+        let Some(there) = self.derivation.derive(alloc, &if_on, splits, numbers)? else {
+            return Ok(false);
+        };
+        let if_off = [on, to.negated()];
+        let Some(back) = self.derivation.derive(alloc, &if_off, splits, numbers)? else {
+            return Ok(false);
+        };
+        self.classes.set(var, Class::Equal { to, there, back });
+        Ok(true)
     }
 
     /// Makes it known that the literal is true, if steps for it are found.
@@ -128,9 +185,8 @@ impl<'a> Facts<'a> {
         splits: &[u64],
         sources: &[u64],
     ) -> Result<(), AllocError> {
-        if let Some(unit) = self.derive(alloc, &[lit], splits, sources)? {
-            let value = !lit.negative;
-            self.classes.set(lit.var, Class::Fixed { value, unit });
+        let numbers = self.with_links(alloc, sources)?;
+        if self.set_true(alloc, lit, splits, numbers.as_slice())? {
             self.changed = true;
         }
         Ok(())
@@ -145,62 +201,32 @@ impl<'a> Facts<'a> {
         splits: &[u64],
         sources: &[u64],
     ) -> Result<(), AllocError> {
-        let on = Lit {
-            var,
-            negative: false,
-        };
-        let off = on.negated();
-        let Some(there) = self.derive(alloc, &[off, to], splits, sources)? else {
-            return Ok(());
-        };
-        let Some(back) = self.derive(alloc, &[on, to.negated()], splits, sources)? else {
-            return Ok(());
-        };
-        self.classes.set(var, Class::Equal { to, there, back });
-        self.changed = true;
+        let numbers = self.with_links(alloc, sources)?;
+        if self.set_equal(alloc, var, to, splits, numbers.as_slice())? {
+            self.changed = true;
+        }
         Ok(())
     }
 
-    /// Says of the variable what is known of the variable that it is equal to. The answer is whether there was more to say.
+    /// Says of the variable what is known of the variable that it is equal to. The answer is whether there may be more to say.
     fn follow(&mut self, alloc: Global, var: u64) -> Result<bool, AllocError> {
-        let Class::Equal { to, there, back } = self.classes.of(var) else {
+        let Class::Equal { to, .. } = self.classes.of(var) else {
             return Ok(false);
         };
-        let mut numbers: Vec<u64> = vec![in alloc; there, back]?;
+        if self.classes.is_root(to.var) {
+            return Ok(false);
+        }
+        let mut numbers: Vec<u64> = Vec::new(alloc);
+        self.classes.add_links(var, &mut numbers)?;
         self.classes.add_links(to.var, &mut numbers)?;
         let numbers = numbers.as_slice();
-        let on = Lit {
-            var,
-            negative: false,
-        };
-        match self.classes.of(to.var) {
-            Class::Root => Ok(false),
-            Class::Fixed { value, .. } => {
-                let value = value != to.negative;
-                let lit = turned(on, !value);
-                match self.derivation.derive(alloc, &[lit], &[], numbers)? {
-                    Some(unit) => {
-                        self.classes.set(var, Class::Fixed { value, unit });
-                        Ok(false)
-                    }
-                    None => Ok(false),
-                }
+        match self.classes.meaning(to) {
+            Meaning::Known(value) => {
+                let negative = !value;
+                self.set_true(alloc, Lit { var, negative }, &[], numbers)?;
+                Ok(false)
             }
-            Class::Equal { to: next, .. } => {
-                let to = turned(next, to.negative);
-                let off = on.negated();
-                let Some(there) = self.derivation.derive(alloc, &[off, to], &[], numbers)? else {
-                    return Ok(false);
-                };
-                let Some(back) = self
-                    .derivation
-                    .derive(alloc, &[on, to.negated()], &[], numbers)?
-                else {
-                    return Ok(false);
-                };
-                self.classes.set(var, Class::Equal { to, there, back });
-                Ok(true)
-            }
+            Meaning::Open(next) => self.set_equal(alloc, var, next, &[], numbers),
         }
     }
 
@@ -262,7 +288,7 @@ impl<'a> Facts<'a> {
         };
         match lits.as_slice() {
             [] => {
-                if self.derive(alloc, &[], &[], &[number])?.is_some() {
+                if self.derive(alloc, &[], number)?.is_some() {
                     self.refuted = true;
                 }
                 Ok(Rest::True)

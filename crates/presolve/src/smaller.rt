@@ -1,8 +1,11 @@
 //! The formula that the facts leave, over the variables that still stand in it. Each of its clauses is an input clause or a step
 //! over the input clauses, so a derivation from it goes on where the steps end.
 
+use crate::aside::Aside;
 use crate::classes::{Class, Classes};
 use crate::facts::{Facts, Rest};
+use crate::pool::Kept;
+use crate::reduce::Reduced;
 use clause_check::{Clause, Cnf, Lit, Step};
 use std::alloc::{AllocError, Global};
 use std::collections::HashSet;
@@ -15,13 +18,8 @@ pub struct Smaller {
     vars: Vec<u64>,
     // for each of its clauses the number of the same clause among the input clauses and the steps
     numbers: Vec<u64>,
-}
-
-/// A clause that is left, and its number.
-#[derive(Drop)]
-struct Kept {
-    lits: Vec<Lit>,
-    number: u64,
+    // what other variables get their values from, the last one first
+    asides: Vec<Aside>,
 }
 
 /// The variables and signs of a clause, in rising order.
@@ -42,12 +40,12 @@ fn number_of(
     if clause == lits {
         Ok(Some(number))
     } else {
-        facts.derive(alloc, lits, &[], &[number])
+        facts.derive(alloc, lits, number)
     }
 }
 
 /// What is left of these input clauses, each once; none where no steps are found for one.
-fn kept_clauses(
+pub fn kept_clauses(
     alloc: Global,
     facts: &mut Facts,
     open: &[u64],
@@ -112,16 +110,12 @@ fn renamed(alloc: Global, lits: &[Lit], names: &[u64]) -> Result<Option<Clause>,
     Clause::of(alloc, clause)
 }
 
-/// The formula that the facts leave of these input clauses.
-pub fn shrink(
-    alloc: Global,
-    facts: &mut Facts,
-    open: &[u64],
-) -> Result<Option<Smaller>, AllocError> {
-    let vars = facts.cnf().vars;
-    let Some(left) = kept_clauses(alloc, facts, open)? else {
-        return Ok(None);
-    };
+/// The formula of the clauses that are left, where the input formula has so many variables.
+pub fn shrink(alloc: Global, vars: u64, reduced: Reduced) -> Result<Option<Smaller>, AllocError> {
+    let Reduced {
+        clauses: left,
+        asides,
+    } = reduced;
     let found = vars_of(alloc, left.as_slice(), vars)?;
     let places = places_of(alloc, found.as_slice(), vars)?;
     let mut clauses: Vec<Clause> = Vec::new(alloc);
@@ -138,6 +132,7 @@ pub fn shrink(
             cnf,
             vars: found,
             numbers,
+            asides,
         })),
         None => Ok(None),
     }
@@ -190,6 +185,9 @@ impl Smaller {
             if let Some(slot) = roots.get_mut(*var as usize) {
                 *slot = *value;
             }
+        }
+        for aside in self.asides.iter().rev() {
+            aside.restore(roots.as_mut_slice());
         }
         let mut all: Vec<bool> = Vec::new(alloc);
         for var in 0..vars {

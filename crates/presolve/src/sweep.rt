@@ -4,7 +4,7 @@
 
 use crate::classes::turned;
 use crate::facts::{Facts, Rest};
-use crate::gates::{Gate, Part, add_inputs, gate_of};
+use crate::gates::{Gate, INPUTS, Part, add_inputs, gate_of};
 use clause_check::{Cnf, Lit};
 use std::alloc::{AllocError, Global};
 use std::collections::HashMap;
@@ -27,7 +27,7 @@ struct Output {
 
 /// Sweeps over a formula.
 #[derive(Drop)]
-pub struct Sweep<'a> {
+struct Sweep<'a> {
     facts: Facts<'a>,
     // the clauses that aren't known to hold, in the order of their last variables
     open: Vec<Place>,
@@ -119,7 +119,10 @@ impl<'a> Sweep<'a> {
         for (_, number) in group {
             if let Rest::Lits(lits) = self.facts.rest_of(alloc, *number)? {
                 let number = *number;
-                if parts.len() < PARTS && lits.len() <= 4 && last_var(lits.as_slice()) == out {
+                if parts.len() < PARTS
+                    && lits.len() <= INPUTS + 1
+                    && last_var(lits.as_slice()) == out
+                {
                     parts.push(Part { number, lits })?;
                 }
             }
@@ -167,13 +170,12 @@ impl<'a> Sweep<'a> {
             return Ok(());
         };
         let sources = sources_of(alloc, parts, out, inputs)?;
-        let on = Lit {
-            var: out,
-            negative: false,
-        };
         match gate.inputs.as_slice() {
             [] => {
-                let lit = turned(on, !gate.value(0));
+                let lit = Lit {
+                    var: out,
+                    negative: !gate.value(0),
+                };
                 self.facts.fix(alloc, lit, inputs, sources.as_slice())
             }
             [var] => {
