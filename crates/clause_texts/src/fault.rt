@@ -6,6 +6,7 @@ ghost use Rattle.clause_texts.specs.Faults.{fault_text};
 use crate::formula::push_number;
 use outside::Text;
 use std::alloc::{AllocError, Global};
+use std::error::Error;
 use std::fmt;
 
 /// Why a text of LRAT is refused.
@@ -45,6 +46,8 @@ impl fmt::Display for ProofFault {
         }
     }
 }
+
+impl Error for ProofFault {}
 
 /// A word and the number of a line.
 fn numbered(alloc: Global, word: &[u8], line: u64) -> Result<Text, AllocError>

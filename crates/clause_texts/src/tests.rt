@@ -85,3 +85,19 @@ fn faults_tell_their_lines(rt: HostRuntime) -> Result<(), Fail> {
     assert!(rt; text.bytes() == b"Unimplied 17".as_slice());
     Ok(())
 }
+
+#[test]
+fn faults_are_shown_as_their_texts(rt: HostRuntime) -> Result<(), Fail> {
+    let alloc = rt.alloc();
+    for (fault, shown) in &[
+        (ProofFault::Long, "Long"),
+        (ProofFault::Syntax(2), "Syntax 2"),
+        (ProofFault::Unimplied(17), "Unimplied 17"),
+        (ProofFault::Open, "Open"),
+        (ProofFault::Memory, "Memory"),
+    ] {
+        assert_eq!(rt; fault.to_string(alloc)?.as_str(), *shown);
+        assert!(rt; fault_text(alloc, fault)?.bytes() == shown.as_bytes());
+    }
+    Ok(())
+}

@@ -1,4 +1,6 @@
 // Why a command got no answer.
+use std::error::Error;
+use std::fmt;
 
 /// Why a command got no answer.
 #[derive(Clone, Copy, Debug, PartialEq, Eq)]
@@ -8,3 +10,14 @@ pub enum DeskFault {
     /// Memory ran out.
     Memory,
 }
+
+impl fmt::Display for DeskFault {
+    fn fmt<W: fmt::Write>(&self, f: &mut fmt::Formatter<W>) -> fmt::Result {
+        f.write_str(match self {
+            DeskFault::Keeper => "the desk's store failed",
+            DeskFault::Memory => "out of memory",
+        })
+    }
+}
+
+impl Error for DeskFault {}

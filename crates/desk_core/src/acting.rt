@@ -31,7 +31,8 @@ impl<'a, 'k, 'h, 'b, R: Threads + Sync, K: Keeper, H: Helper, G: Gate + Sync> Ch
     // Checks the two texts of a block, and puts their report.
     #[tactic(auto, using(crate::proofs::Checked::none_falls))]
     fn check_texts(&mut self, name: &[u8], block: Block) -> Result<Answer, StoreFault>
-        ensures step { IfOk result (λ answer. Leads (OfBlock name.now block (ChecksBlock self.old.prover.settings.budget self.old.prover.settings.workers name.now) answer)
+        ensures step { IfOk result (λ answer. Leads
+            (OfBlock name.now block (ChecksBlock self.old.prover.settings.budget self.old.prover.settings.workers name.now) answer)
             (state K.tables H.asked self.old) (state K.tables H.asked self.new)) }
         ensures left { OnErr result (Told (LeavesOfBlock name.now block) (kept_by K.tables self.old.prover) (kept_by K.tables self.new.prover)) }
         ensures book { OnErr result (IsLeft self.old.book.now self.new.book.now) }

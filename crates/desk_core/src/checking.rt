@@ -87,14 +87,10 @@ impl<'a, 'k, 'h, 'b, R: Threads + Sync, K: Keeper, H: Helper, G: Gate + Sync> Ch
         ensures same { IsSame self.old self.new }
     {
         *self.book = Book::new(self.prover.alloc);
-        match bound_of(self.prover.alloc, module, set) {
-            Ok(bound) => {
-                let answer = self.check_bound(&bound, which);
-                // a call, since a proof would write out the drop of all trees here
-                drop(bound);
-                answer
-            }
-            Err(fault) => Err(fault),
-        }
+        let bound = bound_of(self.prover.alloc, module, set)?;
+        let answer = self.check_bound(&bound, which);
+        // a call, since a proof would write out the drop of all trees here
+        drop(bound);
+        answer
     }
 }

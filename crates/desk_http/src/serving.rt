@@ -20,7 +20,8 @@ pub fn serve_one<R: Threads + Sync, P: Port, K: Keeper, H: Helper, G: Gate + Syn
     port: &mut P,
     checker: &mut Checker<'_, '_, '_, '_, R, K, H, G>,
 ) -> Result<Served, ServeFault>
-    ensures serves { ServesOne (limits_of checker.old.prover.settings) (line (P.wire port.old) (P.faults port.old)) (state_of K.tables K.faults H.asked checker.old)
+    ensures serves { ServesOne (limits_of checker.old.prover.settings) (line (P.wire port.old) (P.faults port.old))
+        (state_of K.tables K.faults H.asked checker.old)
         result (line (P.wire port.new) (P.faults port.new)) (state_of K.tables K.faults H.asked checker.new) }
     ensures keeps { Keeps (state_of K.tables K.faults H.asked checker.old) (state_of K.tables K.faults H.asked checker.new) }
     ensures next_ok { OnOk result (P.next_faults port.new ≡ P.next_faults port.old) }
@@ -38,7 +39,7 @@ pub fn serve_one<R: Threads + Sync, P: Port, K: Keeper, H: Helper, G: Gate + Syn
 }
 
 /// How many connections are served, and whether those alone count that got a reply.
-#[derive(Clone, Copy)]
+#[derive(Clone, Copy, Debug)]
 pub struct Quota {
     pub count: u32,
     pub replied: bool,

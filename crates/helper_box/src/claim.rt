@@ -7,7 +7,7 @@ use std::alloc::{AllocError, Global};
 use word_dag::Ob;
 
 /// What a helper says of an obligation.
-#[derive(Drop)]
+#[derive(Debug, Drop)]
 pub enum Claim {
     Nothing,
     /// These steps refute the clauses of the obligation, so that no values make its root 1.

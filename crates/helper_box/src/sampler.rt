@@ -12,7 +12,7 @@ use word_dag::{Ob, Table};
 const TRIES: u64 = 64;
 
 /// Tries values that are drawn from a start number, some for each obligation, until its credit of tries is spent.
-#[derive(Drop)]
+#[derive(Debug, Drop)]
 pub struct Sampler {
     numbers: Random,
     credit: u64,

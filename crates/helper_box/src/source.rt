@@ -15,7 +15,7 @@ fn ones(width: u8) -> u64 {
 
 /// Numbers that follow from a first one and look like random ones (G. L. Steele, D. Lea and C. H. Flood, Fast splittable pseudorandom
 /// number generators, 2014).
-#[derive(Drop)]
+#[derive(Debug, Drop)]
 pub struct Random {
     pub state: u64,
 }

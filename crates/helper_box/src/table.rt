@@ -12,7 +12,7 @@ use word_dag::{Node, Ob, Table as Words};
 const MOST: u64 = 12;
 
 /// Tries all values of the free words, where these have at most 12 bits in all.
-#[derive(Drop)]
+#[derive(Debug, Drop)]
 pub struct Table {
     offers: u64,
 }

@@ -7,7 +7,7 @@ use std::alloc::{AllocError, Global};
 use word_dag::Ob;
 
 /// Claims that the clauses can't be met where unit propagation alone leads to a clause that is false: one step suffices then.
-#[derive(Drop)]
+#[derive(Debug, Drop)]
 pub struct Units {
     offers: u64,
 }

@@ -10,6 +10,8 @@ use http_reply::{Reply, STARVED, file_reply, keeper_reply, refusal_reply, reply_
 use http_request::Wanted;
 use outside::{Failed, Port};
 use std::alloc::{AllocError, Global};
+use std::error::Error;
+use std::fmt;
 
 /// What serving a connection came to.
 #[derive(Clone, Copy, Debug, PartialEq, Eq)]
@@ -30,6 +32,17 @@ pub enum ServeFault {
     /// Memory ran out before the request began.
     Memory,
 }
+
+impl fmt::Display for ServeFault {
+    fn fmt<W: fmt::Write>(&self, f: &mut fmt::Formatter<W>) -> fmt::Result {
+        f.write_str(match self {
+            ServeFault::Next => "the port gave no next connection",
+            ServeFault::Memory => "out of memory",
+        })
+    }
+}
+
+impl Error for ServeFault {}
 
 /// What a connection that was taken comes to.
 #[derive(Drop)]
@@ -98,7 +111,8 @@ fn outcome_reply(alloc: Global, outcome: &Result<Answer, DeskFault>) -> Result<R
 
 /// Writes the reply, or the fixed text where there was no memory for one.
 fn send_reply<P: Port>(port: &mut P, reply: &Result<Reply, AllocError>) -> Served
-    ensures sends { Sends (P.wire port.old) (P.wire port.new) (P.faults port.old) (P.faults port.new) (reply_or_starved reply.now).status (reply_or_starved reply.now).bytes result }
+    ensures sends { Sends (P.wire port.old) (P.wire port.new) (P.faults port.old) (P.faults port.new)
+        (reply_or_starved reply.now).status (reply_or_starved reply.now).bytes result }
     ensures other { P.next_faults port.new ≡ P.next_faults port.old }
 {
     match reply {

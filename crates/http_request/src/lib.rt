@@ -9,6 +9,8 @@ mod order;
 mod places;
 mod read;
 mod refusal;
+#[cfg(test)]
+mod tests;
 mod wanted;
 
 pub use bounds::front_len;

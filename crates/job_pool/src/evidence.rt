@@ -10,7 +10,7 @@ use std::alloc::{AllocError, Global};
 use word_dag::Ob;
 
 /// What shows how an obligation ended. Steps are over its clauses.
-#[derive(Drop)]
+#[derive(Debug, Drop)]
 pub enum Evidence {
     /// A derivation of the empty clause: no values make the root 1.
     Derivation(Vec<Step>),

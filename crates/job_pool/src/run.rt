@@ -14,7 +14,7 @@ use std::thread::Threads;
 use word_dag::Ob;
 
 /// What a run of jobs gave.
-#[derive(Drop)]
+#[derive(Debug, Drop)]
 pub struct Ran {
     /// What shows how each job ended, in the order of the jobs.
     pub ends: Vec<Evidence>,

@@ -102,12 +102,14 @@ pub(crate) fn work_all<R: Threads + Sync, G: Gate + Sync>(
     let ((mut seat, mine), (other, theirs)) = join(
         rt,
         || -> (Seat, Result<Vec<Done>, AllocError>)
-            requires { IsSync R.row × IsSync G.row × (0 < budget) × (length obs.now < 2 ^ 32) × (0 < rest) × (rest ≤ 64) × IsReady tickets.now (length obs.now) rest seat }
+            requires { IsSync R.row × IsSync G.row × (0 < budget) × (length obs.now < 2 ^ 32) × (0 < rest)
+                × (rest ≤ 64) × IsReady tickets.now (length obs.now) rest seat }
             ensures seat { (result.0.word ≡ seat.word) × (length result.0.numbers + result.0.allowance ≡ seat.allowance) }
             ensures done { IfOk result.1 (λ v. AreDone budget obs.entry.now rest result.0.numbers v.items) }
         { work_all(rt, alloc, tickets, seat, obs, budget, rest, gate) },
         || -> (Seat, Result<Vec<Done>, AllocError>)
-            requires { IsSync R.row × IsSync G.row × (0 < budget) × (length obs.now < 2 ^ 32) × (0 < half) × (half ≤ 64) × IsReady tickets.now (length obs.now) half other }
+            requires { IsSync R.row × IsSync G.row × (0 < budget) × (length obs.now < 2 ^ 32) × (0 < half)
+                × (half ≤ 64) × IsReady tickets.now (length obs.now) half other }
             ensures seat { (result.0.word ≡ other.word) × (length result.0.numbers + result.0.allowance ≡ other.allowance) }
             ensures done { IfOk result.1 (λ v. AreDone budget obs.entry.now half result.0.numbers v.items) }
         { work_all(rt, alloc, tickets, other, obs, budget, half, gate) },

@@ -7,9 +7,11 @@ use asked_lines::LineFault;
 use clause_texts::ProofFault;
 use proof_store::StoreFault;
 use std::alloc::AllocError;
+use std::error::Error;
+use std::fmt;
 
 /// Why no derivation is kept for a line.
-#[derive(Drop)]
+#[derive(Debug, Drop)]
 pub enum KeepFault {
     /// The set's report has no line of the name.
     NoLine,
@@ -22,6 +24,23 @@ pub enum KeepFault {
     /// Want of memory.
     Memory,
 }
+
+impl fmt::Display for KeepFault {
+    fn fmt<W: fmt::Write>(&self, f: &mut fmt::Formatter<W>) -> fmt::Result {
+        match self {
+            KeepFault::NoLine => write!(f, "the report has no line of this name"),
+            KeepFault::Proof(fault) => write!(f, "no derivation of the empty clause: {fault}"),
+            KeepFault::Large => write!(
+                f,
+                "the derivation or the obligation is too long to be kept"
+            ),
+            KeepFault::Keeper => write!(f, "the keeper of proofs failed"),
+            KeepFault::Memory => write!(f, "out of memory"),
+        }
+    }
+}
+
+impl Error for KeepFault {}
 
 impl From<AllocError> for KeepFault {
     ghost from_gives = { λ _ fault. fault ≡ Memory };

@@ -91,10 +91,6 @@ pub(crate) fn decide_lines<R: Threads + Sync, K: Keeper, H: Helper, G: Gate + Sy
     ensures same { IsSame prover.old prover.new }
 {
     let goals = asked_goals(prover.alloc, bound, name)?;
-    // a set has at most 65 lines of this kind
-    if goals.len() >= 1 << 32 {
-        return Err(LineFault::Memory);
-    }
     let settled = prover.settle(goals)?;
     let Settled {
         decided,

@@ -1,5 +1,5 @@
 // The goals that are asked for.
-ghost use Rattle.std.specs.Prelude.{◌≡◌, IfErr, IfOk, Some, option_map};
+ghost use Rattle.std.specs.Prelude.{◌≡◌, ◌≤◌, IfErr, IfOk, Some, length, option_map};
 ghost use Rattle.std.specs.List.{AllZip};
 ghost use Rattle.binding.specs.Binding.{Fits};
 ghost use Rattle.meet_lines.specs.Goals.{Asks, IsGoalOf, LacksLine, has_name};
@@ -41,9 +41,10 @@ fn goal_of(
     Ok(Goal { line, ob })
 }
 
-/// The goals of all lines, in the order of the set. Refused for want of memory alone.
+/// The goals of all lines, in the order of the set, which has at most 64 operations. Refused for want of memory alone.
 pub(crate) fn all_goals(alloc: Global, bound: &Bound) -> Result<Vec<Goal<MeetLine>>, AllocError>
-    ensures { IfOk result (λ goals. AllZip (IsGoalOf bound.now.design bound.now.set) (meet_lines bound.now.set) goals.items) }
+    ensures each { IfOk result (λ goals. AllZip (IsGoalOf bound.now.design bound.now.set) (meet_lines bound.now.set) goals.items) }
+    ensures few { IfOk result (λ goals. length goals.items ≤ 65) }
 {
     // the nodes of a design fit
     let _fit = bound.design().dag();
@@ -71,6 +72,7 @@ fn has_name(alloc: Global, set: &Set, line: MeetLine, name: &[u8]) -> Result<boo
 // The goal of the line of this name.
 fn one_goal(alloc: Global, bound: &Bound, name: &Text) -> Result<Vec<Goal<MeetLine>>, LineFault>
     ensures ok { IfOk result (λ goals. Asks bound.now (Some name.now) goals.items) }
+    ensures few { IfOk result (λ goals. length goals.items ≤ 65) }
     ensures err { IfErr result (LacksLine bound.now.set (Some name.now)) }
 {
     let set = bound.set().set();
@@ -90,6 +92,7 @@ pub(crate) fn asked_goals(
     name: Option<&Text>,
 ) -> Result<Vec<Goal<MeetLine>>, LineFault>
     ensures ok { IfOk result (λ goals. Asks bound.now (option_map (λ n. n.now) name.entry) goals.items) }
+    ensures few { IfOk result (λ goals. length goals.items ≤ 65) }
     ensures err { IfErr result (LacksLine bound.now.set (option_map (λ n. n.now) name.entry)) }
 {
     match name {

@@ -10,7 +10,7 @@ use std::alloc::{AllocError, Global};
 use twin_tests::property_of;
 
 /// A line of what can be met. An operation goes by its position, i being operation i - 1.
-#[derive(Clone, Copy, PartialEq, Eq)]
+#[derive(Clone, Copy, Debug, PartialEq, Eq)]
 pub enum MeetLine {
     /// `reset`: some run from reset goes on for the largest window.
     Reset,

@@ -33,12 +33,12 @@ fn operation_node(
     requires leaves { AreLeaves set.now.names dag.old rows.now }
     ensures keeps { IfOk result (λ _. Keeps dag.old dag.new) }
     ensures width { IfOk result (λ i. HasWidth dag.new i 1) }
-    ensures node { IfOk result (λ i. (f : Naming → List Row) → Shows set.now.names dag.old rows.now f → Tests dag.new i (λ e. meets_operation (meaning_of set.now) set.now at (f e))) }
+    ensures node { IfOk result (λ i. (f : Naming → List Row) → Shows set.now.names dag.old rows.now f
+        → Tests dag.new i (λ e. meets_operation (meaning_of set.now) set.now at (f e))) }
 {
     let begins = begins_node(alloc, dag, set, rows)?;
     let assumed = assumed_node(alloc, dag, set, at, rows)?;
-    let node = both(dag, begins, assumed)?;
-    Ok(node)
+    both(dag, begins, assumed)
 }
 
 /// A line as a node: 1 exactly at values whose segment meets it.
@@ -54,19 +54,18 @@ pub fn line_node(
     requires segments { (d : Parts) × AreSegments d set.now dag.old segments.now }
     ensures keeps { IfOk result (λ _. Keeps dag.old dag.new) }
     ensures width { IfOk result (λ i. HasWidth dag.new i 1) }
-    ensures node { IfOk result (λ i. (d : Parts) → AreSegments d set.now dag.old segments.now → Tests dag.new i (meet_test d (meaning_of set.now) set.now line)) }
+    ensures node { IfOk result (λ i. (d : Parts) → AreSegments d set.now dag.old segments.now
+        → Tests dag.new i (meet_test d (meaning_of set.now) set.now line)) }
 {
     match line {
         MeetLine::Reset => {
             let rows = segments.after_reset.as_slice();
-            let node = constraints_node(alloc, dag, set, rows)?;
-            Ok(node)
+            constraints_node(alloc, dag, set, rows)
         }
         MeetLine::Operation(p) => {
             let end = property_of(set, p as usize).window as usize;
             let rows = rows_before(segments.plain.as_slice(), end + 1);
-            let node = operation_node(alloc, dag, set, p as usize, rows)?;
-            Ok(node)
+            operation_node(alloc, dag, set, p as usize, rows)
         }
     }
 }

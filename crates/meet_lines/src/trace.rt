@@ -56,6 +56,5 @@ pub fn meet_trace(
     // the nodes of a design fit
     let _fit = design.dag();
     let reach = reach_of(bound.set(), line);
-    let shown = shown_segment(alloc, bound, reach, ob, values)?;
-    Ok(shown)
+    shown_segment(alloc, bound, reach, ob, values)
 }

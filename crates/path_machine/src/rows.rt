@@ -11,6 +11,8 @@ use crate::line::first_row;
 use binding::Bound;
 use set_tree::{Role, Rows, Set};
 use std::alloc::{AllocError, Global};
+use std::error::Error;
+use std::fmt;
 
 /// Why a stimulus is refused.
 #[derive(Debug, Drop, PartialEq, Eq)]
@@ -24,6 +26,19 @@ pub enum RowFault {
     /// There is no memory.
     Memory,
 }
+
+impl fmt::Display for RowFault {
+    fn fmt<W: fmt::Write>(&self, f: &mut fmt::Formatter<W>) -> fmt::Result {
+        match self {
+            RowFault::Long => write!(f, "the stimulus has more than 1,048,576 bytes"),
+            RowFault::Row(line) => write!(f, "line {line} isn't a row of values of the inputs"),
+            RowFault::Short => write!(f, "the stimulus has fewer rows than there are reset cycles"),
+            RowFault::Memory => write!(f, "out of memory"),
+        }
+    }
+}
+
+impl Error for RowFault {}
 
 impl From<AllocError> for RowFault {
     ghost from_gives = { λ _ fault. fault ≡ Memory };

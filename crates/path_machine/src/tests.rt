@@ -143,3 +143,22 @@ fn a_graph_has_nodes_and_edges(rt: HostRuntime) -> Result<(), Fail> {
     assert_eq!(rt; graph.bytes(), expected);
     Ok(())
 }
+
+#[test]
+fn faults_are_shown(rt: HostRuntime) -> Result<(), Fail> {
+    for (fault, shown) in &[
+        (RowFault::Long, "the stimulus has more than 1,048,576 bytes"),
+        (
+            RowFault::Row(17),
+            "line 17 isn't a row of values of the inputs",
+        ),
+        (
+            RowFault::Short,
+            "the stimulus has fewer rows than there are reset cycles",
+        ),
+        (RowFault::Memory, "out of memory"),
+    ] {
+        assert_eq!(rt; fault.to_string(rt.alloc())?.as_str(), *shown);
+    }
+    Ok(())
+}

@@ -4,6 +4,8 @@ ghost use Rattle.proof_store.specs.Causes.{store_fault_of};
 
 use outside::OutFault;
 use std::alloc::{AllocError, AllocFailed};
+use std::error::Error;
+use std::fmt;
 
 /// Why a call over a keeper gave no answer.
 #[derive(Clone, Copy, Debug, PartialEq, Eq)]
@@ -13,6 +15,17 @@ pub enum StoreFault {
     /// Want of memory.
     Memory,
 }
+
+impl fmt::Display for StoreFault {
+    fn fmt<W: fmt::Write>(&self, f: &mut fmt::Formatter<W>) -> fmt::Result {
+        f.write_str(match self {
+            StoreFault::Keeper => "the keeper of proofs failed",
+            StoreFault::Memory => "out of memory",
+        })
+    }
+}
+
+impl Error for StoreFault {}
 
 impl From<OutFault> for StoreFault {
     ghost from_gives = { λ fault e. e ≡ store_fault_of fault };

@@ -10,6 +10,8 @@ mod placing;
 mod prover;
 mod settings;
 mod settling;
+#[cfg(test)]
+mod tests;
 
 pub use fault::StoreFault;
 pub use goal::{Decided, Goal, Source};

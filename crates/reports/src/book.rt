@@ -10,7 +10,7 @@ use std::alloc::Global;
 use word_dag::Ob;
 
 /// How a line was decided.
-#[derive(Clone, Copy, PartialEq, Eq)]
+#[derive(Clone, Copy, Debug, PartialEq, Eq)]
 pub enum Verdict {
     /// Nothing violates the line.
     Proved,

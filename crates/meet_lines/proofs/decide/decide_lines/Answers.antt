@@ -8,9 +8,6 @@ use Rattle.meet_lines.proofs.decide.decide_lines.Goals as goal
 pub returns-in_err-goals-clause-proceeds : goal.returns-in_err-goals-clause-proceeds
 returns-in_err-goals-clause-proceeds g c = proceeds_same _ _ (λ is. no_keeper c.args.bound.now.set _ c.in_err-goals.field-0.0 c.in_err-goals.ensures.err (search rules))
 
-pub returns-then-len-clause-proceeds : goal.returns-then-len-clause-proceeds
-returns-then-len-clause-proceeds g c = proceeds_same _ _ (λ is. cc)
-
 pub lines_of-requires : goal.lines_of-requires
 lines_of-requires g c =
     let asks = c.in_ok-goals.ensures.ok in

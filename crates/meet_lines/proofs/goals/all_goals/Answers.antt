@@ -1,4 +1,4 @@
-use Rattle.std.proofs.Common.{◌≡◌, ◌<◌, List, get_or, length, ap, sym, ◌∙◌, subst, arith}
+use Rattle.std.proofs.Common.{◌≡◌, ◌<◌, ◌≤◌, List, get_or, length, ap, sym, ◌∙◌, subst, arith}
 use Rattle.std.specs.List.{All}
 use Rattle.set_tree.specs.declared.set.Set.{Set}
 use Rattle.binding.specs.Binding.{Fits}
@@ -9,7 +9,7 @@ use Rattle.meet_lines.specs.declared.line.MeetLine.TheVariants.{Reset}
 use Rattle.meet_lines.specs.Lines.{SpeaksOf, meet_lines}
 use Rattle.meet_lines.specs.Goals.{IsGoalOf}
 use Rattle.meet_lines.specs.Segments.{AreSegments}
-use Rattle.meet_lines.proofs.Listing.{lines_speak}
+use Rattle.meet_lines.proofs.Listing.{goals_few, lines_speak}
 use Rattle.meet_lines.proofs.Obtaining.{goals_begin, goals_step}
 use Rattle.meet_lines.proofs.goals.all_goals.Goals as goal
 
@@ -43,3 +43,12 @@ loop-line-preserved c =
     let are = subst (λ (z : Set). AreSegments b.design z c.loop-line.dag segments) (sym same) c.loop-line.invariant.held in
     let here = subst (λ (z : Set). IsGoalOf b.design z line c.in_ok-goal.goal) same (c.in_ok-goal.ensures.goal b.design design fits are) in
     goals_step b.design b.set c.loop-line.dag c.goal_of.new.dag segments items c.loop-line.goals.items c.push.new.self.items i line c.in_ok-goal.goal c.in_ok-goal.ensures.keeps lt (get_again items i Reset lt) c.in_ok-push.ensures.items here c.loop-line.invariant
+
+pub returns-clause-few : goal.returns-clause-few
+returns-clause-few c =
+    let b = c.args.bound.now in
+    let items = c.deref-line-items.result.now in
+    let past : length items ≤ c.loop-line.line-index = omega arith in
+    let listed : items ≡ meet_lines b.set = c.deref-line-items.ensures.value ∙ (c.in_ok-lines.ensures ∙ ap (λ (z : Set). meet_lines z) c.set-2.ensures) in
+    let most : length b.set.operations ≤ 64 = subst (λ (z : Set). length z.operations ≤ 64) c.set.ensures c.set-set.ensures.formed.bounds.operations.1 in
+    goals_few (IsGoalOf b.design b.set) b.set c.loop-line.line-index items c.loop-line.goals.items most past listed c.loop-line.invariant.each
