@@ -12,14 +12,21 @@ use crate::progress::{Wish, wish_of};
 use crate::summary::put_summary;
 use reports::Book;
 use signoff_objects::answer;
+use std::alloc::AllocError;
 use std::env;
+use std::io::ErrorKind;
 use std::process::ExitCode;
 use std::time::Instant;
+
+/// The status where memory is wanting.
+const NO_MEMORY: u8 = 70;
 
 /// Answers the words over real objects, and ends with the status.
 fn main(rt: HostRuntime) -> ExitCode {
     let since = Instant::now(&rt).ok();
-    let words = words_of(&rt).unwrap_or(Vec::new(rt.alloc()));
+    let Ok(words) = words_of(&rt) else {
+        return ExitCode::from(NO_MEMORY);
+    };
     let Wish { told, summary } = wish_of(&rt, &words);
     let mut book = Book::new(rt.alloc());
     let status = answer(&rt, &rt, &words, told, &mut book);
@@ -30,7 +37,11 @@ fn main(rt: HostRuntime) -> ExitCode {
     ExitCode::from(status)
 }
 
-/// The words after the program's name. None: they aren't text, and count as wrong ones.
-fn words_of(rt: &HostRuntime) -> Option<Vec<String>> {
-    env::args(rt).ok()?.skip(1).collect(rt.alloc()).ok()
+/// The words after the program's name. Those that aren't text count as wrong ones: there are none then. Refused for want of memory alone.
+fn words_of(rt: &HostRuntime) -> Result<Vec<String>, AllocError> {
+    match env::args(rt) {
+        Ok(all) => all.skip(1).collect(rt.alloc()),
+        Err(fault) if fault.kind() == ErrorKind::OutOfMemory => Err(AllocError),
+        Err(_) => Ok(Vec::new(rt.alloc())),
+    }
 }

@@ -48,7 +48,7 @@ use Rattle.signoff_call.specs.declared.files.Read.TheVariants.{All, NoModule, No
 use Rattle.signoff_call.specs.declared.files.Texts.{Texts}
 use Rattle.signoff_call.specs.Answers.{done, is_refuted, is_spent, met, moved_text, refusal, report_bytes, reported, summary}
 use Rattle.signoff_call.specs.Waves.{first_waved}
-use Rattle.signoff_call.specs.Tasks.{AnswersAccept, AnswersMeet, AnswersTask, AnswersTexts, AnswersWalk, HasTrace, IsChecked, IsUnmetAt, KeepsThenDecides, LeavesTask, ListsClauses, ListsLines, Meets, RefusesBoundProof, RefusesBy, RefusesRows, RefusesTexts, Reports, ReportsTexts, ShowsMachine, ShowsPath, ShowsWave, Stores, WalksRows, machine_shown, names_text, signed_text, stores}
+use Rattle.signoff_call.specs.Tasks.{AnswersAccept, AnswersMeet, AnswersTask, AnswersTexts, AnswersWalk, HasTrace, IsChecked, IsUnmetAt, KeepsThenDecides, LeavesTask, ListsClauses, ListsLines, Meets, RefusesBoundProof, RefusesBy, RefusesRows, RefusesTexts, Reports, ReportsTexts, ShowsMachine, ShowsPath, ShowsWave, Stores, WalksRows, machine_shown, names_text, signed_text, stores, where_signed}
 use Rattle.signoff_call.specs.Run.{Answers, AnswersJob, AnswersMove, AnswersService, AppendsPrefix, Around, Delivers, IsRead, LeavesRead, LeavesRows, LeavesServed, LeavesTexts, Reads, around, limits_for, third_name, quota_of, refused_status, served_text, stores_of}
 
 pub texts_answered : {E : Type 0} (r : Result Answer E) (j : Job) (read : Read) (texts : Texts) (book : Book) (st : Stores) → read ≡ All texts →
@@ -211,11 +211,11 @@ texts_other m s which budget workers said book st a n p h is =
     whole_other (Refuses m s which) (AreObsOfTexts m s which) (IsChecked m s which budget book) workers (Reports said) book st a n p
     (λ r same. reports_other r.verdicts.items (said r) a n p same) h is
 
-signed_other : (text : List ℕ) (r : Report) (a : Answer) (n : ℕ) → IsApart n → a ≡ signed_text text r → a.status ≡ n → ⊥
-signed_other text r a n p same is = by r.complete same
+signed_other : (bytes : List ℕ) (r : Report) (a : Answer) (n : ℕ) → IsApart n → a ≡ where_signed bytes r → a.status ≡ n → ⊥
+signed_other bytes r a n p same is = by r.complete same
   where
-    by : (b : Bool) → a ≡ (if b then done (text ++ codes "signed off\n") else reported r.verdicts.items r.text) → ⊥
-    by true same = done_other n p (status_is a (done (text ++ codes "signed off\n")) n same is)
+    by : (b : Bool) → a ≡ (if b then done bytes else reported r.verdicts.items r.text) → ⊥
+    by true same = done_other n p (status_is a (done bytes) n same is)
     by false same = reports_other r.verdicts.items r.text a n p same is
 
 -- 11 and 12 are none of them
@@ -253,7 +253,7 @@ walk_other m s text budget workers book st a n p h is = ⊎_elim
     walked : WalksRows m s text budget workers book st a → ⊥
     walked x =
         whole_other (Refuses m s w.All) (AreObsOfTexts m s w.All) (IsChecked m s w.All budget book) workers (ShowsPath x.0) book st a n p
-        (λ r shows. signed_other (path_text x.0.bound.set shows.0) r a n p shows.2) x.2 is
+        (λ r shows. signed_other (signed_text (path_text x.0.bound.set shows.0)) r a n p shows.2) x.2 is
 
 task_other : (task : Task) (m s third : List ℕ) (budget workers : ℕ) (book : Book) (st : Stores) (a : Answer) (n : ℕ) → IsApart n → AnswersTask task m s third budget workers book st a → a.status ≡ n → ⊥
 task_other (t.Decide which) m s third budget workers book st a n p h is = texts_other m s which budget workers (report_bytes which book) book st a n p h is

@@ -51,14 +51,14 @@ use Rattle.desk_core.proofs.Reporting.{adds_of_texts, asked_refuses, is_report, 
 use Rattle.signoff_call.specs.declared.answer.Answer.{Answer}
 use Rattle.signoff_call.specs.Answers.{done, refusal}
 use Rattle.signoff_call.specs.Bound.{AcceptsBound, AddsTwiceTo, Gives, KeepsFirst, IsBoundReport, IsRefusalOf, SaysBound, SaysMachine, SaysPath, SaysWave, ShowsClauses, WalksBound}
-use Rattle.signoff_call.specs.Tasks.{AddsTwice, AnswersAccept, AnswersClauses, AnswersLines, AnswersMachine, AnswersWalk, AnswersWave, RefusesBoundProof, Reports, HasTrace, IsChecked, RefusesBy, RefusesRows, RefusesTexts, ReportsTexts, ShowsMachine, ShowsPath, ShowsWave, Stores, WalksRows, machine_shown, names_text, signed_text, stores}
+use Rattle.signoff_call.specs.Tasks.{AddsTwice, AnswersAccept, AnswersClauses, AnswersLines, AnswersMachine, AnswersWalk, AnswersWave, RefusesBoundProof, Reports, HasTrace, IsChecked, RefusesBy, RefusesRows, RefusesTexts, ReportsTexts, ShowsMachine, ShowsPath, ShowsWave, Stores, WalksRows, machine_shown, names_text, signed_text, stores, where_signed}
 use Rattle.signoff_call.proofs.Answering.{adds_none, refusal_other, turned_answered}
 
-module _ (m s : List ℕ) (b : Pair) (from : IsBoundOf m s b) (budget workers : ℕ) (book : Book) (st : Stores) where
+module _ (m s : List ℕ) (b : Pair) (from : IsBoundOf m s b) (budget workers : ℕ) (book : Book) where
   -- what is said of a report may be said otherwise
-  says_texts : (which : Which) (Says Other : Report → Answer → Type 0) → ((r : Report) (a : Answer) → Says r a → Other r a) → (a : Answer) → SaysBound Says b which budget workers book st a
+  says_texts : (st : Stores) (which : Which) (Says Other : Report → Answer → Type 0) → ((r : Report) (a : Answer) → Says r a → Other r a) → (a : Answer) → SaysBound Says b which budget workers book st a
       → RefusesTexts (Refuses m s which) (AreObsOfTexts m s which) book st a ⊎ ReportsTexts (IsChecked m s which budget book) workers Other book st a
-  says_texts which Says Other also a h = ⊎_elim
+  says_texts st which Says Other also a h = ⊎_elim
       (λ (r : RefusesTexts (RefusesAsked b.set which) (AreObsOf b which) book st a). inl (record {
         fault = r.fault;
         refuses = asked_refuses m s b which r.fault from r.refuses;
@@ -75,34 +75,14 @@ module _ (m s : List ℕ) (b : Pair) (from : IsBoundOf m s b) (budget workers : 
         answer_is = also r.report a r.answer_is;
       })) h
 
+module _ (m s : List ℕ) (b : Pair) (from : IsBoundOf m s b) (budget workers : ℕ) (book : Book) (st : Stores) where
   pub machine_answered : {E : Type 0} (r : Result Answer E) (form : Form) → IfOk r (SaysBound (SaysMachine b.set form) b w.All budget workers book st) → IfOk r (AnswersMachine m s form budget workers book st)
-  machine_answered (Ok a) form h = says_texts w.All (SaysMachine b.set form) (ShowsMachine m s form) (λ r a says. (b, from, says)) a h
+  machine_answered (Ok a) form h = says_texts m s b from budget workers book st w.All (SaysMachine b.set form) (ShowsMachine m s form) (λ r a says. (b, from, says)) a h
   machine_answered (Err e) form h = tt
 
   pub wave_answered : {E : Type 0} (r : Result Answer E) (name : List ℕ) → IfOk r (SaysBound (SaysWave b book.lines.items) b (w.One name) budget workers book st) → IfOk r (AnswersWave m s name budget workers book st)
-  wave_answered (Ok a) name h = says_texts (w.One name) (SaysWave b book.lines.items) (ShowsWave m s book.lines.items) (λ r a says. (b, from, says)) a h
+  wave_answered (Ok a) name h = says_texts m s b from budget workers book st (w.One name) (SaysWave b book.lines.items) (ShowsWave m s book.lines.items) (λ r a says. (b, from, says)) a h
   wave_answered (Err e) name h = tt
-
-  -- a derivation that is kept, or isn't
-  kept_then : (name text : List ℕ) (a : Answer) (between : Option Tables) → SaysBound (Reports (λ r. r.text)) b (w.One name) budget workers book (stores between st.after st.asked) a
-      → RefusesTexts (Refuses m s (w.One name)) (AreObsOfTexts m s (w.One name)) book (stores between st.after st.asked) a
-      ⊎ ReportsTexts (IsChecked m s (w.One name) budget book) workers (Reports (λ r. r.text)) book (stores between st.after st.asked) a
-  kept_then name text a between h = ⊎_elim
-      (λ (r : RefusesTexts (RefusesAsked b.set (w.One name)) (AreObsOf b (w.One name)) book (stores between st.after st.asked) a). inl (record {
-        fault = r.fault;
-        refuses = asked_refuses m s b (w.One name) r.fault from r.refuses;
-        no_memory = r.no_memory;
-        empty = r.empty;
-        left = adds_of_texts m s b (w.One name) from between st.after r.left;
-        answer_is = r.answer_is;
-      }))
-      (λ (r : ReportsTexts (IsBoundReport b (w.One name) budget book) workers (Reports (λ r. r.text)) book (stores between st.after st.asked) a). inr (record {
-        report = r.report;
-        is_report = (is_report m s b (w.One name) budget book.lines.items r.report from r.is_report.lines r.is_report.is, r.is_report.least);
-        asked = r.asked;
-        settled = r.settled;
-        answer_is = r.answer_is;
-      })) h
 
   pub accept_answered : {E : Type 0} (r : Result Answer E) (name text : List ℕ) → IfOk r (AcceptsBound b name text budget workers book st) → IfOk r (AnswersAccept m s name text budget workers book st)
   accept_answered (Ok a) name text h = ⊎_elim
@@ -119,7 +99,7 @@ module _ (m s : List ℕ) (b : Pair) (from : IsBoundOf m s b) (budget workers : 
         from,
         ⊎_elim
             (λ (y : RefusesBoundProof b name text book st a). inl y)
-            (λ (y : KeepsFirst b name text budget workers book st a). inr (record { between = y.between; kept = y.kept; decides = kept_then name text a y.between y.says })) x,
+            (λ (y : KeepsFirst b name text budget workers book st a). inr (record { between = y.between; kept = y.kept; decides = says_texts m s b from budget workers book (stores y.between st.after st.asked) (w.One name) (Reports (λ r. r.text)) (Reports (λ r. r.text)) (λ r a says. says) a y.says })) x,
       )) h
   accept_answered (Err e) name text h = tt
 
@@ -141,7 +121,7 @@ module _ (m s : List ℕ) (b : Pair) (from : IsBoundOf m s b) (budget workers : 
     walked trace gives a h = ⊎_elim
         (λ (x : (t : ℕ) × IsUnmet (meaning_of b.set) b.set trace (Some t) × RefusesBy 11 (codes "rows: Unmet " ++ decimal t) book st a). inl (inr (traced trace gives, x.0, x.1, x.2)))
         (λ (x : IsUnmet (meaning_of b.set) b.set trace None × SaysBound (SaysPath b.set trace) b w.All budget workers book st a).
-        inr (traced trace gives, x.0, says_texts w.All (SaysPath b.set trace) (ShowsPath (traced trace gives)) (λ r a says. says) a x.1)) h
+        inr (traced trace gives, x.0, says_texts m s b from budget workers book st w.All (SaysPath b.set trace) (ShowsPath (traced trace gives)) (λ r a says. says) a x.1)) h
 
     walks : (a : Answer) → WalksBound b text budget workers book st a → RefusesRows m s text book st a ⊎ WalksRows m s text budget workers book st a
     walks a h = ⊎_elim
@@ -156,13 +136,13 @@ module _ (m s : List ℕ) (b : Pair) (from : IsBoundOf m s b) (budget workers : 
 
 -- ---- what is answered to a set that is bound
 
-pub says_machine : {E : Type 0} (r : Result Answer E) (set : Set) (form : Form) (text : List ℕ) (report : Report) → text ≡ machine_shown set form → IfOk r (λ a. a ≡ signed_text text report) → IfOk r (SaysMachine set form report)
-says_machine r set form text report is h = subst (λ (z : List ℕ). IfOk r (λ a. a ≡ signed_text z report)) is h
+pub says_machine : {E : Type 0} (r : Result Answer E) (set : Set) (form : Form) (bytes : List ℕ) (report : Report) → bytes ≡ machine_shown set form → IfOk r (λ a. a ≡ where_signed bytes report) → IfOk r (SaysMachine set form report)
+says_machine r set form bytes report is h = subst (λ (z : List ℕ). IfOk r (λ a. a ≡ where_signed z report)) is h
 
-pub says_path : {E : Type 0} (r : Result Answer E) (set : Set) (trace : List Row) (path : Path) (text : List ℕ) (report : Report) → IsPath (meaning_of set) set trace path → text ≡ path_text set path
-    → IfOk r (λ a. a ≡ signed_text text report) → IfOk r (SaysPath set trace report)
-says_path (Ok a) set trace path text report is same h = (path, is, h ∙ ap (λ (z : List ℕ). signed_text z report) same)
-says_path (Err e) set trace path text report is same h = tt
+pub says_path : {E : Type 0} (r : Result Answer E) (set : Set) (trace : List Row) (path : Path) (bytes : List ℕ) (report : Report) → IsPath (meaning_of set) set trace path → bytes ≡ signed_text (path_text set path)
+    → IfOk r (λ a. a ≡ where_signed bytes report) → IfOk r (SaysPath set trace report)
+says_path (Ok a) set trace path bytes report is same h = (path, is, h ∙ ap (λ (z : List ℕ). where_signed z report) same)
+says_path (Err e) set trace path bytes report is same h = tt
 
 module _ {E : Type 0} (b : Pair) (budget workers : ℕ) (book : Book) (st : Stores) where
   pub says_report : (r : Result Answer E) (which : Which) (Says : Report → Answer → Type 0) (report : Report) (asked : List ℕ) → AreDecided budget b which book.lines.items → IsReportOf which book.lines.items report

@@ -36,7 +36,7 @@ use Rattle.asked_lines.specs.declared.fault.LineFault.TheVariants as l
 use Rattle.asked_lines.specs.Asked.{LacksName}
 use Rattle.signoff_call.specs.Answers.{done, refusal, reported}
 use Rattle.signoff_call.specs.Waves.{first_waved}
-use Rattle.signoff_call.specs.Tasks.{RefusesBoundProof, RefusesBy, RefusesTexts, Reports, ReportsTexts, Stores, machine_shown, signed_text, stores}
+use Rattle.signoff_call.specs.Tasks.{RefusesBoundProof, RefusesBy, RefusesTexts, Reports, ReportsTexts, Stores, machine_shown, signed_text, stores, where_signed}
 
 -- the report of the lines of the set that are asked for
 pub record IsBoundReport (b : Pair) (which : Which) (budget : ℕ) (book : Book) (r : Report) : Type 0 where
@@ -50,13 +50,13 @@ SaysBound Says b which budget workers book st answer =
     RefusesTexts (RefusesAsked b.set which) (AreObsOf b which) book st answer ⊎ ReportsTexts (IsBoundReport b which budget book) workers Says book st answer
 
 abbrev pub SaysMachine : Set → Form → Report → Answer → Type 0
-SaysMachine set form r answer = answer ≡ signed_text (machine_shown set form) r
+SaysMachine set form r answer = answer ≡ where_signed (machine_shown set form) r
 
 abbrev pub SaysWave : Pair → List Line → Report → Answer → Type 0
 SaysWave b lines r answer = answer ≡ reported r.verdicts.items (first_waved b lines r.text)
 
 abbrev pub SaysPath : Set → List Row → Report → Answer → Type 0
-SaysPath set trace r answer = (path : Path) × IsPath (meaning_of set) set trace path × (answer ≡ signed_text (path_text set path) r)
+SaysPath set trace r answer = (path : Path) × IsPath (meaning_of set) set trace path × (answer ≡ where_signed (signed_text (path_text set path)) r)
 
 -- rows give the run of a design this trace
 pub record Gives (b : Pair) (text : List ℕ) (trace : List Row) : Type 0 where

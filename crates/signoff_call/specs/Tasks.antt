@@ -26,6 +26,7 @@ use Rattle.path_machine.specs.Texts.{fault_text, machine_text, path_text}
 use Rattle.path_machine.specs.Unmet.{IsUnmet}
 use Rattle.word_dag.specs.Nodes.{Parts}
 use Rattle.signoff_call.specs.Waves.{first_waved}
+use Rattle.proof_store.specs.Provers.{asked_by, kept_by}
 use Rattle.reports.specs.declared.book.Book.{Book}
 use Rattle.reports.specs.declared.book.Line.{Line as Told}
 use Rattle.reports.specs.declared.report.Report.{Report}
@@ -33,6 +34,7 @@ use Rattle.reports.specs.declared.which.Which.{Which}
 use Rattle.reports.specs.declared.which.Which.TheVariants as w
 use Rattle.asked_lines.specs.Least.{HasLeast}
 use Rattle.asked_lines.specs.Settled.{AddsProofsOf, AreSettled}
+use Rattle.desk_core.specs.declared.checker.Checker.{Checker}
 use Rattle.desk_core.specs.Checks.{AreObsOfTexts, IsReport, Refuses}
 use Rattle.meet_lines.specs.Meetings.{AreObsOfTexts as AreMeetObsOfTexts, IsMeetReport, Refuses as RefusesMeet}
 use Rattle.clause_texts.specs.declared.fault.ProofFault.{ProofFault}
@@ -54,6 +56,10 @@ pub record Stores : Type 0 where
 
 abbrev pub stores : Option Tables → Option Tables → List ℕ → Stores
 stores before after asked = record { before = before; after = after; asked = asked }
+
+-- those of a checker before and after a call
+abbrev pub stores_between : {R K H G : Type 0} → (K → Option Tables) → (H → ℕ) → Checker R K H G → Checker R K H G → Stores
+stores_between tables asked old new = stores (kept_by tables old.prover) (kept_by tables new.prover) (asked_by asked old.prover)
 
 -- a fault refuses two texts, or the keeper failed; the proofs that differ are of obligations of the call
 pub record RefusesTexts (Refuses : CheckFault → Type 0) (OfCall : List Parts → Type 0) (book : Book) (st : Stores) (answer : Answer) : Type 0 where
@@ -105,18 +111,22 @@ AnswersMeet m s name budget workers book st answer =
 
 -- ---- the operations of a set as a machine
 
--- this text where the set is signed off, and else the report
-abbrev pub signed_text : List ℕ → Report → Answer
-signed_text text r = if r.complete then done (text ++ codes "signed off\n") else reported r.verdicts.items r.text
+-- these bytes where the set is signed off, and else the report
+abbrev pub where_signed : List ℕ → Report → Answer
+where_signed bytes r = if r.complete then done bytes else reported r.verdicts.items r.text
+
+-- lines of words end with one that signs off
+abbrev pub signed_text : List ℕ → List ℕ
+signed_text text = text ++ codes "signed off\n"
 
 -- a machine as lines of words, or as a graph
 abbrev pub machine_shown : Set → Form → List ℕ
-machine_shown set Words = machine_text set
+machine_shown set Words = signed_text (machine_text set)
 machine_shown set Graph = machine_graph set
 
 -- the machine of the set, where it is signed off
 abbrev pub ShowsMachine : List ℕ → List ℕ → Form → Report → Answer → Type 0
-ShowsMachine m s form r answer = (b : Pair) × IsBoundOf m s b × (answer ≡ signed_text (machine_shown b.set form) r)
+ShowsMachine m s form r answer = (b : Pair) × IsBoundOf m s b × (answer ≡ where_signed (machine_shown b.set form) r)
 
 abbrev pub AnswersMachine : List ℕ → List ℕ → Form → ℕ → ℕ → Book → Stores → Answer → Type 0
 AnswersMachine m s form budget workers book st answer =
@@ -157,7 +167,7 @@ RefusesRows m s text book st answer =
 
 -- the path of the trace, where the set is signed off
 abbrev pub ShowsPath : {m s text : List ℕ} → HasTrace m s text → Report → Answer → Type 0
-ShowsPath h r answer = (path : Path) × IsPath (meaning_of h.bound.set) h.bound.set h.trace path × (answer ≡ signed_text (path_text h.bound.set path) r)
+ShowsPath h r answer = (path : Path) × IsPath (meaning_of h.bound.set) h.bound.set h.trace path × (answer ≡ where_signed (signed_text (path_text h.bound.set path)) r)
 
 -- the run meets the constraints, and all lines are decided, or why not
 abbrev pub WalksRows : List ℕ → List ℕ → List ℕ → ℕ → ℕ → Book → Stores → Answer → Type 0

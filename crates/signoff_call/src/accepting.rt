@@ -6,12 +6,12 @@ ghost use Rattle.desk_core.specs.Checks.{AreObsOfTexts};
 ghost use Rattle.clause_texts.specs.Faults.{fault_text as proof_fault_text};
 ghost use Rattle.line_clauses.specs.declared.fault.KeepFault.{KeepFault as Faults};
 ghost use Rattle.line_clauses.specs.declared.fault.KeepFault.TheVariants as k;
-ghost use Rattle.proof_store.specs.Provers.{asked_by, kept_by};
+ghost use Rattle.proof_store.specs.Provers.{kept_by};
 ghost use Rattle.reports.specs.declared.which.Which.TheVariants as w;
 ghost use Rattle.signoff_call.specs.Answers.{refusal};
 ghost use Rattle.signoff_call.specs.Bound.{AcceptsBound, AddsTwiceTo, IsRefusalOf, SaysBound};
 ghost use Rattle.signoff_call.specs.Run.{HasSame};
-ghost use Rattle.signoff_call.specs.Tasks.{AddsTwice, AnswersAccept, Reports, stores};
+ghost use Rattle.signoff_call.specs.Tasks.{AddsTwice, AnswersAccept, Reports, stores_between};
 
 use crate::answer::{Answer, refusal, reported, turned_down};
 use binding::Bound;
@@ -54,8 +54,9 @@ fn line_reported<R: Threads + Sync, K: Keeper, H: Helper, G: Gate + Sync>(
     bound: &Bound,
     name: &Text,
 ) -> Result<Answer, AllocError>
-    ensures answer { IfOk result (SaysBound (Reports (λ r. r.text)) bound.now (w.One name.now) checker.old.prover.settings.budget checker.old.prover.settings.workers checker.new.book.now
-        (stores (kept_by K.tables checker.old.prover) (kept_by K.tables checker.new.prover) (asked_by H.asked checker.old.prover))) }
+    ensures answer { IfOk result (SaysBound (Reports (λ r. r.text)) bound.now (w.One name.now)
+        checker.old.prover.settings.budget checker.old.prover.settings.workers checker.new.book.now
+        (stores_between K.tables H.asked checker.old checker.new)) }
     ensures left { AddsProofsOf (AreObsOf bound.now (w.One name.now)) (kept_by K.tables checker.old.prover) (kept_by K.tables checker.new.prover) }
     ensures keeper { IfOk result (λ a. a.status ≡ 8 → Rose (K.faults checker.old.prover.keeper.now) (K.faults checker.new.prover.keeper.now)) }
     ensures same { HasSame checker.old checker.new }
@@ -79,8 +80,9 @@ fn accepted<R: Threads + Sync, K: Keeper, H: Helper, G: Gate + Sync>(
     proof: &Text,
 ) -> Result<Answer, AllocError>
     requires empty { checker.old.book.now.lines.items ≡ [] }
-    ensures answer { IfOk result (AcceptsBound bound.now name.now proof.now checker.old.prover.settings.budget checker.old.prover.settings.workers checker.new.book.now
-        (stores (kept_by K.tables checker.old.prover) (kept_by K.tables checker.new.prover) (asked_by H.asked checker.old.prover))) }
+    ensures answer { IfOk result (AcceptsBound bound.now name.now proof.now
+        checker.old.prover.settings.budget checker.old.prover.settings.workers checker.new.book.now
+        (stores_between K.tables H.asked checker.old checker.new)) }
     ensures left { AddsTwiceTo bound.now name.now (kept_by K.tables checker.old.prover) (kept_by K.tables checker.new.prover) }
     ensures keeper { IfOk result (λ a. a.status ≡ 8 → Rose (K.faults checker.old.prover.keeper.now) (K.faults checker.new.prover.keeper.now)) }
     ensures same { HasSame checker.old checker.new }
@@ -101,8 +103,9 @@ pub fn accepted_in<R: Threads + Sync, K: Keeper, H: Helper, G: Gate + Sync>(
     proof: &Text,
 ) -> Result<Answer, AllocError>
     requires empty { checker.old.book.now.lines.items ≡ [] }
-    ensures answer { IfOk result (AnswersAccept «module».now set.now given.now.line proof.now checker.old.prover.settings.budget checker.old.prover.settings.workers checker.new.book.now
-        (stores (kept_by K.tables checker.old.prover) (kept_by K.tables checker.new.prover) (asked_by H.asked checker.old.prover))) }
+    ensures answer { IfOk result (AnswersAccept «module».now set.now given.now.line proof.now
+        checker.old.prover.settings.budget checker.old.prover.settings.workers checker.new.book.now
+        (stores_between K.tables H.asked checker.old checker.new)) }
     ensures left { AddsTwice «module».now set.now given.now.line (kept_by K.tables checker.old.prover) (kept_by K.tables checker.new.prover) }
     ensures keeper { IfOk result (λ a. a.status ≡ 8 → Rose (K.faults checker.old.prover.keeper.now) (K.faults checker.new.prover.keeper.now)) }
     ensures same { HasSame checker.old checker.new }

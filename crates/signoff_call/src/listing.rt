@@ -50,7 +50,8 @@ fn names_text(alloc: Global, bound: &Bound) -> Result<Text, AllocError>
 
 /// The names of all lines of two texts, in the order of a report.
 pub fn lines_listed(alloc: Global, module: &Text, set: &Text) -> Result<Answer, AllocError>
-    ensures answer { IfOk result (λ a. (book : Book) (tables : Option Tables) (asked : List ℕ) → book.lines.items ≡ [] → AnswersLines «module».now set.now book (stores tables tables asked) a) }
+    ensures answer { IfOk result (λ a. (book : Book) (tables : Option Tables) (asked : List ℕ) → book.lines.items ≡ []
+        → AnswersLines «module».now set.now book (stores tables tables asked) a) }
     ensures keeper { IfOk result (λ a. a.status ≡ 8 → ⊥) }
 {
     match bound_of(alloc, module.bytes(), set.bytes()) {
@@ -82,7 +83,8 @@ pub fn clauses_listed(
     set: &Text,
     name: &Text,
 ) -> Result<Answer, AllocError>
-    ensures answer { IfOk result (λ a. (book : Book) (tables : Option Tables) (asked : List ℕ) → book.lines.items ≡ [] → AnswersClauses «module».now set.now name.now book (stores tables tables asked) a) }
+    ensures answer { IfOk result (λ a. (book : Book) (tables : Option Tables) (asked : List ℕ) → book.lines.items ≡ []
+        → AnswersClauses «module».now set.now name.now book (stores tables tables asked) a) }
     ensures keeper { IfOk result (λ a. a.status ≡ 8 → ⊥) }
 {
     match bound_of(alloc, module.bytes(), set.bytes()) {

@@ -6,12 +6,12 @@ ghost use Rattle.set_tree.specs.Traces.{IsTrace};
 ghost use Rattle.asked_lines.specs.Settled.{AddsProofsOf, AreObsOf};
 ghost use Rattle.desk_core.specs.Checks.{AreObsOfTexts};
 ghost use Rattle.path_machine.specs.Texts.{fault_text};
-ghost use Rattle.proof_store.specs.Provers.{asked_by, kept_by};
+ghost use Rattle.proof_store.specs.Provers.{kept_by};
 ghost use Rattle.reports.specs.declared.which.Which.TheVariants as w;
 ghost use Rattle.signoff_call.specs.Answers.{refusal};
 ghost use Rattle.signoff_call.specs.Bound.{SaysBound, SaysMachine, SaysPath, WalksBound};
 ghost use Rattle.signoff_call.specs.Run.{HasSame};
-ghost use Rattle.signoff_call.specs.Tasks.{AnswersMachine, AnswersWalk, machine_shown, signed_text, stores};
+ghost use Rattle.signoff_call.specs.Tasks.{AnswersMachine, AnswersWalk, machine_shown, signed_text, stores_between, where_signed};
 
 use crate::answer::{Answer, done, refusal, reported, turned_down};
 use binding::Bound;
@@ -30,25 +30,32 @@ use set_sound::Sound;
 use std::alloc::{AllocError, Global};
 use std::thread::Threads;
 
-// The text, where the set is signed off, and else the report.
-fn signed_text(alloc: Global, text: &Text, report: &Report) -> Result<Answer, AllocError>
-    ensures { IfOk result (λ a. a ≡ signed_text text.now report.now) }
+// These bytes, where the set is signed off, and else the report.
+fn where_signed(alloc: Global, bytes: Text, report: &Report) -> Result<Answer, AllocError>
+    ensures { IfOk result (λ a. a ≡ where_signed bytes report.now) }
 {
-    if !report.complete {
-        let bytes = Text::copy(alloc, report.text.bytes())?;
-        return Ok(reported(&report.verdicts, bytes));
+    if report.complete {
+        return Ok(done(bytes));
     }
+    let lines = Text::copy(alloc, report.text.bytes())?;
+    Ok(reported(&report.verdicts, lines))
+}
+
+// Lines of words, the last of which signs off.
+fn signed_text(alloc: Global, text: &Text) -> Result<Text, AllocError>
+    ensures { IfOk result (λ bytes. bytes ≡ signed_text text.now) }
+{
     let mut bytes = text.bytes().to_vec(alloc)?;
     bytes.extend_from_slice(b"signed off\n")?;
-    Ok(done(Text::new(bytes)))
+    Ok(Text::new(bytes))
 }
 
 // A machine as lines of words, or as a graph.
 fn machine_bytes(alloc: Global, set: &Sound, form: Form) -> Result<Text, AllocError>
-    ensures { IfOk result (λ text. text ≡ machine_shown set.now form) }
+    ensures { IfOk result (λ bytes. bytes ≡ machine_shown set.now form) }
 {
     match form {
-        Form::Words => machine_text(alloc, set),
+        Form::Words => signed_text(alloc, &machine_text(alloc, set)?),
         Form::Graph => machine_graph(alloc, set),
     }
 }
@@ -59,8 +66,9 @@ fn machine_shown<R: Threads + Sync, K: Keeper, H: Helper, G: Gate + Sync>(
     bound: &Bound,
     form: Form,
 ) -> Result<Answer, AllocError>
-    ensures answer { IfOk result (SaysBound (SaysMachine bound.now.set form) bound.now w.All checker.old.prover.settings.budget checker.old.prover.settings.workers checker.new.book.now
-        (stores (kept_by K.tables checker.old.prover) (kept_by K.tables checker.new.prover) (asked_by H.asked checker.old.prover))) }
+    ensures answer { IfOk result (SaysBound (SaysMachine bound.now.set form) bound.now w.All
+        checker.old.prover.settings.budget checker.old.prover.settings.workers checker.new.book.now
+        (stores_between K.tables H.asked checker.old checker.new)) }
     ensures left { AddsProofsOf (AreObsOf bound.now w.All) (kept_by K.tables checker.old.prover) (kept_by K.tables checker.new.prover) }
     ensures keeper { IfOk result (λ a. a.status ≡ 8 → Rose (K.faults checker.old.prover.keeper.now) (K.faults checker.new.prover.keeper.now)) }
     ensures same { HasSame checker.old checker.new }
@@ -68,8 +76,8 @@ fn machine_shown<R: Threads + Sync, K: Keeper, H: Helper, G: Gate + Sync>(
     let alloc = checker.prover.alloc;
     match checker.check_bound(bound, &Which::All) {
         Ok(report) => {
-            let text = machine_bytes(alloc, bound.set(), form)?;
-            signed_text(alloc, &text, &report)
+            let bytes = machine_bytes(alloc, bound.set(), form)?;
+            where_signed(alloc, bytes, &report)
         }
         Err(fault) => turned_down(alloc, fault),
     }
@@ -83,8 +91,9 @@ pub fn machine_of<R: Threads + Sync, K: Keeper, H: Helper, G: Gate + Sync>(
     form: Form,
 ) -> Result<Answer, AllocError>
     requires empty { checker.old.book.now.lines.items ≡ [] }
-    ensures answer { IfOk result (AnswersMachine «module».now set.now form checker.old.prover.settings.budget checker.old.prover.settings.workers checker.new.book.now
-        (stores (kept_by K.tables checker.old.prover) (kept_by K.tables checker.new.prover) (asked_by H.asked checker.old.prover))) }
+    ensures answer { IfOk result (AnswersMachine «module».now set.now form
+        checker.old.prover.settings.budget checker.old.prover.settings.workers checker.new.book.now
+        (stores_between K.tables H.asked checker.old checker.new)) }
     ensures left { AddsProofsOf (AreObsOfTexts «module».now set.now w.All) (kept_by K.tables checker.old.prover) (kept_by K.tables checker.new.prover) }
     ensures keeper { IfOk result (λ a. a.status ≡ 8 → Rose (K.faults checker.old.prover.keeper.now) (K.faults checker.new.prover.keeper.now)) }
     ensures same { HasSame checker.old checker.new }
@@ -124,8 +133,9 @@ fn path_shown<R: Threads + Sync, K: Keeper, H: Helper, G: Gate + Sync>(
     trace: &Trace,
 ) -> Result<Answer, AllocError>
     requires { IsTrace bound.now.set trace.now.rows }
-    ensures answer { IfOk result (SaysBound (SaysPath bound.now.set trace.now.rows) bound.now w.All checker.old.prover.settings.budget checker.old.prover.settings.workers checker.new.book.now
-        (stores (kept_by K.tables checker.old.prover) (kept_by K.tables checker.new.prover) (asked_by H.asked checker.old.prover))) }
+    ensures answer { IfOk result (SaysBound (SaysPath bound.now.set trace.now.rows) bound.now w.All
+        checker.old.prover.settings.budget checker.old.prover.settings.workers checker.new.book.now
+        (stores_between K.tables H.asked checker.old checker.new)) }
     ensures left { AddsProofsOf (AreObsOf bound.now w.All) (kept_by K.tables checker.old.prover) (kept_by K.tables checker.new.prover) }
     ensures keeper { IfOk result (λ a. a.status ≡ 8 → Rose (K.faults checker.old.prover.keeper.now) (K.faults checker.new.prover.keeper.now)) }
     ensures same { HasSame checker.old checker.new }
@@ -135,7 +145,8 @@ fn path_shown<R: Threads + Sync, K: Keeper, H: Helper, G: Gate + Sync>(
         Ok(report) => {
             let path = path_of(alloc, bound.set(), trace)?;
             let text = path_text(alloc, bound.set(), &path)?;
-            signed_text(alloc, &text, &report)
+            let bytes = signed_text(alloc, &text)?;
+            where_signed(alloc, bytes, &report)
         }
         Err(fault) => turned_down(alloc, fault),
     }
@@ -149,7 +160,7 @@ fn walk_shown<R: Threads + Sync, K: Keeper, H: Helper, G: Gate + Sync>(
 ) -> Result<Answer, AllocError>
     requires empty { checker.old.book.now.lines.items ≡ [] }
     ensures answer { IfOk result (WalksBound bound.now text.now checker.old.prover.settings.budget checker.old.prover.settings.workers checker.new.book.now
-        (stores (kept_by K.tables checker.old.prover) (kept_by K.tables checker.new.prover) (asked_by H.asked checker.old.prover))) }
+        (stores_between K.tables H.asked checker.old checker.new)) }
     ensures left { AddsProofsOf (AreObsOf bound.now w.All) (kept_by K.tables checker.old.prover) (kept_by K.tables checker.new.prover) }
     ensures keeper { IfOk result (λ a. a.status ≡ 8 → Rose (K.faults checker.old.prover.keeper.now) (K.faults checker.new.prover.keeper.now)) }
     ensures same { HasSame checker.old checker.new }
@@ -175,8 +186,9 @@ pub fn walk_of<R: Threads + Sync, K: Keeper, H: Helper, G: Gate + Sync>(
     rows: &Text,
 ) -> Result<Answer, AllocError>
     requires empty { checker.old.book.now.lines.items ≡ [] }
-    ensures answer { IfOk result (AnswersWalk «module».now set.now rows.now checker.old.prover.settings.budget checker.old.prover.settings.workers checker.new.book.now
-        (stores (kept_by K.tables checker.old.prover) (kept_by K.tables checker.new.prover) (asked_by H.asked checker.old.prover))) }
+    ensures answer { IfOk result (AnswersWalk «module».now set.now rows.now
+        checker.old.prover.settings.budget checker.old.prover.settings.workers checker.new.book.now
+        (stores_between K.tables H.asked checker.old checker.new)) }
     ensures left { AddsProofsOf (AreObsOfTexts «module».now set.now w.All) (kept_by K.tables checker.old.prover) (kept_by K.tables checker.new.prover) }
     ensures keeper { IfOk result (λ a. a.status ≡ 8 → Rose (K.faults checker.old.prover.keeper.now) (K.faults checker.new.prover.keeper.now)) }
     ensures same { HasSame checker.old checker.new }

@@ -3,10 +3,10 @@ ghost use Rattle.std.specs.Prelude.{◌≡◌, ℕ, List, ◌⊎◌, ◌++◌, [
 ghost use Rattle.std.specs.Io.KnownBytes.{Appends};
 ghost use Rattle.outside.specs.Faults.{Rose};
 ghost use Rattle.command_words.specs.Commands.{IsBounded, HasBounds, command_of};
-ghost use Rattle.proof_store.specs.Provers.{asked_by, kept_by};
+ghost use Rattle.proof_store.specs.Provers.{kept_by};
 ghost use Rattle.desk_http.specs.Serving.{line, state, state_of};
 ghost use Rattle.signoff_call.specs.Run.{Answers, AnswersJob, Delivers, HasSame, LeavesRead, LeavesRows, Reads, around, third_name};
-ghost use Rattle.signoff_call.specs.Tasks.{stores};
+ghost use Rattle.signoff_call.specs.Tasks.{stores_between};
 ghost use Rattle.signoff_call.specs.declared.answer.Answer.{Answer};
 ghost use Rattle.signoff_call.specs.declared.files.Read.{Read};
 
@@ -45,8 +45,8 @@ use std::thread::Threads;
 /// - 8 where the keeper fails, with the line `keeper`; while the desk is served a peer is told so;
 /// - 9 where the port has no next connection, with the line `port`;
 /// - 7 where the sink refuses a report;
-/// - 1 where a line is refuted, or for `meet` met by nothing, 10 where none is and one is spent, and 0 else, with the report, or where all connections were served, with
-///   the line `served` and their number;
+/// - 1 where a line is refuted, or for `meet` met by nothing, 10 where none is and one is spent, and 0 else, with the report, or where all connections
+///   were served, with the line `served` and their number;
 /// - 70 for want of memory.
 pub fn signoff<R: Threads + Sync, F: Shelf, S: Sink, K: Keeper, P: Port, H: Helper, G: Gate + Sync>(
     rt: &R,
@@ -79,7 +79,8 @@ pub fn signoff<R: Threads + Sync, F: Shelf, S: Sink, K: Keeper, P: Port, H: Help
 
     // All else: an answer to the words and to what was read, of which all or a prefix went out.
     ensures ran { ((result ≡ 70) × Appends (S.written out.old) (S.written out.new) [])
-        ⊎ ((read : Read) × (answer : Answer) × (asked : List ℕ) × Reads (F.files shelf.old) (F.faults shelf.old) (F.faults shelf.new) (command_of (map string_bytes words.now)) read
+        ⊎ ((read : Read) × (answer : Answer) × (asked : List ℕ)
+        × Reads (F.files shelf.old) (F.faults shelf.old) (F.faults shelf.new) (command_of (map string_bytes words.now)) read
         × Answers (command_of (map string_bytes words.now)) read
         (around (state (K.tables keeper.old) (K.faults keeper.old) (map H.asked helpers.items) book.old) (line (P.wire port.old) (P.faults port.old)))
         (around (state (K.tables keeper.new) (K.faults keeper.new) asked book.new) (line (P.wire port.new) (P.faults port.new))) answer
@@ -114,9 +115,11 @@ fn answered<R: Threads + Sync, F: Shelf, K: Keeper, P: Port, H: Helper, G: Gate 
     requires { checker.old.book.now.lines.items ≡ [] }
     ensures answer { IfOk result (λ a. (read : Read)
         × Reads (F.files shelf.old) (F.faults shelf.old) (F.faults shelf.new) (command_of (map string_bytes words.now)) read
-        × Answers (command_of (map string_bytes words.now)) read (around (state_of K.tables K.faults H.asked checker.old) (line (P.wire port.old) (P.faults port.old)))
+        × Answers (command_of (map string_bytes words.now)) read
+        (around (state_of K.tables K.faults H.asked checker.old) (line (P.wire port.old) (P.faults port.old)))
         (around (state_of K.tables K.faults H.asked checker.new) (line (P.wire port.new) (P.faults port.new))) a) }
-    ensures left { LeavesRows (F.files shelf.old) (command_of (map string_bytes words.now)) (around (state_of K.tables K.faults H.asked checker.old) (line (P.wire port.old) (P.faults port.old)))
+    ensures left { LeavesRows (F.files shelf.old) (command_of (map string_bytes words.now))
+        (around (state_of K.tables K.faults H.asked checker.old) (line (P.wire port.old) (P.faults port.old)))
         (around (state_of K.tables K.faults H.asked checker.new) (line (P.wire port.new) (P.faults port.new))) }
     ensures keeper { IfOk result (λ a. a.status ≡ 8 → Rose (K.faults checker.old.prover.keeper.now) (K.faults checker.new.prover.keeper.now)) }
     ensures port { IfOk result (λ a. a.status ≡ 9 → Rose (P.next_faults port.old) (P.next_faults port.new)) }
@@ -159,7 +162,7 @@ fn job_answer<R: Threads + Sync, K: Keeper, H: Helper, G: Gate + Sync>(
     requires bounds { HasBounds job.now }
     requires empty { checker.old.book.now.lines.items ≡ [] }
     ensures answer { IfOk result (AnswersJob job.now read.now checker.new.book.now
-        (stores (kept_by K.tables checker.old.prover) (kept_by K.tables checker.new.prover) (asked_by H.asked checker.old.prover))) }
+        (stores_between K.tables H.asked checker.old checker.new)) }
     ensures left { LeavesRead job.now read.now (kept_by K.tables checker.old.prover) (kept_by K.tables checker.new.prover) }
     ensures keeper { IfOk result (λ a. a.status ≡ 8 → Rose (K.faults checker.old.prover.keeper.now) (K.faults checker.new.prover.keeper.now)) }
     ensures same { HasSame checker.old checker.new }

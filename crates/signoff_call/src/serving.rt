@@ -33,7 +33,8 @@ pub fn served<R: Threads + Sync, K: Keeper, P: Port, H: Helper, G: Gate + Sync>(
     service: &Service,
 ) -> Result<Answer, AllocError>
     requires { IsServed service.now }
-    ensures answer { IfOk result (AnswersService service.now (around (state_of K.tables K.faults H.asked checker.old) (line (P.wire port.old) (P.faults port.old)))
+    ensures answer { IfOk result (AnswersService service.now
+        (around (state_of K.tables K.faults H.asked checker.old) (line (P.wire port.old) (P.faults port.old)))
         (around (state_of K.tables K.faults H.asked checker.new) (line (P.wire port.new) (P.faults port.new)))) }
     ensures left { LeavesServed service.now (around (state_of K.tables K.faults H.asked checker.old) (line (P.wire port.old) (P.faults port.old)))
         (around (state_of K.tables K.faults H.asked checker.new) (line (P.wire port.new) (P.faults port.new))) }

@@ -5,10 +5,10 @@ ghost use Rattle.command_words.specs.Commands.{HasBounds};
 ghost use Rattle.outside.specs.Faults.{Rose};
 ghost use Rattle.signoff_call.specs.Answers.{counted, first_traced, least_line, report_bytes, summary, summary_line};
 ghost use Rattle.signoff_call.specs.Run.{HasSame};
-ghost use Rattle.signoff_call.specs.Tasks.{AnswersMeet, AnswersTask, AnswersTexts, LeavesTask, stores};
+ghost use Rattle.signoff_call.specs.Tasks.{AnswersMeet, AnswersTask, AnswersTexts, LeavesTask, stores_between};
 ghost use Rattle.reports.specs.Reports.{last_line};
 ghost use Rattle.asked_lines.specs.Settled.{AddsProofsOf};
-ghost use Rattle.proof_store.specs.Provers.{asked_by, kept_by};
+ghost use Rattle.proof_store.specs.Provers.{kept_by};
 ghost use Rattle.desk_core.specs.Checks.{AreObsOfTexts};
 ghost use Rattle.meet_lines.specs.Meetings.{AreObsOfTexts as AreMeetObsOfTexts};
 ghost use Rattle.demo_gen.specs.Texts.{module_text, set_text};
@@ -93,7 +93,7 @@ fn decided<R: Threads + Sync, K: Keeper, H: Helper, G: Gate + Sync>(
     requires empty { checker.old.book.now.lines.items ≡ [] }
     ensures answer { IfOk result (AnswersTexts «module».now set.now which.now checker.old.prover.settings.budget checker.old.prover.settings.workers
         (report_bytes which.now checker.new.book.now) checker.new.book.now
-        (stores (kept_by K.tables checker.old.prover) (kept_by K.tables checker.new.prover) (asked_by H.asked checker.old.prover))) }
+        (stores_between K.tables H.asked checker.old checker.new)) }
     ensures left { AddsProofsOf (AreObsOfTexts «module».now set.now which.now) (kept_by K.tables checker.old.prover) (kept_by K.tables checker.new.prover) }
     ensures keeper { IfOk result (λ a. a.status ≡ 8 → Rose (K.faults checker.old.prover.keeper.now) (K.faults checker.new.prover.keeper.now)) }
     ensures same { HasSame checker.old checker.new }
@@ -115,9 +115,11 @@ fn met_in<R: Threads + Sync, K: Keeper, H: Helper, G: Gate + Sync>(
     module: &Text,
     set: &Text,
 ) -> Result<Answer, AllocError>
-    ensures answer { IfOk result (AnswersMeet «module».now set.now (option_map (λ n. n.now) name.entry) checker.old.prover.settings.budget checker.old.prover.settings.workers
-        checker.new.book.now (stores (kept_by K.tables checker.old.prover) (kept_by K.tables checker.new.prover) (asked_by H.asked checker.old.prover))) }
-    ensures left { AddsProofsOf (AreMeetObsOfTexts «module».now set.now (option_map (λ n. n.now) name.entry)) (kept_by K.tables checker.old.prover) (kept_by K.tables checker.new.prover) }
+    ensures answer { IfOk result (AnswersMeet «module».now set.now (option_map (λ n. n.now) name.entry)
+        checker.old.prover.settings.budget checker.old.prover.settings.workers
+        checker.new.book.now (stores_between K.tables H.asked checker.old checker.new)) }
+    ensures left { AddsProofsOf (AreMeetObsOfTexts «module».now set.now (option_map (λ n. n.now) name.entry))
+        (kept_by K.tables checker.old.prover) (kept_by K.tables checker.new.prover) }
     ensures keeper { IfOk result (λ a. a.status ≡ 8 → Rose (K.faults checker.old.prover.keeper.now) (K.faults checker.new.prover.keeper.now)) }
     ensures same { HasSame checker.old checker.new }
 {
@@ -137,7 +139,7 @@ pub fn judged<R: Threads + Sync, K: Keeper, H: Helper, G: Gate + Sync>(
     requires bounds { HasBounds job.now }
     requires empty { checker.old.book.now.lines.items ≡ [] }
     ensures answer { IfOk result (AnswersTask job.now.task texts.now.«module» texts.now.set texts.now.third job.now.budget job.now.workers checker.new.book.now
-        (stores (kept_by K.tables checker.old.prover) (kept_by K.tables checker.new.prover) (asked_by H.asked checker.old.prover))) }
+        (stores_between K.tables H.asked checker.old checker.new)) }
     ensures left { LeavesTask job.now.task texts.now.«module» texts.now.set (kept_by K.tables checker.old.prover) (kept_by K.tables checker.new.prover) }
     ensures keeper { IfOk result (λ a. a.status ≡ 8 → Rose (K.faults checker.old.prover.keeper.now) (K.faults checker.new.prover.keeper.now)) }
     ensures same { HasSame checker.old checker.new }
@@ -239,8 +241,9 @@ pub fn demonstrated<R: Threads + Sync, K: Keeper, H: Helper, G: Gate + Sync>(
     requires stages { (1 ≤ stages) × (stages ≤ 64) }
     requires empty { checker.old.book.now.lines.items ≡ [] }
     ensures answer { IfOk result (AnswersTexts (module_text stages) (set_text stages) w.All 20000 4 (summary stages) checker.new.book.now
-        (stores (kept_by K.tables checker.old.prover) (kept_by K.tables checker.new.prover) (asked_by H.asked checker.old.prover))) }
-    ensures left { AddsProofsOf (AreObsOfTexts (module_text stages) (set_text stages) w.All) (kept_by K.tables checker.old.prover) (kept_by K.tables checker.new.prover) }
+        (stores_between K.tables H.asked checker.old checker.new)) }
+    ensures left { AddsProofsOf (AreObsOfTexts (module_text stages) (set_text stages) w.All)
+        (kept_by K.tables checker.old.prover) (kept_by K.tables checker.new.prover) }
     ensures keeper { IfOk result (λ a. a.status ≡ 8 → Rose (K.faults checker.old.prover.keeper.now) (K.faults checker.new.prover.keeper.now)) }
     ensures same { HasSame checker.old checker.new }
 {

@@ -3,11 +3,11 @@ ghost use Rattle.std.specs.Prelude.{◌≡◌, [], IfOk};
 ghost use Rattle.outside.specs.Faults.{Rose};
 ghost use Rattle.asked_lines.specs.Settled.{AddsProofsOf, AreObsOf};
 ghost use Rattle.desk_core.specs.Checks.{AreObsOfTexts};
-ghost use Rattle.proof_store.specs.Provers.{asked_by, kept_by};
+ghost use Rattle.proof_store.specs.Provers.{kept_by};
 ghost use Rattle.reports.specs.declared.which.Which.TheVariants as w;
 ghost use Rattle.signoff_call.specs.Bound.{SaysBound, SaysWave};
 ghost use Rattle.signoff_call.specs.Run.{HasSame};
-ghost use Rattle.signoff_call.specs.Tasks.{AnswersWave, stores};
+ghost use Rattle.signoff_call.specs.Tasks.{AnswersWave, stores_between};
 ghost use Rattle.signoff_call.specs.Waves.{first_waved};
 
 use crate::answer::{Answer, reported, turned_down};
@@ -49,8 +49,9 @@ fn wave_shown<R: Threads + Sync, K: Keeper, H: Helper, G: Gate + Sync>(
     bound: &Bound,
     name: &Text,
 ) -> Result<Answer, AllocError>
-    ensures answer { IfOk result (SaysBound (SaysWave bound.now checker.new.book.now.lines.items) bound.now (w.One name.now) checker.old.prover.settings.budget checker.old.prover.settings.workers
-        checker.new.book.now (stores (kept_by K.tables checker.old.prover) (kept_by K.tables checker.new.prover) (asked_by H.asked checker.old.prover))) }
+    ensures answer { IfOk result (SaysBound (SaysWave bound.now checker.new.book.now.lines.items) bound.now (w.One name.now)
+        checker.old.prover.settings.budget checker.old.prover.settings.workers
+        checker.new.book.now (stores_between K.tables H.asked checker.old checker.new)) }
     ensures left { AddsProofsOf (AreObsOf bound.now (w.One name.now)) (kept_by K.tables checker.old.prover) (kept_by K.tables checker.new.prover) }
     ensures keeper { IfOk result (λ a. a.status ≡ 8 → Rose (K.faults checker.old.prover.keeper.now) (K.faults checker.new.prover.keeper.now)) }
     ensures same { HasSame checker.old checker.new }
@@ -74,9 +75,11 @@ pub fn wave_of_texts<R: Threads + Sync, K: Keeper, H: Helper, G: Gate + Sync>(
     name: &Text,
 ) -> Result<Answer, AllocError>
     requires empty { checker.old.book.now.lines.items ≡ [] }
-    ensures answer { IfOk result (AnswersWave «module».now set.now name.now checker.old.prover.settings.budget checker.old.prover.settings.workers checker.new.book.now
-        (stores (kept_by K.tables checker.old.prover) (kept_by K.tables checker.new.prover) (asked_by H.asked checker.old.prover))) }
-    ensures left { AddsProofsOf (AreObsOfTexts «module».now set.now (w.One name.now)) (kept_by K.tables checker.old.prover) (kept_by K.tables checker.new.prover) }
+    ensures answer { IfOk result (AnswersWave «module».now set.now name.now
+        checker.old.prover.settings.budget checker.old.prover.settings.workers checker.new.book.now
+        (stores_between K.tables H.asked checker.old checker.new)) }
+    ensures left { AddsProofsOf (AreObsOfTexts «module».now set.now (w.One name.now))
+        (kept_by K.tables checker.old.prover) (kept_by K.tables checker.new.prover) }
     ensures keeper { IfOk result (λ a. a.status ≡ 8 → Rose (K.faults checker.old.prover.keeper.now) (K.faults checker.new.prover.keeper.now)) }
     ensures same { HasSame checker.old checker.new }
 {
