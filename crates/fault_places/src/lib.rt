@@ -31,6 +31,3 @@ pub use place::{Place, add_line, place_of};
 pub use sets::property_in;
 pub use titles::{declared_name, invariant_name, property_at, property_name, titled};
 pub use tokens::{behind, behind_word, byte_at, first, shown, stands, tokens_of};
-
-#[cfg(test)]
-mod tests;

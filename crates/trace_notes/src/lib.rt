@@ -12,6 +12,3 @@ mod window;
 
 pub use note::trace_note;
 pub use scene::SetFile;
-
-#[cfg(test)]
-mod tests;

@@ -44,6 +44,13 @@ kind_word Wire = codes "wire"
 kind_word Reg = codes "reg"
 kind_word Integer = codes "integer"
 
+-- up to its length, and from its name on
+abbrev pub type_text : Kind → ℕ → List ℕ
+type_text kind width = codes "$var " ++ kind_word kind ++ codes " " ++ decimal width ++ codes " "
+
+abbrev pub name_text : List ℕ → List ℕ
+name_text name = codes " " ++ name ++ codes " $end\n"
+
 unfoldable pub var_text : Kind → ℕ → ℕ → List ℕ → List ℕ
 var_text kind width number name =
     codes "$var " ++ kind_word kind ++ codes " " ++ decimal width ++ codes " " ++ code number ++ codes " " ++ name ++ codes " $end\n"
@@ -53,12 +60,22 @@ abbrev pub scopes : List ℕ → List ℕ → List ℕ
 scopes part [] = []
 scopes part (c ∷ path) = if nat_eq c 46 then scope part ++ scopes [] path else scopes (part ++ c ∷ []) path
 
+-- one byte of it: the scope that it opens, and what is read then
+abbrev pub opened : List ℕ → ℕ → List ℕ
+opened part c = if nat_eq c 46 then scope part else []
+
+abbrev pub next_part : List ℕ → ℕ → List ℕ
+next_part part c = if nat_eq c 46 then [] else part ++ c ∷ []
+
 -- the last part of a path
 abbrev pub last_part : List ℕ → List ℕ → List ℕ
 last_part part [] = part
 last_part part (c ∷ path) = if nat_eq c 46 then last_part [] path else last_part (part ++ c ∷ []) path
 
 -- an end for each dot
+abbrev pub ended : ℕ → List ℕ
+ended c = if nat_eq c 46 then upscope else []
+
 abbrev pub upscopes : List ℕ → List ℕ
 upscopes path = flat_map (λ c. if nat_eq c 46 then upscope else []) path
 

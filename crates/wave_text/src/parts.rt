@@ -1,6 +1,7 @@
 // Identifier codes, values and declarations.
+ghost use Rattle.std.specs.Fmt.{decimal};
 ghost use Rattle.std.specs.Prelude.{◌≡◌, ◌++◌, [], IfOk, OnOk};
-ghost use Rattle.wave_text.specs.Parts.{code, declared, kind_word, last_part, scalar, scope, scopes, time, upscopes, value_text, var_text, vector};
+ghost use Rattle.wave_text.specs.Parts.{code, declared, ended, kind_word, last_part, name_text, next_part, opened, scalar, scope, scopes, time, type_text, upscopes, value_text, var_text, vector};
 
 use crate::wave::{Kind, Variable};
 use std::alloc::{AllocError, Global};
@@ -65,14 +66,22 @@ pub fn add_value(
     add_vector(alloc, out, number, value)
 }
 
+// A number in decimal.
+fn add_decimal(alloc: Global, out: &mut Vec<u8>, number: u64) -> Result<(), AllocError>
+    ensures { OnOk result (out.new.items ≡ out.old.items ++ decimal number) }
+{
+    let digits = format!(in alloc; "{number}")?;
+    out.extend_from_slice(digits.as_bytes())?;
+    Ok(())
+}
+
 /// Adds a time.
 #[tactic(auto, unfolding(crate::specs::Parts::time))]
 pub fn add_time(alloc: Global, out: &mut Vec<u8>, at: u64) -> Result<(), AllocError>
     ensures { OnOk result (out.new.items ≡ out.old.items ++ time at) }
 {
-    let digits = format!(in alloc; "{at}")?;
     out.push(b'#')?;
-    out.extend_from_slice(digits.as_bytes())?;
+    add_decimal(alloc, out, at)?;
     out.push(b'\n')?;
     Ok(())
 }
@@ -98,6 +107,28 @@ fn kind_word(kind: Kind) -> &'static [u8]
     }
 }
 
+// The type of a variable and its length.
+fn add_type(alloc: Global, out: &mut Vec<u8>, variable: &Variable) -> Result<(), AllocError>
+    ensures { OnOk result (out.new.items ≡ out.old.items ++ type_text variable.now.kind variable.now.width) }
+{
+    out.extend_from_slice(b"$var ")?;
+    out.extend_from_slice(kind_word(variable.kind))?;
+    out.push(b' ')?;
+    add_decimal(alloc, out, u64::from(variable.width))?;
+    out.push(b' ')?;
+    Ok(())
+}
+
+// The name of a variable, and the end of its declaration.
+fn add_name(out: &mut Vec<u8>, name: &[u8]) -> Result<(), AllocError>
+    ensures { OnOk result (out.new.items ≡ out.old.items ++ name_text name.now) }
+{
+    out.push(b' ')?;
+    out.extend_from_slice(name)?;
+    out.extend_from_slice(b" $end\n")?;
+    Ok(())
+}
+
 // A variable under a name without dots.
 #[tactic(auto, unfolding(crate::specs::Parts::var_text))]
 fn add_variable(
@@ -109,17 +140,22 @@ fn add_variable(
 ) -> Result<(), AllocError>
     ensures { OnOk result (out.new.items ≡ out.old.items ++ var_text variable.now.kind variable.now.width number name.now) }
 {
-    let width = variable.width;
-    let digits = format!(in alloc; "{width}")?;
-    out.extend_from_slice(b"$var ")?;
-    out.extend_from_slice(kind_word(variable.kind))?;
-    out.push(b' ')?;
-    out.extend_from_slice(digits.as_bytes())?;
-    out.push(b' ')?;
+    add_type(alloc, out, variable)?;
     add_code(out, number)?;
-    out.push(b' ')?;
-    out.extend_from_slice(name)?;
-    out.extend_from_slice(b" $end\n")?;
+    add_name(out, name)
+}
+
+// A byte of a path: a dot opens the scope that is named by the part before it.
+fn add_byte(out: &mut Vec<u8>, part: &mut Vec<u8>, byte: u8) -> Result<(), AllocError>
+    ensures part { OnOk result (part.new.items ≡ next_part part.old.items byte) }
+    ensures out { OnOk result (out.new.items ≡ out.old.items ++ opened part.old.items byte) }
+{
+    if byte != b'.' {
+        part.push(byte)?;
+        return Ok(());
+    }
+    add_scope(out, part)?;
+    part.clear();
     Ok(())
 }
 
@@ -130,14 +166,19 @@ fn add_scopes(alloc: Global, out: &mut Vec<u8>, path: &[u8]) -> Result<Vec<u8>, 
 {
     let mut part = Vec::new(alloc);
     for byte in path {
-        if *byte == b'.' {
-            add_scope(out, &part)?;
-            part.clear();
-        } else {
-            part.push(*byte)?;
-        }
+        add_byte(out, &mut part, *byte)?;
     }
     Ok(part)
+}
+
+// The end that a byte of a path stands for.
+fn add_end(out: &mut Vec<u8>, byte: u8) -> Result<(), AllocError>
+    ensures { OnOk result (out.new.items ≡ out.old.items ++ ended byte) }
+{
+    if byte == b'.' {
+        out.extend_from_slice(b"$upscope $end\n")?;
+    }
+    Ok(())
 }
 
 // Their ends.
@@ -145,9 +186,7 @@ fn add_upscopes(out: &mut Vec<u8>, path: &[u8]) -> Result<(), AllocError>
     ensures { OnOk result (out.new.items ≡ out.old.items ++ upscopes path.now) }
 {
     for byte in path {
-        if *byte == b'.' {
-            out.extend_from_slice(b"$upscope $end\n")?;
-        }
+        add_end(out, *byte)?;
     }
     Ok(())
 }

@@ -1,4 +1,4 @@
-use Rattle.std.proofs.Common.{◌≡◌, ◌+◌, ◌++◌, take}
+use Rattle.std.proofs.Common.{◌≡◌, ◌++◌, take}
 use Rattle.wave_text.specs.Waves.{changes}
 use Rattle.wave_text.proofs.cycles.add_changes.Given as goal
 

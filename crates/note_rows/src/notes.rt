@@ -1,5 +1,4 @@
 // A note for each kind of line: windows of the set below that violate it, and what is said of them.
-use crate::{SetFile, trace_note};
 use check_stages::set_of;
 use fault_places::shown;
 use outside::Text;
@@ -7,6 +6,7 @@ use replay::{Shown, Trace};
 use set_tree::{Line, Rows, Set};
 use std::alloc::{AllocError, Global};
 use std::test::Fail;
+use trace_notes::{SetFile, trace_note};
 
 const SET: &str = "block top; clock clk; reset rst high 1;
 input en; output [1:0] q; output [1:0] y when en;

@@ -1,8 +1,7 @@
 // Places and sentences of refusals: each row changes one of two texts that fit.
-use crate::tokens::shown;
-use crate::{Files, Texts, explained, usage, version};
 use check_faults::CheckFault;
 use check_stages::bound_of;
+use fault_places::{Files, Texts, explained, shown, usage, version};
 use outside::Text;
 use std::alloc::{AllocError, Global};
 use std::process::Abort;
