@@ -1,7 +1,11 @@
 #!/usr/bin/env python3
 """Decides the lines of a check side by side, each by itself as a machine of a farm would, and signs off over the merged stores.
 
+farm.py make FOLDER BITS RESULT
 farm.py M S [--only WORD] [--jobs N] [--workers N] [--budget N] [--folder FOLDER] [--program PROGRAM]
+
+`make` writes ring.v and ring.set into FOLDER: 64 operations that follow each other in a ring, each of which multiplies two words of BITS bits to RESULT bits.
+The set turns the factors round, so that each line `op` is hard and the others aren't.
 
 `lines M S` gives the names, `trace M S NAME --store PART` decides one on any machine, one SQL statement adds a part's proofs to the whole, and the last
 `check M S --store WHOLE` accepts all of them again. Prints the seconds of a check that solves all by itself, of the lines side by side, of the merge and of
@@ -20,6 +24,38 @@ import time
 TOP = os.path.dirname(os.path.dirname(os.path.abspath(__file__)))
 TABLE = "CREATE TABLE proofs (key BLOB PRIMARY KEY NOT NULL, bytes BLOB NOT NULL) STRICT"
 MERGE = "INSERT OR IGNORE INTO proofs SELECT * FROM part.proofs"
+
+
+def ring_texts(bits, result):
+    """The module of the ring and its set."""
+    module = f"""module ring(input clk, input rst, input [{bits - 1}:0] a, input [{bits - 1}:0] b, output reg [{result - 1}:0] y);
+  reg [5:0] phase;
+  always @(posedge clk)
+    if (rst) begin
+      phase <= 6'd0;
+      y <= {result}'d0;
+    end else begin
+      phase <= phase + 6'd1;
+      y <= (a ^ phase) * b;
+    end
+endmodule
+"""
+    properties = f"""block ring; clock clk; reset rst high 1;
+input [{bits - 1}:0] a; input [{bits - 1}:0] b; output [{result - 1}:0] y; state [5:0] phase;
+property reset {{ length 0; commit phase@0 == 6'd0 && y@0 == {result}'d0; cover y from 0 to 1; next op0; }}
+"""
+    for k in range(64):
+        properties += (f"operation op{k} {{ length 1; assume phase@0 == 6'd{k}; commit phase@1 == 6'd{(k + 1) % 64}; "
+                       f"commit y@1 == b@0 * (a@0 ^ 6'd{k}); hand phase@0; cover y from 1 to 2; next op{(k + 1) % 64}; }}\n")
+    return module, properties
+
+
+def make(folder, bits, result):
+    """Writes both texts."""
+    os.makedirs(folder, exist_ok=True)
+    for name, text in zip(("ring.v", "ring.set"), ring_texts(bits, result)):
+        with open(f"{folder}/{name}", "w", encoding="ascii") as it:
+            it.write(text)
 
 
 def run(args, *words):
@@ -89,4 +125,7 @@ def main():
 
 
 if __name__ == "__main__":
-    main()
+    if sys.argv[1:2] == ["make"] and len(sys.argv) == 5:
+        make(sys.argv[2], int(sys.argv[3]), int(sys.argv[4]))
+    else:
+        main()

@@ -3,11 +3,12 @@
 
     lower.py FOLDER [PROGRAM]
 
-Each module of FOLDER with a clocked block is taken as a top, with the files in which the modules below it stand. PROGRAM is a build of
+As many modules at a time as there are processors. Each module of FOLDER with a clocked block is taken as a top, with the files in which the modules below it stand. PROGRAM is a build of
 signoff, by default the one that bin/signoff has: it tells which modules are read as they are, and which once they are lowered. Where there
 is none these two rows are left out: a module then counts where bin/lower writes it and iverilog takes what it wrote.
 """
 import collections
+import concurrent.futures
 import os
 import re
 import signal
@@ -87,6 +88,32 @@ def is_read(program, top, text, room):
     return ended([program, "check", text, f"{room}/all.set"])[0] != REJECTED
 
 
+class Judge:
+    """What becomes of a module: whether it was written, read as it is, read once lowered, and why not."""
+
+    def __init__(self, program, files):
+        self.program, self.files = program, files
+
+    def __call__(self, module):
+        top, name = module
+        counts = collections.Counter()
+        with tempfile.TemporaryDirectory(prefix="lower-bench-") as room:
+            made = f"{room}/made.v"
+            done, said = lowered(top, name, self.files, made)
+            if done:
+                status, last = ended(["iverilog", "-g2005", "-t", "null", made])
+                done, said = status == 0, last if status is None else "iverilog rejects what was written"
+            counts["written"] += done
+            if self.program:
+                counts["as it is"] += is_read(self.program, top, name, room)
+                if done and not is_read(self.program, top, made, room):
+                    done, said = False, "written, but signoff rejects it"
+                counts["lowered"] += done
+        if not done:
+            print(f"{top} in {name}: {said}", file=sys.stderr)
+        return counts, None if done else cause_of(said)
+
+
 def cause_of(said):
     return next((cause for pattern, cause in CAUSES if re.search(pattern, said)), said)
 
@@ -105,21 +132,10 @@ def main(words):
     program = program if os.access(program, os.X_OK) else None
     files, clocked = modules_in(words[0])
     counts, causes = collections.Counter(), collections.Counter()
-    with tempfile.TemporaryDirectory(prefix="lower-bench-") as room:
-        for top, name in clocked:
-            made = f"{room}/made.v"
-            done, said = lowered(top, name, files, made)
-            if done and ended(["iverilog", "-g2005", "-t", "null", made])[0] != 0:
-                done, said = False, "iverilog rejects what was written"
-            counts["written"] += done
-            if program:
-                counts["as it is"] += is_read(program, top, name, room)
-                if done and not is_read(program, top, made, room):
-                    done, said = False, "written, but signoff rejects it"
-                counts["lowered"] += done
-            if not done:
-                causes[cause_of(said)] += 1
-                print(f"{top} in {name}: {said}", file=sys.stderr)
+    with concurrent.futures.ThreadPoolExecutor(len(os.sched_getaffinity(0))) as pool:
+        for counted, cause in pool.map(Judge(program, files), clocked):
+            counts.update(counted)
+            causes.update([cause] if cause else [])
     rows = [("with a clocked block", len(clocked)), ("written by bin/lower", counts["written"])]
     if program:
         rows += [("read by signoff as they are", counts["as it is"]), ("read by signoff once lowered", counts["lowered"])]
