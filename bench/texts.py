@@ -1,12 +1,12 @@
 #!/usr/bin/env python3
 """What the worst texts cost: each production of both languages, nested and repeated, up to the greatest size of a text.
 
-texts.py --program PROGRAM [--most BYTES] [--doublings N] [--seconds S] [--memory MB] [KIND..]
+texts.py --program PROGRAM [--command WORD] [--most BYTES] [--doublings N] [--seconds S] [--memory MB] [KIND..]
 
 For each kind of text it runs `PROGRAM check M S` on texts of doubling sizes, the last of MOST bytes (1,048,576), and writes a row of a table in Markdown:
 the greatest size that ended within the seconds of processor time and the memory, what the program answered there, its seconds and memory, and the
 exponents of both over the last doubling (1 is linear, 2 quadratic). A kind that doesn't end at a size is told with that size. With no KIND all are run;
-`--list` names them. A text whose size the language bounds by itself, as that of a set's 256 names, is as large as it may be.
+`--list` names them. With `--command lines` the texts are read, elaborated and bound, and no line is decided. A text whose size the language bounds by itself, as that of a set's 256 names, is as large as it may be.
 """
 import argparse
 import math
@@ -431,7 +431,7 @@ def row(name, options, folder):
         for file, text in zip(files, texts):
             with open(file, "w", encoding="ascii") as it:
                 it.write(text)
-        seconds, megabytes, said, ended = measured([options.program, "check", *files], options)
+        seconds, megabytes, said, ended = measured([options.program, options.command, *files], options)
         if not ended:
             stopped = f"not at {size:,}: {said}, {seconds:.1f} s, {megabytes:.0f} MB"
             break
@@ -458,6 +458,7 @@ def made(name, size):
 def main():
     words = argparse.ArgumentParser()
     words.add_argument("--program", default="bin/signoff")
+    words.add_argument("--command", choices=("check", "lines"), default="check")
     words.add_argument("--most", type=int, default=1 << 20)
     words.add_argument("--doublings", type=int, default=4)
     words.add_argument("--seconds", type=int, default=60)

@@ -1,69 +1,46 @@
 -- What obligations of lines are to those that replay them.
-use Rattle.std.proofs.Common.{◌≡◌, true, false}
-use Rattle.set_tree.specs.declared.line.Line.{Line}
-use Rattle.set_tree.specs.declared.line.Line.TheVariants.{Base, Step, Reset, Operation, End, Split, SameEnd, Choose, Hand, Determine}
 use Rattle.set_tree.specs.Formulas.{meaning_of}
 use Rattle.word_dag.specs.declared.ob.Named.{Named}
 use Rattle.word_dag.specs.Nodes.{Naming}
 use Rattle.line_laws.specs.Lines.{IsOf as IsOfSet}
 use Rattle.segment_laws.specs.Lines.{IsOf as IsOfDesign}
 use Rattle.binding.specs.Binding.{Pair}
+use Rattle.twin_tests.specs.declared.set_line.SetLine.{SetLine}
+use Rattle.twin_tests.specs.declared.set_line.SetLine.TheVariants as s
+use Rattle.twin_tests.specs.Ordering.{line_of as set_line_of}
+use Rattle.unroll.specs.declared.design_line.DesignLine.{DesignLine}
+use Rattle.unroll.specs.declared.design_line.DesignLine.TheVariants as d
+use Rattle.unroll.specs.Named.{line_of as design_line_of}
 use Rattle.replay.specs.declared.shown.Shown.{Shown}
 use Rattle.replay.specs.Segments.{ShowsSegment}
 use Rattle.replay.specs.Windows.{ShowsNamedWindows, ShowsWindows}
 use Rattle.line_obs.specs.Obligations.{IsExact}
-use Rattle.asked_lines.specs.Traces.{ShowsLine, is_on_design}
+use Rattle.asked_lines.specs.Traces.{ShowsLine}
 
-on_design : (A : Type 0) → false ≡ true → A
-on_design A is = absurd (let no : false ≡ true = is in cc)
+pub of_design : (b : Pair) (line : DesignLine) (named : Named) → IsExact b (design_line_of line) named → IsOfDesign b.design (meaning_of b.set) b.set (design_line_of line) named.ob.nodes named.ob.root
+of_design b (d.Base i) named h = h.of_line
+of_design b (d.Step i) named h = h.of_line
+of_design b d.Reset named h = h.of_line
+of_design b (d.Operation p) named h = h.of_line
 
-on_set : (A : Type 0) → true ≡ false → A
-on_set A is = absurd (let no : true ≡ false = is in cc)
+pub of_set : (b : Pair) (line : SetLine) (named : Named) → IsExact b (set_line_of line) named → IsOfSet (meaning_of b.set) b.set (set_line_of line) named.ob.nodes named.ob.root
+of_set b (s.End p) named h = h.of_line
+of_set b (s.Split p) named h = h.of_line
+of_set b (s.SameEnd p) named h = h.of_line
+of_set b (s.Choose p q) named h = h.of_line
+of_set b (s.Hand p q) named h = h.of_line
+of_set b (s.Determine p) named h = h.of_line
 
-pub of_design : (b : Pair) (line : Line) (named : Named) → is_on_design line ≡ true → IsExact b line named → IsOfDesign b.design (meaning_of b.set) b.set line named.ob.nodes named.ob.root
-of_design b (Base i) named is h = h.of_line
-of_design b (Step i) named is h = h.of_line
-of_design b Reset named is h = h.of_line
-of_design b (Operation p) named is h = h.of_line
-of_design b (End p) named is h = on_design _ is
-of_design b (Split p) named is h = on_design _ is
-of_design b (SameEnd p) named is h = on_design _ is
-of_design b (Choose p q) named is h = on_design _ is
-of_design b (Hand p q) named is h = on_design _ is
-of_design b (Determine p) named is h = on_design _ is
+pub shows_design : (b : Pair) (line : DesignLine) (e : Naming) (shown : Shown) → ShowsSegment b.design (meaning_of b.set) b.set (design_line_of line) e shown → ShowsLine b (design_line_of line) e shown
+shows_design b (d.Base i) e shown h = h
+shows_design b (d.Step i) e shown h = h
+shows_design b d.Reset e shown h = h
+shows_design b (d.Operation p) e shown h = h
 
-pub of_set : (b : Pair) (line : Line) (named : Named) → is_on_design line ≡ false → IsExact b line named → IsOfSet (meaning_of b.set) b.set line named.ob.nodes named.ob.root
-of_set b (Base i) named is h = on_set _ is
-of_set b (Step i) named is h = on_set _ is
-of_set b Reset named is h = on_set _ is
-of_set b (Operation p) named is h = on_set _ is
-of_set b (End p) named is h = h.of_line
-of_set b (Split p) named is h = h.of_line
-of_set b (SameEnd p) named is h = h.of_line
-of_set b (Choose p q) named is h = h.of_line
-of_set b (Hand p q) named is h = h.of_line
-of_set b (Determine p) named is h = h.of_line
-
-pub shows_design : (b : Pair) (line : Line) (e : Naming) (shown : Shown) → is_on_design line ≡ true → ShowsSegment b.design (meaning_of b.set) b.set line e shown → ShowsLine b line e shown
-shows_design b (Base i) e shown is h = h
-shows_design b (Step i) e shown is h = h
-shows_design b Reset e shown is h = h
-shows_design b (Operation p) e shown is h = h
-shows_design b (End p) e shown is h = on_design _ is
-shows_design b (Split p) e shown is h = on_design _ is
-shows_design b (SameEnd p) e shown is h = on_design _ is
-shows_design b (Choose p q) e shown is h = on_design _ is
-shows_design b (Hand p q) e shown is h = on_design _ is
-shows_design b (Determine p) e shown is h = on_design _ is
-
-pub shows_set : (b : Pair) (line : Line) (e : Naming) (shown : Shown) → is_on_design line ≡ false → ShowsWindows b.set line shown → ShowsNamedWindows b.set line e shown → ShowsLine b line e shown
-shows_set b (Base i) e shown is h k = on_set _ is
-shows_set b (Step i) e shown is h k = on_set _ is
-shows_set b Reset e shown is h k = on_set _ is
-shows_set b (Operation p) e shown is h k = on_set _ is
-shows_set b (End p) e shown is h k = (h, k)
-shows_set b (Split p) e shown is h k = (h, k)
-shows_set b (SameEnd p) e shown is h k = (h, k)
-shows_set b (Choose p q) e shown is h k = (h, k)
-shows_set b (Hand p q) e shown is h k = (h, k)
-shows_set b (Determine p) e shown is h k = (h, k)
+pub shows_set : (b : Pair) (line : SetLine) (e : Naming) (shown : Shown) → ShowsWindows b.set (set_line_of line) shown → ShowsNamedWindows b.set (set_line_of line) e shown → ShowsLine b (set_line_of line) e shown
+shows_set b (s.End p) e shown h k = (h, k)
+shows_set b (s.Split p) e shown h k = (h, k)
+shows_set b (s.SameEnd p) e shown h k = (h, k)
+shows_set b (s.Choose p q) e shown h k = (h, k)
+shows_set b (s.Hand p q) e shown h k = (h, k)
+shows_set b (s.Determine p) e shown h k = (h, k)

@@ -1,7 +1,9 @@
 // The goals that are asked for.
-ghost use Rattle.std.specs.Prelude.{◌≡◌, ◌∷◌, [], IfErr, IfOk};
+ghost use Rattle.std.specs.Prelude.{◌≡◌, ◌∷◌, [], map, IfErr, IfOk};
 ghost use Rattle.std.specs.List.{AllZip, position};
-ghost use Rattle.set_tree.specs.Report.{design_lines};
+ghost use Rattle.set_tree.specs.Report.{design_lines, set_lines};
+ghost use Rattle.twin_tests.specs.Ordering.{line_of as set_line_of};
+ghost use Rattle.unroll.specs.Named.{line_of as design_line_of};
 ghost use Rattle.line_obs.specs.Obligations.{IsObOf, all_lines};
 ghost use Rattle.asked_lines.specs.Asked.{AreGoalsOf, Asks, AsksOne, IsGoalNamed, LacksLine, LacksName, has_name};
 
@@ -14,17 +16,54 @@ use proof_store::Goal;
 use reports::Which;
 use set_tree::{Line, Set};
 use std::alloc::{AllocError, Global};
-use twin_tests::lines_of as set_lines;
-use unroll::lines_of as design_lines;
+use twin_tests::{SetLine, lines_of as lines_of_set};
+use unroll::{DesignLine, lines_of as lines_of_design};
 use word_dag::Named;
+
+// Lines on the design as lines of a report.
+fn told_of_design(alloc: Global, lines: &[DesignLine]) -> Result<Vec<Line>, AllocError>
+    ensures { IfOk result (λ all. all.items ≡ map design_line_of lines.now) }
+{
+    let mut all = Vec::with_capacity(alloc, lines.len())?;
+    for line in lines {
+        all.push(line.line())?;
+    }
+    Ok(all)
+}
+
+// Lines on the set as lines of a report.
+fn told_of_set(alloc: Global, lines: &[SetLine]) -> Result<Vec<Line>, AllocError>
+    ensures { IfOk result (λ all. all.items ≡ map set_line_of lines.now) }
+{
+    let mut all = Vec::with_capacity(alloc, lines.len())?;
+    for line in lines {
+        all.push(line.line())?;
+    }
+    Ok(all)
+}
+
+// The lines on the design, in the order of a report.
+fn design_lines(alloc: Global, bound: &Bound) -> Result<Vec<Line>, AllocError>
+    ensures { IfOk result (λ lines. lines.items ≡ design_lines bound.now.set) }
+{
+    let lines = lines_of_design(alloc, bound.set().set())?;
+    told_of_design(alloc, lines.as_slice())
+}
+
+// The lines on the set, in the order of a report.
+fn set_lines(alloc: Global, bound: &Bound) -> Result<Vec<Line>, AllocError>
+    ensures { IfOk result (λ lines. lines.items ≡ set_lines bound.now.set) }
+{
+    let lines = lines_of_set(alloc, bound.set().set())?;
+    told_of_set(alloc, lines.as_slice())
+}
 
 /// All lines, in the order of a report. Refused for want of memory alone.
 pub fn all_lines(alloc: Global, bound: &Bound) -> Result<Vec<Line>, AllocError>
     ensures { IfOk result (λ lines. lines.items ≡ all_lines bound.now.set) }
 {
-    let set = bound.set().set();
-    let mut lines = design_lines(alloc, set)?;
-    let mut more = set_lines(alloc, set)?;
+    let mut lines = design_lines(alloc, bound)?;
+    let mut more = set_lines(alloc, bound)?;
     lines.append(&mut more)?;
     Ok(lines)
 }
@@ -52,7 +91,7 @@ fn joined(
 fn design_goals(alloc: Global, bound: &Bound) -> Result<Vec<Goal<Line>>, AllocError>
     ensures { IfOk result (λ goals. AreGoalsOf bound.now (design_lines bound.now.set) goals.items) }
 {
-    let lines = design_lines(alloc, bound.set().set())?;
+    let lines = design_lines(alloc, bound)?;
     let obs = obs_of_design(alloc, bound)?;
     joined(alloc, bound, lines.as_slice(), obs)
 }

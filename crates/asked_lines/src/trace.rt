@@ -4,29 +4,15 @@ ghost use Rattle.word_dag.specs.declared.ob.Named.{Named};
 ghost use Rattle.word_names.specs.Names.{naming_from};
 ghost use Rattle.job_pool.specs.Shown.{AreWitness, IsShown};
 ghost use Rattle.line_obs.specs.Obligations.{IsObOf};
-ghost use Rattle.asked_lines.specs.Traces.{IsTraceOf, ShowsLine, is_on_design};
+ghost use Rattle.asked_lines.specs.Traces.{IsTraceOf, ShowsLine};
 
 use binding::Bound;
 use job_pool::Evidence;
+use line_obs::{Kind, kind_of};
 use replay::{Shown, replay, twin_trace};
 use set_tree::Line;
 use std::alloc::{AllocError, Global};
 use word_dag::Ob;
-
-// Whether a line speaks of the design.
-fn is_on_design(line: Line) -> bool
-    ensures { result ≡ is_on_design line }
-{
-    match line {
-        Line::Base(_) | Line::Step(_) | Line::Reset | Line::Operation(_) => true,
-        Line::End(_)
-        | Line::Split(_)
-        | Line::SameEnd(_)
-        | Line::Choose(..)
-        | Line::Hand(..)
-        | Line::Determine(_) => false,
-    }
-}
 
 // What is shown of a line that values refute.
 fn shown_of(
@@ -40,10 +26,9 @@ fn shown_of(
     requires witness { AreWitness ob.now values.now }
     ensures { IfOk result (ShowsLine bound.now line (naming_from ob.now.nodes values.now)) }
 {
-    if is_on_design(line) {
-        replay(alloc, bound, line, ob, values)
-    } else {
-        twin_trace(alloc, bound.set(), line, ob, values)
+    match kind_of(line) {
+        Kind::Design(line) => replay(alloc, bound, line, ob, values),
+        Kind::Set(line) => twin_trace(alloc, bound.set(), line, ob, values),
     }
 }
 

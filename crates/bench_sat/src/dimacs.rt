@@ -1,16 +1,16 @@
-use clause_check::{Clause, Cnf, Lit};
+use clause_check::{Clause, Clauses, Cnf, Lit};
 use std::alloc::{AllocError, Global};
 
 /// What was read so far.
 #[derive(Drop)]
 struct Reading {
-    vars: u64,
-    clauses: Vec<Clause>,
+    vars: u32,
+    clauses: Clauses,
     lits: Vec<Lit>,
 }
 
 /// The literal of this number, which isn't 0.
-fn literal(number: i64) -> Lit {
+fn literal(number: i32) -> Lit {
     Lit {
         var: number.unsigned_abs().saturating_sub(1),
         negative: number < 0,
@@ -27,14 +27,14 @@ impl Reading {
             let Some(word) = line.split_ascii_whitespace().nth(2) else {
                 return Ok(false);
             };
-            let Ok(vars) = word.parse::<u64>() else {
+            let Ok(vars) = word.parse::<u32>() else {
                 return Ok(false);
             };
             self.vars = vars;
             return Ok(true);
         }
         for word in line.split_ascii_whitespace() {
-            let Ok(number) = word.parse::<i64>() else {
+            let Ok(number) = word.parse::<i32>() else {
                 return Ok(false);
             };
             if number == 0 {
@@ -42,7 +42,7 @@ impl Reading {
                 let Some(clause) = Clause::of(alloc, lits)? else {
                     return Ok(false);
                 };
-                self.clauses.push(clause)?;
+                self.clauses.push(clause.lits())?;
             } else {
                 self.lits.push(literal(number))?;
             }
@@ -55,7 +55,7 @@ impl Reading {
 pub fn read_formula(alloc: Global, text: &str) -> Result<Option<Cnf>, AllocError> {
     let mut reading = Reading {
         vars: 0,
-        clauses: Vec::new(alloc),
+        clauses: Clauses::new(alloc)?,
         lits: Vec::new(alloc),
     };
     for line in text.lines() {

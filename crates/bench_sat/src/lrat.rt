@@ -8,7 +8,7 @@ pub fn write_steps<R: Print + AllocGlobal>(rt: &R, cnf: &Cnf, steps: &[Step]) ->
         let number = inputs.saturating_add(i as u64).saturating_add(1);
         print!(rt; "{number} ")?;
         for lit in step.clause.lits() {
-            let var = lit.var.saturating_add(1);
+            let var = u64::from(lit.var).saturating_add(1);
             if lit.negative {
                 print!(rt; "-{var} ")?;
             } else {
@@ -17,7 +17,7 @@ pub fn write_steps<R: Print + AllocGlobal>(rt: &R, cnf: &Cnf, steps: &[Step]) ->
         }
         print!(rt; "0 ")?;
         for hint in &step.hints {
-            let hint = hint.saturating_add(1);
+            let hint = u64::from(*hint).saturating_add(1);
             print!(rt; "{hint} ")?;
         }
         println!(rt; "0")?;

@@ -3,7 +3,7 @@ ghost use Rattle.std.specs.Prelude.{◌≡◌, [], ◌∷◌, ◌++◌, length, 
 ghost use Rattle.bit_circuits.specs.Literals.{plus};
 
 use crate::tidy::positive;
-use clause_check::Lit;
+use clause_check::{Lit, in_32_bits};
 use std::alloc::AllocError;
 
 /// What defines a variable: nothing, or its value as a function of earlier literals. `Mux(c, a, b)` is `a` where `c` is true, else
@@ -22,7 +22,7 @@ pub fn add_gate(gates: &mut Vec<Gate>, gate: Gate) -> Result<Lit, AllocError>
     ensures gate { OnOk result (gates.new.items ≡ gates.old.items ++ gate ∷ []) }
     ensures lit { IfOk result (λ l. l ≡ plus (length gates.old.items)) }
 {
-    let var = gates.len() as u64;
+    let var = in_32_bits(gates.len())?;
     gates.push(gate)?;
     Ok(positive(var))
 }

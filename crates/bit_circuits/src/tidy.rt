@@ -6,7 +6,7 @@ use clause_check::{Clause, Lit};
 use std::alloc::{AllocError, Global};
 
 /// The literal that is true where the variable is.
-pub fn positive(var: u64) -> Lit
+pub fn positive(var: u32) -> Lit
     ensures { result ≡ plus var }
 {
     Lit {
@@ -16,7 +16,7 @@ pub fn positive(var: u64) -> Lit
 }
 
 /// The literal that is true where the variable is false.
-pub fn negative(var: u64) -> Lit
+pub fn negative(var: u32) -> Lit
     ensures { result ≡ minus var }
 {
     Lit {

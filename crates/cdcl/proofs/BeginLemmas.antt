@@ -64,8 +64,8 @@ watches_more cnf s w ws clause p is first second kept hw hl at hlits hbounds =
     }
 
 -- each input clause is watched
-pub solver_from : (cnf : Cnf) (s : Solver) → Begins cnf (length cnf.clauses.items) s → IsSolver cnf s
-solver_from cnf s b = record { part = b.part; whole = omega (arith, length-clauses_of cnf.clauses.items s.search.steps.items, b.watched, b.steps) }
+pub solver_from : (cnf : Cnf) (s : Solver) → Begins cnf (length cnf.clauses) s → IsSolver cnf s
+solver_from cnf s b = record { part = b.part; whole = omega (arith, length-clauses_of cnf.clauses s.search.steps.items, b.watched, b.steps) }
 
 cases_sign : (entries : List Entry) (v : ℕ) (n b : Bool) → Contains (lits_of entries) (record { var = v; negative = not b }) → Cases entries (record { var = v; negative = n })
 cases_sign entries v true true h = inr (inl h)
@@ -97,7 +97,7 @@ part_decide cnf s f is over h =
     let p = is.part.propagated in let r = p.reached in
     let entries = s.search.trail.entries in let starts = s.search.starts.items in
     let e : Entry = record { lit = h.lit; reason = None } in
-    let same : clauses_of cnf.clauses.items f.steps.items ≡ clauses_in cnf s = ap (λ (x : Vec Step Global). clauses_of cnf.clauses.items x.items) h.steps in
+    let same : clauses_of cnf.clauses f.steps.items ≡ clauses_in cnf s = ap (λ (x : Vec Step Global). clauses_of cnf.clauses x.items) h.steps in
     record {
       part = record {
         search = h.stands;
@@ -105,7 +105,7 @@ part_decide cnf s f is over h =
         copied = subst (λ c. IsCopied cnf.vars c (length s.watches.watched.items) s.watches.copies.lits.items s.watches.copies.bounds.items) (sym same) is.part.copied;
         propagated = record {
           kept = λ k d lt.
-              along (λ c x y. IsKept (clause_at c k) x y s.next (get_or s.watches.watched.items k d)) (clauses_in cnf s) (clauses_of cnf.clauses.items f.steps.items) (entries ++ e ∷ []) f.trail.entries (starts ++ length entries ∷ []) f.starts.items same h.entries h.starts
+              along (λ c x y. IsKept (clause_at c k) x y s.next (get_or s.watches.watched.items k d)) (clauses_in cnf s) (clauses_of cnf.clauses f.steps.items) (entries ++ e ∷ []) f.trail.entries (starts ++ length entries ∷ []) f.starts.items same h.entries h.starts
               (kept_decided (clause_at (clauses_in cnf s) k) entries e starts s.next r (get_or s.watches.watched.items k d) (p.kept k d lt));
           reached = omega (arith, ap length h.entries, length_push entries e);
           level = subst (λ xs. (j : ℕ) → j < length xs → get_or xs j 0 ≤ s.next) (sym h.starts)
@@ -156,8 +156,8 @@ module _ (cnf : Cnf) (s : Solver) (is : IsSolver cnf s) (l : Learnt) (last : Las
   late_enough : l.bound ≤ t
   late_enough = j.splits.above j.keep (omega arith) j.few
 
-  same_clauses : clauses_of cnf.clauses.items f.steps.items ≡ clauses ++ l.step.clause ∷ []
-  same_clauses = ap (clauses_of cnf.clauses.items) j.steps ∙ clauses_push cnf.clauses.items s.search.steps.items l.step
+  same_clauses : clauses_of cnf.clauses f.steps.items ≡ clauses ++ l.step.clause ∷ []
+  same_clauses = ap (clauses_of cnf.clauses) j.steps ∙ clauses_push cnf.clauses s.search.steps.items l.step
 
   abbrev jumped : Solver
   jumped = record { search = f; watches = s.watches; next = length f.trail.entries - 1 }
@@ -318,20 +318,20 @@ module _ (cnf : Cnf) (s : Solver) (is : IsSolver cnf s) (l : Learnt) (last : Las
       record {
         is = record {
           part = h.part;
-          whole = h.count ∙ (ap (λ n'. n' + 1) is.whole ∙ (sym (length_push clauses l.step.clause) ∙ (ap length (sym same_clauses) ∙ ap (λ (x : Search). length (clauses_of cnf.clauses.items x.steps.items)) (sym h.search))));
+          whole = h.count ∙ (ap (λ n'. n' + 1) is.whole ∙ (sym (length_push clauses l.step.clause) ∙ (ap length (sym same_clauses) ∙ ap (λ (x : Search). length (clauses_of cnf.clauses x.steps.items)) (sym h.search))));
         };
         steps = more;
       }
 
 -- the clause that is watched next
-clause_here : (cnf : Cnf) (number : ℕ) (s : Solver) → Begins cnf number s → number < length cnf.clauses.items → clause_at (clauses_in cnf s) number ≡ clause_at cnf.clauses.items number
-clause_here cnf number s b lt = clause_of_input cnf.clauses.items s.search.steps.items number lt
+clause_here : (cnf : Cnf) (number : ℕ) (s : Solver) → Begins cnf number s → number < length cnf.clauses → clause_at (clauses_in cnf s) number ≡ clause_at cnf.clauses number
+clause_here cnf number s b lt = clause_of_input cnf.clauses s.search.steps.items number lt
 
-known_here : (cnf : Cnf) (number : ℕ) (s : Solver) → number < length cnf.clauses.items → number < length (clauses_in cnf s)
-known_here cnf number s lt = omega (arith, length-clauses_of cnf.clauses.items s.search.steps.items)
+known_here : (cnf : Cnf) (number : ℕ) (s : Solver) → number < length cnf.clauses → number < length (clauses_in cnf s)
+known_here cnf number s lt = omega (arith, length-clauses_of cnf.clauses s.search.steps.items)
 
-module _ (cnf : Cnf) (number : ℕ) (s : Solver) (b : Begins cnf number s) (lt : number < length cnf.clauses.items) where
-  module _ (lit : Lit) (among : Contains (clause_at cnf.clauses.items number) lit) (alone' : (m : Lit) → Contains (clause_at cnf.clauses.items number) m → m ≡ lit) where
+module _ (cnf : Cnf) (number : ℕ) (s : Solver) (b : Begins cnf number s) (lt : number < length cnf.clauses) where
+  module _ (lit : Lit) (among : Contains (clause_at cnf.clauses number) lit) (alone' : (m : Lit) → Contains (clause_at cnf.clauses number) m → m ≡ lit) where
     one : (m : Lit) → Contains (clause_at (clauses_in cnf s) number) m → m ≡ lit
     one m h = alone' m (subst (λ c. Contains c m) (clause_here cnf number s b lt) h)
 
@@ -356,7 +356,7 @@ module _ (cnf : Cnf) (number : ℕ) (s : Solver) (b : Begins cnf number s) (lt :
         subst (λ n. IsKept (clause_at (clauses_in cnf s) n) s.search.trail.entries s.search.starts.items s.next (record { first = lit; second = lit })) (sym b.watched)
         (let q = true_at s.search.trail.entries lit true' in inr (lit, subst (λ c. Contains c lit) (sym (clause_here cnf number s b lt)) among, (q.0, q.1, λ i inside. absurd (omega (arith, b.starts)))))
 
-  pub lost_empty : length (clause_at cnf.clauses.items number) ≡ 0 → IsLost cnf s.search number
+  pub lost_empty : length (clause_at cnf.clauses number) ≡ 0 → IsLost cnf s.search number
   lost_empty none =
       record {
         stands = b.part.search;
@@ -385,7 +385,7 @@ module _ (cnf : Cnf) (number : ℕ) (s : Solver) (b : Begins cnf number s) (lt :
       }
 
   -- a clause of two literals or more
-  module _ (first second : Lit) (f : Contains (clause_at cnf.clauses.items number) first) (g : Contains (clause_at cnf.clauses.items number) second) (apart : first.var ≢ second.var) where
+  module _ (first second : Lit) (f : Contains (clause_at cnf.clauses number) first) (g : Contains (clause_at cnf.clauses number) second) (apart : first.var ≢ second.var) where
     pub pair_watch_of : IsWatchOf (clause_at (clauses_in cnf s) (length s.watches.watched.items)) (record { first = first; second = second })
     pair_watch_of =
         subst (λ n. IsWatchOf (clause_at (clauses_in cnf s) n) (record { first = first; second = second })) (sym b.watched)
@@ -423,8 +423,8 @@ begins_new cnf s ws stands steps starts watched room empty lits bounds =
           level = λ i lt. absurd (omega (arith, starts));
         };
         copied =
-            subst (λ n. IsCopied cnf.vars (clauses_of cnf.clauses.items s.steps.items) n ws.copies.lits.items ws.copies.bounds.items) (sym none)
-            (copied_none cnf.vars (clauses_of cnf.clauses.items s.steps.items) ws.copies.lits.items ws.copies.bounds.items lits bounds);
+            subst (λ n. IsCopied cnf.vars (clauses_of cnf.clauses s.steps.items) n ws.copies.lits.items ws.copies.bounds.items) (sym none)
+            (copied_none cnf.vars (clauses_of cnf.clauses s.steps.items) ws.copies.lits.items ws.copies.bounds.items lits bounds);
       };
       watched = none;
       starts = starts;

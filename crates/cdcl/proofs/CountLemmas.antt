@@ -144,7 +144,7 @@ module _ (cnf : Cnf) (steps : List Step) (honest : IsHonest cnf steps) where
   clause k z = (get_or steps k z).clause
 
   abbrev before : ℕ → List (List Lit)
-  before k = clauses_of cnf.clauses.items (take k steps)
+  before k = clauses_of cnf.clauses (take k steps)
 
   in_range : (k : ℕ) (z : Step) → k < length steps → (m : Lit) → Contains (clause k z) m → m.var < n
   in_range k z lt m h = All-contains (λ (l : Lit). l.var < n) (clause k z) m (honest k z lt).implied.in_range h
@@ -158,7 +158,7 @@ module _ (cnf : Cnf) (steps : List Step) (honest : IsHonest cnf steps) where
   steps_apart i j z lt inside e =
       let early : i < length steps = omega arith in
       let there : Contains (take j steps) (get_or steps i z) = subst (Contains (take j steps)) (get_or-take j steps i z lt) (Contains-get_or (take j steps) i z (omega (arith, length-take j steps))) in
-      let among : Contains (before j) (clause i z) = Contains-append_right cnf.clauses.items (map (λ (s : Step). s.clause) (take j steps)) (clause i z) (contains_map (λ (s : Step). s.clause) (take j steps) (get_or steps i z) there) in
+      let among : Contains (before j) (clause i z) = Contains-append_right cnf.clauses (map (λ (s : Step). s.clause) (take j steps)) (clause i z) (contains_map (λ (s : Step). s.clause) (take j steps) (get_or steps i z) there) in
       no_superset (before j) (clause i z) (clause j z) among
       (part (clause i z) j z e (in_range i z early) (not_both (before i) (clause i z) (honest i z early).new))
       (honest j z inside).new

@@ -42,7 +42,7 @@ abbrev plain : Option Bool → Bool
 plain v = unwrap_or v false
 
 -- the values of a complete trail hold
-module _ (cnf : Cnf) (steps : List Step) (vars : ℕ) (entries : List Entry) (values : List (Option Bool)) (shows : Shows values (lits_of entries)) (len : length values ≡ vars) (same_vars : vars ≡ cnf.vars) (complete : All (IsMet (lits_of entries)) (clauses_of cnf.clauses.items steps)) (whole : (v : ℕ) → v < vars → IsAssigned entries v) where
+module _ (cnf : Cnf) (steps : List Step) (vars : ℕ) (entries : List Entry) (values : List (Option Bool)) (shows : Shows values (lits_of entries)) (len : length values ≡ vars) (same_vars : vars ≡ cnf.vars) (complete : All (IsMet (lits_of entries)) (clauses_of cnf.clauses steps)) (whole : (v : ℕ) → v < vars → IsAssigned entries v) where
   abbrev a : List Bool
   a = map plain values
 
@@ -67,7 +67,7 @@ module _ (cnf : Cnf) (steps : List Step) (vars : ℕ) (entries : List Entry) (va
       record {
         whole = length-map values plain ∙ (len ∙ same_vars);
         each = λ k d lt.
-            let inputs = cnf.clauses.items in
+            let inputs = cnf.clauses in
             let at : get_or (clauses_of inputs steps) k d ≡ get_or inputs k d = get_or_append_left inputs (map (λ (s : Step). s.clause) steps) d k lt in
             satisfied (get_or inputs k d) (cnf.in_range k d lt) (subst (IsMet (lits_of entries)) at (complete k d (omega (arith, length-append inputs (map (λ (s : Step). s.clause) steps)))));
       }

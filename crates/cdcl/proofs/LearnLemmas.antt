@@ -126,12 +126,12 @@ pending_from_closed clauses vars entries t start number closed c seen marked =
           some_count (drop start seen) (p.0 - start) (in_level start seen p.0 late (marked l p.0 h.first at))
     ]
 
-module _ (cnf : Cnf) (steps : List Step) (vars : ℕ) (entries : List Entry) (t : IsTrail vars entries) (same_vars : vars ≡ cnf.vars) (start : ℕ) (closed : All (IsMet (lits_of (take start entries))) (clauses_of cnf.clauses.items steps)) (c : Conflict) (cut : ℕ) (is : IsReduced (clauses_of cnf.clauses.items steps) entries start cut 0 c) (z : Entry) (step : Step) (bound : ℕ) (learnt : IsLearnt entries start cut c.seen.items step.clause bound) (hints : step.hints.items ≡ reverse c.hints.items) where
+module _ (cnf : Cnf) (steps : List Step) (vars : ℕ) (entries : List Entry) (t : IsTrail vars entries) (same_vars : vars ≡ cnf.vars) (start : ℕ) (closed : All (IsMet (lits_of (take start entries))) (clauses_of cnf.clauses steps)) (c : Conflict) (cut : ℕ) (is : IsReduced (clauses_of cnf.clauses steps) entries start cut 0 c) (z : Entry) (step : Step) (bound : ℕ) (learnt : IsLearnt entries start cut c.seen.items step.clause bound) (hints : step.hints.items ≡ reverse c.hints.items) where
   abbrev lit : Lit
   lit = negated (get_or entries cut z).lit
 
   abbrev clauses : List (List Lit)
-  clauses = clauses_of cnf.clauses.items steps
+  clauses = clauses_of cnf.clauses steps
 
   only_within : (m : Lit) (h : Contains step.clause m) → (learnt.only m h).0 < cut + 1
   only_within m h = elim (learnt.only m h).1 [ inl e ↦ omega (arith, e) | inr f ↦ omega (arith, f.0, is.level) ]

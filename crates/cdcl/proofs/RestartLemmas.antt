@@ -34,7 +34,7 @@ module _ (cnf : Cnf) (s : Solver) (is : IsSolver cnf s) (some : 0 < length s.sea
   restarted = record { search = f; watches = s.watches; next = length f.trail.entries }
 
   same : clauses_in cnf restarted ≡ clauses
-  same = ap (λ (x : Vec Step Global). clauses_of cnf.clauses.items x.items) j.steps
+  same = ap (λ (x : Vec Step Global). clauses_of cnf.clauses x.items) j.steps
 
   next_is : length f.trail.entries ≡ t
   next_is = let w = is.part.search.within 0 some in omega (arith, ap length j.entries, length-take t entries)

@@ -66,13 +66,13 @@ honest_push cnf steps s h one i d lt = elim (cases_eq i (length steps)) [
 ]
 
 -- one more literal is true
-pub search_push : (cnf : Cnf) (vars : ℕ) (entries : List Entry) (starts starts' : List ℕ) (steps : List Step) (e : Entry) → IsSearch cnf vars entries starts steps → Forced (clauses_of cnf.clauses.items steps) entries e → (e.reason ≡ None → Contains starts' (length entries)) → ((x : ℕ) → Contains starts x → Contains starts' x) → IsRising starts' → ((i : ℕ) → i < length starts' → (get_or starts' i 0 ≤ length entries) × All (IsMet (lits_of (take (get_or starts' i 0) entries))) (clauses_of cnf.clauses.items steps)) → IsTrail vars (entries ++ e ∷ []) → IsSearch cnf vars (entries ++ e ∷ []) starts' steps
+pub search_push : (cnf : Cnf) (vars : ℕ) (entries : List Entry) (starts starts' : List ℕ) (steps : List Step) (e : Entry) → IsSearch cnf vars entries starts steps → Forced (clauses_of cnf.clauses steps) entries e → (e.reason ≡ None → Contains starts' (length entries)) → ((x : ℕ) → Contains starts x → Contains starts' x) → IsRising starts' → ((i : ℕ) → i < length starts' → (get_or starts' i 0 ≤ length entries) × All (IsMet (lits_of (take (get_or starts' i 0) entries))) (clauses_of cnf.clauses steps)) → IsTrail vars (entries ++ e ∷ []) → IsSearch cnf vars (entries ++ e ∷ []) starts' steps
 search_push cnf vars entries starts starts' steps e s forced chosen more rising levels trail =
     record {
       vars_are = s.vars_are;
       trail = trail;
       honest = s.honest;
-      reasons = reasons_push (clauses_of cnf.clauses.items steps) entries e s.reasons forced;
+      reasons = reasons_push (clauses_of cnf.clauses steps) entries e s.reasons forced;
       chosen = λ p d lt none. elim (cases_eq p (length entries)) [
         | inl i ↦ subst (Contains starts') (sym i) (chosen (ap (λ (x : Entry). x.reason) (sym (get_or_push entries e d p (sym i))) ∙ none))
         | inr ne ↦
@@ -82,16 +82,16 @@ search_push cnf vars entries starts starts' steps e s forced chosen more rising 
       rising = rising;
       within = λ i lt. let le = (levels i lt).0 in omega (arith, length_push entries e);
       closed = λ i lt.
-          subst (λ (b : List Entry). All (IsMet (lits_of b)) (clauses_of cnf.clauses.items steps)) (sym (take-append-le (get_or starts' i 0) entries (e ∷ []) (levels i lt).0)) (levels i lt).1;
+          subst (λ (b : List Entry). All (IsMet (lits_of b)) (clauses_of cnf.clauses steps)) (sym (take-append-le (get_or starts' i 0) entries (e ∷ []) (levels i lt).0)) (levels i lt).1;
     }
 
 -- a clause forced it
-pub search_assigned : (cnf : Cnf) (vars : ℕ) (entries : List Entry) (starts : List ℕ) (steps : List Step) (l : Lit) (r : ℕ) → IsSearch cnf vars entries starts steps → IsForcedBy (clauses_of cnf.clauses.items steps) entries l r → IsTrail vars (entries ++ record { lit = l; reason = Some r } ∷ []) → IsSearch cnf vars (entries ++ record { lit = l; reason = Some r } ∷ []) starts steps
+pub search_assigned : (cnf : Cnf) (vars : ℕ) (entries : List Entry) (starts : List ℕ) (steps : List Step) (l : Lit) (r : ℕ) → IsSearch cnf vars entries starts steps → IsForcedBy (clauses_of cnf.clauses steps) entries l r → IsTrail vars (entries ++ record { lit = l; reason = Some r } ∷ []) → IsSearch cnf vars (entries ++ record { lit = l; reason = Some r } ∷ []) starts steps
 search_assigned cnf vars entries starts steps l r s forced trail =
     search_push cnf vars entries starts starts steps (record { lit = l; reason = Some r }) s forced (λ h. cc) (λ x h. h) s.rising (λ i lt. let w = s.within i lt in (omega arith, s.closed i lt)) trail
 
 -- it was chosen, where propagation was complete
-pub search_decided : (cnf : Cnf) (vars : ℕ) (entries : List Entry) (starts : List ℕ) (steps : List Step) (l : Lit) → IsSearch cnf vars entries starts steps → All (IsMet (lits_of entries)) (clauses_of cnf.clauses.items steps) → IsTrail vars (entries ++ record { lit = l; reason = None } ∷ []) → IsSearch cnf vars (entries ++ record { lit = l; reason = None } ∷ []) (starts ++ length entries ∷ []) steps
+pub search_decided : (cnf : Cnf) (vars : ℕ) (entries : List Entry) (starts : List ℕ) (steps : List Step) (l : Lit) → IsSearch cnf vars entries starts steps → All (IsMet (lits_of entries)) (clauses_of cnf.clauses steps) → IsTrail vars (entries ++ record { lit = l; reason = None } ∷ []) → IsSearch cnf vars (entries ++ record { lit = l; reason = None } ∷ []) (starts ++ length entries ∷ []) steps
 search_decided cnf vars entries starts steps l s complete trail =
     let n = length entries in
     search_push cnf vars entries starts (starts ++ n ∷ []) steps (record { lit = l; reason = None }) s tt (λ h. Contains-push starts n) (λ x h. Contains-append_left starts (n ∷ []) x h)
@@ -107,12 +107,12 @@ search_decided cnf vars entries starts steps l s complete trail =
     (λ i lt. elim (cases_eq i (length starts)) [
       | inl e ↦
           let at : get_or (starts ++ n ∷ []) i 0 ≡ n = get_or_push starts n 0 i (sym e) in
-          (omega (arith, at), subst (λ (b : List Entry). All (IsMet (lits_of b)) (clauses_of cnf.clauses.items steps)) (sym (ap (λ k. take k entries) at ∙ take_all n entries (omega arith))) complete)
+          (omega (arith, at), subst (λ (b : List Entry). All (IsMet (lits_of b)) (clauses_of cnf.clauses steps)) (sym (ap (λ k. take k entries) at ∙ take_all n entries (omega arith))) complete)
       | inr ne ↦
           let below : i < length starts = omega (arith, length_push starts n) in
           let at : get_or (starts ++ n ∷ []) i 0 ≡ get_or starts i 0 = get_or_append_left starts (n ∷ []) 0 i below in
           let w = s.within i below in
-          (omega (arith, at), subst (λ k. All (IsMet (lits_of (take k entries))) (clauses_of cnf.clauses.items steps)) (sym at) (s.closed i below))
+          (omega (arith, at), subst (λ k. All (IsMet (lits_of (take k entries))) (clauses_of cnf.clauses steps)) (sym at) (s.closed i below))
     ])
     trail
 
@@ -152,7 +152,7 @@ module _ (cnf : Cnf) (vars : ℕ) (entries : List Entry) (starts : List ℕ) (st
   free_there = avoids_shorter entries t start l.lit early_enough lesson.avoided
 
   abbrev clauses : List (List Lit)
-  clauses = clauses_of cnf.clauses.items steps
+  clauses = clauses_of cnf.clauses steps
 
   -- the new clause is met before each level that stays
   met_before : (u : ℕ) → u < l.bound → IsMet (lits_of (take u entries)) l.step.clause
@@ -192,7 +192,7 @@ module _ (cnf : Cnf) (vars : ℕ) (entries : List Entry) (starts : List ℕ) (st
         vars_are = s.vars_are;
         trail = trail;
         honest = honest_push cnf steps l.step s.honest lesson.honest;
-        reasons = subst (λ cs. HasReasons cs (take t entries)) (sym (clauses_push cnf.clauses.items steps l.step)) (reasons_still clauses l.step.clause (take t entries) (reasons_take clauses entries t s.reasons));
+        reasons = subst (λ cs. HasReasons cs (take t entries)) (sym (clauses_push cnf.clauses steps l.step)) (reasons_still clauses l.step.clause (take t entries) (reasons_take clauses entries t s.reasons));
         chosen = chosen_there;
         rising = λ i j lt inside.
             let jn : j < keep = omega (arith, length-take keep starts) in
@@ -208,13 +208,13 @@ module _ (cnf : Cnf) (vars : ℕ) (entries : List Entry) (starts : List ℕ) (st
             let r = s.rising i keep k kept_few in
             let le : u ≤ t = omega arith in
             let whole : All (IsMet (lits_of (take u entries))) (clauses ++ l.step.clause ∷ []) = All-push (IsMet (lits_of (take u entries))) clauses l.step.clause (s.closed i (omega (arith, kept_few))) (met_before u (splits.below i k)) in
-            subst (λ cs. All (IsMet (lits_of (take (get_or (take keep starts) i 0) (take t entries)))) cs) (sym (clauses_push cnf.clauses.items steps l.step))
+            subst (λ cs. All (IsMet (lits_of (take (get_or (take keep starts) i 0) (take t entries)))) cs) (sym (clauses_push cnf.clauses steps l.step))
             (subst (λ (b : List Entry). All (IsMet (lits_of b)) (clauses ++ l.step.clause ∷ [])) (sym (ap (λ n. take n (take t entries)) (get_or-take keep starts i 0 k) ∙ take-take u t entries le)) whole);
       }
 
-  pub forced_there : IsForcedBy (clauses_of cnf.clauses.items (steps ++ l.step ∷ [])) (take t entries) l.lit (length clauses)
+  pub forced_there : IsForcedBy (clauses_of cnf.clauses (steps ++ l.step ∷ [])) (take t entries) l.lit (length clauses)
   forced_there =
-      subst (λ cs. IsForcedBy cs (take t entries) l.lit (length clauses)) (sym (clauses_push cnf.clauses.items steps l.step))
+      subst (λ cs. IsForcedBy cs (take t entries) l.lit (length clauses)) (sym (clauses_push cnf.clauses steps l.step))
       (let at : clause_at (clauses ++ l.step.clause ∷ []) (length clauses) ≡ l.step.clause = get_or_push clauses l.step.clause [] (length clauses) refl in
       record {
         known = omega (arith, length_push clauses l.step.clause);
@@ -256,7 +256,7 @@ module _ (cnf : Cnf) (vars : ℕ) (entries : List Entry) (starts : List ℕ) (st
         vars_are = s.vars_are;
         trail = trail;
         honest = s.honest;
-        reasons = reasons_take (clauses_of cnf.clauses.items steps) entries root s.reasons;
+        reasons = reasons_take (clauses_of cnf.clauses steps) entries root s.reasons;
         chosen = λ p d lt none.
             let below : p < root = omega (arith, length-take root entries) in
             absurd (forced_below p below (s.chosen p d (omega (arith, length-take root entries)) (ap (λ (x : Entry). x.reason) (sym (get_or-take root entries p d below)) ∙ none)));

@@ -35,7 +35,7 @@ pub record Visits (cnf : Cnf) (old : Solver) (denied : Lit) (i : ℕ) (s : Solve
   pub here : IsTrueAt s.search.trail.entries (negated denied) s.next
   pub in_range : denied.var < cnf.vars
   pub done : (k : ℕ) (d : Watch) → k < length s.watches.watched.items
-      → IsKept (clause_at (clauses_of cnf.clauses.items s.search.steps.items) k) s.search.trail.entries s.search.starts.items (s.next + 1) (slice_index_or s.watches.watched.items k d)
+      → IsKept (clause_at (clauses_of cnf.clauses s.search.steps.items) k) s.search.trail.entries s.search.starts.items (s.next + 1) (slice_index_or s.watches.watched.items k d)
       ⊎ IsWaiting (list_at s.watches.lists denied) i k
 
 length-swap_remove : (xs : List ℕ) (i d : ℕ) → i < length xs → length (swap_remove xs i d) + 1 ≡ length xs
@@ -53,7 +53,7 @@ pub along : (P : List (List Lit) → List Entry → List ℕ → Type 0) (c c' :
 along P c c' e e' s s' hc he hs p = subst (λ x. P x e' s') (sym hc) (subst (λ x. P c x s') (sym he) (subst (P c e) (sym hs) p))
 
 abbrev pub clauses_in : Cnf → Solver → List (List Lit)
-clauses_in cnf s = clauses_of cnf.clauses.items s.search.steps.items
+clauses_in cnf s = clauses_of cnf.clauses s.search.steps.items
 
 abbrev pub Kept : Cnf → Solver → ℕ → ℕ → Watch → Type 0
 Kept cnf s next k w = IsKept (clause_at (clauses_in cnf s) k) s.search.trail.entries s.search.starts.items next w
@@ -251,7 +251,7 @@ module _ (cnf : Cnf) (s : Solver) (l : Lit) (number : ℕ) (f : Search) (h : For
   forced = record { search = f; watches = s.watches; next = s.next }
 
   same_clauses : clauses_in cnf forced ≡ clauses_in cnf s
-  same_clauses = ap (λ (x : Vec Step Global). clauses_of cnf.clauses.items x.items) h.steps
+  same_clauses = ap (λ (x : Vec Step Global). clauses_of cnf.clauses x.items) h.steps
 
   same_starts : f.starts.items ≡ s.search.starts.items
   same_starts = ap (λ (x : Vec ℕ Global). x.items) h.starts

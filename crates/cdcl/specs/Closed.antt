@@ -42,7 +42,7 @@ IsNew clauses clause = (l : Lit) × (set : List Lit) × IsNewAt clauses clause l
 pub record IsHonestStep (cnf : Cnf) (before : List Step) (step : Step) : Type 0 where
   pub implied : IsStep cnf before step
   pub not_empty : step.clause ≢ []
-  pub new : IsNew (clauses_of cnf.clauses.items before) step.clause
+  pub new : IsNew (clauses_of cnf.clauses before) step.clause
 
 abbrev pub IsHonest : Cnf → List Step → Type 0
 IsHonest cnf steps = (i : ℕ) (d : Step) → i < length steps → IsHonestStep cnf (take i steps) (slice_index_or steps i d)

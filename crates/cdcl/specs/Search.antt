@@ -15,11 +15,11 @@ pub record IsSearch (cnf : Cnf) (vars : ℕ) (entries : List Entry) (starts : Li
   pub vars_are : vars ≡ cnf.vars
   pub trail : IsTrail vars entries
   pub honest : IsHonest cnf steps
-  pub reasons : HasReasons (clauses_of cnf.clauses.items steps) entries
+  pub reasons : HasReasons (clauses_of cnf.clauses steps) entries
   pub chosen : (p : ℕ) (d : Entry) → p < length entries → (slice_index_or entries p d).reason ≡ None → Contains starts p
   pub rising : IsRising starts
   pub within : (i : ℕ) → i < length starts → slice_index_or starts i 0 < length entries
-  pub closed : (i : ℕ) → i < length starts → All (IsMet (lits_of (take (slice_index_or starts i 0) entries))) (clauses_of cnf.clauses.items steps)
+  pub closed : (i : ℕ) → i < length starts → All (IsMet (lits_of (take (slice_index_or starts i 0) entries))) (clauses_of cnf.clauses steps)
 
 -- the clause of this number is one, and each literal of it is false
 pub record IsConflict (clauses : List (List Lit)) (entries : List Entry) (number : ℕ) : Type 0 where

@@ -13,11 +13,11 @@ abbrev pub Stands : Cnf → Search → Type 0
 Stands cnf s = IsSearch cnf s.trail.vars s.trail.entries s.starts.items s.steps.items
 
 abbrev pub IsConflictOf : Cnf → Search → ℕ → Type 0
-IsConflictOf cnf s number = IsConflict (clauses_of cnf.clauses.items s.steps.items) s.trail.entries number
+IsConflictOf cnf s number = IsConflict (clauses_of cnf.clauses s.steps.items) s.trail.entries number
 
 -- propagation adds nothing more
 abbrev pub IsComplete : Cnf → Search → Type 0
-IsComplete cnf s = All (IsMet (lits_of s.trail.entries)) (clauses_of cnf.clauses.items s.steps.items)
+IsComplete cnf s = All (IsMet (lits_of s.trail.entries)) (clauses_of cnf.clauses s.steps.items)
 
 -- one more literal is true, by the clause of this number
 pub record Forces (cnf : Cnf) (old new : Search) (lit : Lit) (number : ℕ) : Type 0 where

@@ -6,7 +6,7 @@ use std::alloc::{AllocError, Global};
 use std::marker::Model;
 
 /// The first variable whose literals don't fit 32 bits.
-const TOO_MANY: u64 = 1 << 31;
+const TOO_MANY: u32 = 1 << 31;
 
 /// A literal in 32 bits: twice its variable, and one more for the negation. Contracts see the literal.
 #[derive(Drop)]
@@ -31,7 +31,7 @@ impl Packed {
         if lit.var >= TOO_MANY {
             return Err(AllocError);
         }
-        let even = 2 * lit.var as u32;
+        let even = 2 * lit.var;
         let code = if lit.negative { even + 1 } else { even };
         Ok(Packed { code })
     }
@@ -41,7 +41,7 @@ impl Packed {
         ensures { result ≡ self.now }
     {
         Lit {
-            var: (self.code / 2) as u64,
+            var: self.code / 2,
             negative: self.code % 2 == 1,
         }
     }
@@ -82,7 +82,7 @@ impl Copies {
     }
 
     /// The clause of this number.
-    pub fn clause(&self, number: u64) -> &[Packed]
+    pub fn clause(&self, number: u32) -> &[Packed]
         requires known { number + 1 < length self.now.bounds.items }
         requires ordered { slice_index_or self.now.bounds.items number 0 ≤ slice_index_or self.now.bounds.items (number + 1) 0 }
         requires within { slice_index_or self.now.bounds.items (number + 1) 0 ≤ length self.now.lits.items }

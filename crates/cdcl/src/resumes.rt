@@ -22,7 +22,7 @@ impl Resumes {
     }
 
     /// The place for the clause of this number.
-    pub fn place(&self, number: u64) -> usize {
+    pub fn place(&self, number: u32) -> usize {
         let number = number as usize;
         if number < self.places.len() {
             self.places[number] as usize
@@ -32,7 +32,7 @@ impl Resumes {
     }
 
     /// Keeps a place for the clause of this number; one past 32 bits as the greatest of these.
-    pub fn set(&mut self, number: u64, place: usize) {
+    pub fn set(&mut self, number: u32, place: usize) {
         let number = number as usize;
         if number < self.places.len() {
             self.places[number] = place.min(u32::MAX as usize) as u32;

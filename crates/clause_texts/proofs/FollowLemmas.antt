@@ -264,8 +264,8 @@ same_negated a b same l = (
 
 -- ---- the step of a line
 
-module _ (cnf : Cnf) (ids : List ℕ) (before : List Step) (lits hints : List Number) (known : List Lit) (clause : IsClauseOf lits (map negated known)) (numbers : List ℕ) (are : numbers ≡ map (clause_number (length cnf.clauses.items) ids) hints) where
-  pub step_follows : (k : ℕ) (step : Step) → IsInRange cnf.vars known → Refutes (clauses_of cnf.clauses.items before) known (take k numbers) → step.clause ≡ map negated known → step.hints.items ≡ take k numbers → Follows cnf ids before lits hints step
+module _ (cnf : Cnf) (ids : List ℕ) (before : List Step) (lits hints : List Number) (known : List Lit) (clause : IsClauseOf lits (map negated known)) (numbers : List ℕ) (are : numbers ≡ map (clause_number (length cnf.clauses) ids) hints) where
+  pub step_follows : (k : ℕ) (step : Step) → IsInRange cnf.vars known → Refutes (clauses_of cnf.clauses before) known (take k numbers) → step.clause ≡ map negated known → step.hints.items ≡ take k numbers → Follows cnf ids before lits hints step
   step_follows k step below refutes is first = record {
     clause = subst (λ c. IsClauseOf lits c) (sym is) clause;
     first = (k, first ∙ ap (take k) are);
@@ -277,9 +277,9 @@ module _ (cnf : Cnf) (ids : List ℕ) (before : List Step) (lits hints : List Nu
     };
   }
 
-  pub none_follows : ((k : ℕ) → Refutes (clauses_of cnf.clauses.items before) known (take k numbers) → ⊥) → (step : Step) → Follows cnf ids before lits hints step → ⊥
+  pub none_follows : ((k : ℕ) → Refutes (clauses_of cnf.clauses before) known (take k numbers) → ⊥) → (step : Step) → Follows cnf ids before lits hints step → ⊥
   none_follows none step f =
-      let clauses = clauses_of cnf.clauses.items before in
+      let clauses = clauses_of cnf.clauses before in
       let same : Same step.clause (map negated known) = λ l. (λ h. (clause.lits l).1 ((f.clause.lits l).0 h), λ h. (f.clause.lits l).1 ((clause.lits l).0 h)) in
       let start : Same (map negated step.clause) known = subst (λ b. Same (map negated step.clause) b) (map_twice known) (same_negated step.clause (map negated known) same) in
       let refutes = same_refutes clauses step.hints.items (map negated step.clause) known start f.implied.implied in

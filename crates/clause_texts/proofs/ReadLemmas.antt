@@ -25,7 +25,7 @@ use Rattle.clause_texts.specs.Reading.{Comes, StandsAt, fault_at}
 
 module _ (cnf : Cnf) where
   abbrev inputs : ℕ
-  inputs = length cnf.clauses.items
+  inputs = length cnf.clauses
 
   pub come_in_range : (before : List (List ℕ)) (ids : List ℕ) (steps : List Step) → ComeTo cnf before ids steps → All (λ s. IsInRange cnf.vars s.clause) steps
   come_in_range _ _ _ none = All-nil (λ (s : Step). IsInRange cnf.vars s.clause)
@@ -180,7 +180,7 @@ empty_is (x ∷ xs) b e = (λ h. absurd (let n = eqb-true (length (x ∷ xs)) 0 
 
 -- what the step of a line makes of the line
 pub takes : (cnf : Cnf) (ids : List ℕ) (steps : List Step) (line : List ℕ) (id : ℕ) (lits hints : List Number) (r : Result Bool LineFault) (ids' : List ℕ) (steps' : List Step) → content_of line ≡ Some (adds id lits hints)
-    → last_id (length cnf.clauses.items) ids < id
+    → last_id (length cnf.clauses) ids < id
     → IfOk r (λ closed. (step : Step) × Follows cnf ids steps lits hints step × (ids' ≡ ids ++ id ∷ []) × (steps' ≡ steps ++ step ∷ []) × ((closed ≡ true) ↔ (step.clause ≡ [])))
     → IfOk r (λ closed. Comes cnf ids steps line closed ids' steps')
 takes cnf ids steps line id lits hints (Err e) ids' steps' says above h = h

@@ -15,7 +15,7 @@ clause_line clause = flat_map lit_word clause ++ codes "0\n"
 
 -- how many variables and how many clauses there are
 abbrev pub head_line : Cnf → List ℕ
-head_line cnf = codes "p cnf " ++ decimal cnf.vars ++ codes " " ++ decimal (length cnf.clauses.items) ++ codes "\n"
+head_line cnf = codes "p cnf " ++ decimal cnf.vars ++ codes " " ++ decimal (length cnf.clauses) ++ codes "\n"
 
 abbrev pub dimacs : Cnf → List ℕ
-dimacs cnf = head_line cnf ++ flat_map clause_line cnf.clauses.items
+dimacs cnf = head_line cnf ++ flat_map clause_line cnf.clauses

@@ -18,13 +18,13 @@ AreOpen steps = All (λ s. s.clause ≢ []) steps
 -- a line that adds a step, with an ID above all before it
 pub record Adds (cnf : Cnf) (ids : List ℕ) (line : List ℕ) (id : ℕ) (lits hints : List Number) : Type 0 where
   pub says : content_of line ≡ Some (adds id lits hints)
-  pub above : last_id (length cnf.clauses.items) ids < id
+  pub above : last_id (length cnf.clauses) ids < id
 
 -- no line of LRAT, or an ID that isn't above all before it
 abbrev pub IsOdd : Cnf → List ℕ → List ℕ → Type 0
 IsOdd cnf ids line =
     (content_of line ≡ None)
-    ⊎ ((id : ℕ) × (lits : List Number) × (hints : List Number) × (content_of line ≡ Some (adds id lits hints)) × (id ≤ last_id (length cnf.clauses.items) ids))
+    ⊎ ((id : ℕ) × (lits : List Number) × (hints : List Number) × (content_of line ≡ Some (adds id lits hints)) × (id ≤ last_id (length cnf.clauses) ids))
 
 -- no step with the line's literals and the first of its hints follows
 abbrev pub IsUnimplied : Cnf → List ℕ → List Step → List ℕ → Type 0

@@ -44,7 +44,7 @@ AreFirstOf others hints = (k : ℕ) × (hints ≡ take k others)
 -- a step with a line's literals and the first of its hints, which is implied by the clauses before it
 pub record Follows (cnf : Cnf) (ids : List ℕ) (before : List Step) (lits hints : List Number) (step : Step) : Type 0 where
   pub clause : IsClauseOf lits step.clause
-  pub first : AreFirstOf (map (clause_number (length cnf.clauses.items) ids) hints) step.hints.items
+  pub first : AreFirstOf (map (clause_number (length cnf.clauses) ids) hints) step.hints.items
   pub implied : IsStep cnf before step
 
 -- Lines come to steps with these IDs: each line says nothing, or adds a step whose ID is above all before it.
@@ -53,4 +53,4 @@ pub data ComeTo (cnf : Cnf) : List (List ℕ) → List ℕ → List Step → Typ
   skip : (before : List (List ℕ)) (line : List ℕ) (ids : List ℕ) (steps : List Step) → ComeTo cnf before ids steps
       → content_of line ≡ Some nothing → ComeTo cnf (before ++ line ∷ []) ids steps
   more : (before : List (List ℕ)) (line : List ℕ) (ids : List ℕ) (steps : List Step) (id : ℕ) (lits hints : List Number) (step : Step) → ComeTo cnf before ids steps
-      → content_of line ≡ Some (adds id lits hints) → last_id (length cnf.clauses.items) ids < id → Follows cnf ids steps lits hints step → ComeTo cnf (before ++ line ∷ []) (ids ++ id ∷ []) (steps ++ step ∷ [])
+      → content_of line ≡ Some (adds id lits hints) → last_id (length cnf.clauses) ids < id → Follows cnf ids steps lits hints step → ComeTo cnf (before ++ line ∷ []) (ids ++ id ∷ []) (steps ++ step ∷ [])

@@ -10,20 +10,25 @@ use crate::words::Number;
 use clause_check::{Cnf, Lit, Look, Step, clause_at, look_at};
 use std::alloc::{AllocError, Global};
 
-/// The literal of a number, which isn't 0.
-fn lit_of(number: Number) -> Lit
-    ensures { result ≡ lit_of number }
+/// The literal of a number, which isn't 0, where it is of one of so many variables.
+fn lit_of(vars: u32, number: Number) -> Option<Lit>
+    ensures { MatchOption result (vars ≤ (lit_of number).var) (λ l. (l ≡ lit_of number) × (l.var < vars)) }
 {
-    Lit {
-        var: number.size.saturating_sub(1),
-        negative: number.negative,
+    let var = u32::try_from(number.size.saturating_sub(1)).ok()?;
+    if var < vars {
+        Some(Lit {
+            var,
+            negative: number.negative,
+        })
+    } else {
+        None
     }
 }
 
 /// Makes the literals false, each once, and lists what is true then. False where no clause with these literals stands among so many
 /// variables: one is of no variable, or a variable stands there with both signs.
 pub fn assume(
-    vars: u64,
+    vars: u32,
     numbers: &[Number],
     values: &mut [Option<bool>],
     known: &mut Vec<Lit>,
@@ -36,10 +41,9 @@ pub fn assume(
     ensures answer { IfOk result (λ b. MatchBool b (IsClauseOf numbers.now (map negated known.new.items)) ((c : List Lit) → IsClauseOf numbers.now c → IsInRange vars c → ⊥)) }
 {
     for number in numbers {
-        let lit = lit_of(*number);
-        if lit.var >= vars {
+        let Some(lit) = lit_of(vars, *number) else {
             return Ok(false);
-        }
+        };
         match values[lit.var as usize] {
             None => {
                 values[lit.var as usize] = Some(lit.negative);
@@ -67,18 +71,19 @@ pub fn forget(known: &[Lit], values: &mut [Option<bool>])
 }
 
 /// Whether an input clause or a step has this number.
-fn is_number(cnf: &Cnf, steps: &[Step], number: u64) -> bool
-    ensures { IsTrue result ↔ (number < length (clauses_of cnf.now.clauses.items steps.now)) }
+fn is_number(cnf: &Cnf, steps: &[Step], number: u32) -> bool
+    ensures { IsTrue result ↔ (number < length (clauses_of cnf.now.clauses steps.now)) }
 {
-    let inputs = cnf.clauses.len() as u64;
-    number < inputs || number - inputs < steps.len() as u64
+    let number = number as usize;
+    let inputs = cnf.clauses.len();
+    number < inputs || number - inputs < steps.len()
 }
 
 /// The clause of this number, where there is one.
-fn find_clause<'a>(cnf: &'a Cnf, steps: &'a [Step], number: u64) -> Option<&'a [Lit]>
+fn find_clause<'a>(cnf: &'a Cnf, steps: &'a [Step], number: u32) -> Option<&'a [Lit]>
     requires { All (λ s. IsInRange cnf.now.vars s.clause) steps.now }
-    ensures { MatchOption result (length (clauses_of cnf.now.clauses.items steps.now) ≤ number)
-        (λ c. IsClauseAt cnf.now.vars (clauses_of cnf.now.clauses.items steps.now) number c.now) }
+    ensures { MatchOption result (length (clauses_of cnf.now.clauses steps.now) ≤ number)
+        (λ c. IsClauseAt cnf.now.vars (clauses_of cnf.now.clauses steps.now) number c.now) }
 {
     if is_number(cnf, steps, number) {
         Some(clause_at(cnf, steps, number))
@@ -91,7 +96,7 @@ fn find_clause<'a>(cnf: &'a Cnf, steps: &'a [Step], number: u64) -> Option<&'a [
 pub fn follow(
     cnf: &Cnf,
     steps: &[Step],
-    hints: &[u64],
+    hints: &[u32],
     values: &mut [Option<bool>],
     known: &mut Vec<Lit>,
 ) -> Result<Option<usize>, AllocError>
@@ -102,8 +107,8 @@ pub fn follow(
     ensures shows { OnOk result (Shows values.new known.new.items) }
     ensures in_range { OnOk result (IsInRange cnf.now.vars known.new.items) }
     ensures answer { IfOk result (λ r. MatchOption r
-        ((k : ℕ) → Refutes (clauses_of cnf.now.clauses.items steps.now) known.old.items (take k hints.now) → ⊥)
-        (λ k. Refutes (clauses_of cnf.now.clauses.items steps.now) known.old.items (take k hints.now))) }
+        ((k : ℕ) → Refutes (clauses_of cnf.now.clauses steps.now) known.old.items (take k hints.now) → ⊥)
+        (λ k. Refutes (clauses_of cnf.now.clauses steps.now) known.old.items (take k hints.now))) }
 {
     for (i, hint) in hints.iter().enumerate() {
         let Some(clause) = find_clause(cnf, steps, *hint) else {

@@ -1,7 +1,6 @@
 // Formulas in DIMACS.
-ghost use Rattle.std.specs.Prelude.{◌≡◌, ◌<◌, ◌+◌, ◌^◌, ◌++◌, All, IfOk, OnOk};
+ghost use Rattle.std.specs.Prelude.{◌≡◌, ◌++◌, IfOk, OnOk};
 ghost use Rattle.std.specs.Fmt.{decimal};
-ghost use Rattle.clause_check.specs.Clauses.{IsInRange};
 ghost use Rattle.clause_texts.specs.Dimacs.{clause_line, dimacs, head_line, lit_word};
 
 use clause_check::{Cnf, Lit};
@@ -18,19 +17,17 @@ pub(crate) fn push_number(alloc: Global, out: &mut Vec<u8>, number: u64) -> Resu
 
 /// Adds the literal and a blank.
 fn push_lit(alloc: Global, out: &mut Vec<u8>, lit: Lit) -> Result<(), AllocError>
-    requires { lit.var + 1 < 2 ^ 64 }
     ensures { OnOk result (out.new.items ≡ out.old.items ++ lit_word lit) }
 {
     if lit.negative {
         out.push(b'-')?;
     }
-    push_number(alloc, out, lit.var + 1)?;
+    push_number(alloc, out, u64::from(lit.var) + 1)?;
     out.extend_from_slice(b" ")
 }
 
 /// Adds the line of a clause.
-fn push_clause(alloc: Global, out: &mut Vec<u8>, vars: u64, lits: &[Lit]) -> Result<(), AllocError>
-    requires { IsInRange vars lits.now }
+fn push_clause(alloc: Global, out: &mut Vec<u8>, lits: &[Lit]) -> Result<(), AllocError>
     ensures { OnOk result (out.new.items ≡ out.old.items ++ clause_line lits.now) }
 {
     for lit in lits {
@@ -44,7 +41,7 @@ fn push_head(alloc: Global, out: &mut Vec<u8>, cnf: &Cnf) -> Result<(), AllocErr
     ensures { OnOk result (out.new.items ≡ out.old.items ++ head_line cnf.now) }
 {
     out.extend_from_slice(b"p cnf ")?;
-    push_number(alloc, out, cnf.vars)?;
+    push_number(alloc, out, u64::from(cnf.vars))?;
     out.extend_from_slice(b" ")?;
     push_number(alloc, out, cnf.clauses.len() as u64)?;
     out.extend_from_slice(b"\n")
@@ -58,8 +55,8 @@ pub fn dimacs(alloc: Global, cnf: &Cnf) -> Result<Text, AllocError>
 {
     let mut out = Vec::new(alloc);
     push_head(alloc, &mut out, cnf)?;
-    for clause in &cnf.clauses {
-        push_clause(alloc, &mut out, cnf.vars, clause.lits())?;
+    for number in 0..cnf.clauses.len() {
+        push_clause(alloc, &mut out, cnf.clauses.clause(number))?;
     }
     Ok(Text::new(out))
 }

@@ -11,8 +11,6 @@ mod formula;
 mod ids;
 mod line;
 mod read;
-#[cfg(test)]
-mod tests;
 mod words;
 
 pub use fault::{ProofFault, fault_text};

@@ -94,7 +94,7 @@ fn step_of(
         return Ok(None);
     }
     let clause = clause_of(alloc, known.as_slice())?;
-    let inputs = cnf.clauses.len() as u64;
+    let inputs = cnf.clauses.len();
     let mut hints = clause_numbers(
         alloc,
         inputs,
@@ -120,7 +120,7 @@ fn step_of(
 
 /// The last ID.
 fn last_id(cnf: &Cnf, ids: &[u64]) -> u64
-    ensures { result ≡ last_id (length cnf.now.clauses.items) ids.now }
+    ensures { result ≡ last_id (length cnf.now.clauses) ids.now }
 {
     match ids.last() {
         Some(id) => *id,
@@ -149,7 +149,7 @@ fn take_step(
     requires come { (before : List (List ℕ)) × ComeTo cnf.now before past.old.ids.items past.old.steps.items }
     requires room { cnf.now.vars ≤ length values.old }
     requires blank { IsBlank values.old }
-    requires above { last_id (length cnf.now.clauses.items) past.old.ids.items < addition.now.id }
+    requires above { last_id (length cnf.now.clauses) past.old.ids.items < addition.now.id }
     ensures blank { OnOk result (IsBlank values.new) }
     ensures step { IfOk result (λ closed. (step : Step) × Follows cnf.now past.old.ids.items past.old.steps.items addition.now.lits.items addition.now.hints.items step
         × (past.new.ids.items ≡ past.old.ids.items ++ addition.now.id ∷ []) × (past.new.steps.items ≡ past.old.steps.items ++ step ∷ []) × ((closed ≡ true) ↔ (step.clause ≡ []))) }

@@ -53,7 +53,7 @@ reads_same s n t us (Mux w c x y ∷ nodes) a f e =
     reads_same s (n + length m.gates) (t ++ m.lits ∷ []) us nodes a f.1 e
 
 -- values at which the root is 1 give an assignment that holds and has them
-shown : (nodes : List Node) (root : ℕ) (cnf : Cnf) (bits : List (List ℕ)) → IsOb nodes root → cnf.clauses.items ≡ ob_clauses nodes root → cnf.vars ≡ length (netlist nodes) → bits ≡ ob_bits nodes → (us : List ℕ) → RootIs1 nodes root us → (a : List Bool) × Shows nodes cnf bits us a
+shown : (nodes : List Node) (root : ℕ) (cnf : Cnf) (bits : List (List ℕ)) → IsOb nodes root → cnf.clauses ≡ ob_clauses nodes root → cnf.vars ≡ length (netlist nodes) → bits ≡ ob_bits nodes → (us : List ℕ) → RootIs1 nodes root us → (a : List Bool) × Shows nodes cnf bits us a
 shown nodes root cnf bits ob ec ev eb us one =
     let chosen = chosen_of (ob_bits nodes) us in
     let run = run_exists chosen (netlist nodes) (netlist_sound nodes) in
@@ -71,7 +71,7 @@ shown nodes root cnf bits ob ec ev eb us one =
       },
     )
 
-pub carries : (nodes : List Node) (root : ℕ) (cnf : Cnf) (bits : List (List ℕ)) → IsOb nodes root → cnf.clauses.items ≡ ob_clauses nodes root → cnf.vars ≡ length (netlist nodes) → bits ≡ ob_bits nodes → Carries nodes root cnf bits
+pub carries : (nodes : List Node) (root : ℕ) (cnf : Cnf) (bits : List (List ℕ)) → IsOb nodes root → cnf.clauses ≡ ob_clauses nodes root → cnf.vars ≡ length (netlist nodes) → bits ≡ ob_bits nodes → Carries nodes root cnf bits
 carries nodes root cnf bits ob ec ev eb = record {
   to_values = λ a h.
       subst (λ fs. RootIs1 nodes root (read_words (at a) fs)) (sym eb) (clauses_read nodes root ob (at a) (all_true a (ob_clauses nodes root) (subst (λ cs. All (Satisfies a) cs) ec h.each)));

@@ -5,6 +5,7 @@ ghost use Rattle.cnf_build.specs.Lower.{vars as vars_of, free_vars};
 ghost use Rattle.cnf_build.specs.Meaning.{read_word};
 ghost use Rattle.cnf_build.specs.Built.{at};
 
+use clause_check::in_32_bits;
 use std::alloc::{AllocError, Global};
 use std::marker::Model;
 use word_dag::Node;
@@ -12,7 +13,7 @@ use word_dag::Node;
 /// The variables of a word's bits, from the lowest. Contracts see the list of them.
 #[derive(Drop)]
 pub struct Vars {
-    list: Vec<u64>,
+    list: Vec<u32>,
 }
 
 impl Model for Vars {
@@ -25,19 +26,19 @@ impl Model for Vars {
 
 impl Vars {
     // The variables from this one on.
-    fn from(alloc: Global, start: u64, width: u8) -> Result<Vars, AllocError>
+    fn from(alloc: Global, start: usize, width: u8) -> Result<Vars, AllocError>
         requires { start + width < 2 ^ 64 }
         ensures { IfOk result (λ r. r ≡ vars_of start width) }
     {
         let mut list = Vec::new(alloc);
         for i in 0..width {
-            list.push(start + u64::from(i))?;
+            list.push(in_32_bits(start + usize::from(i))?)?;
         }
         Ok(Vars { list })
     }
 
     /// The variables.
-    pub fn list(&self) -> &[u64]
+    pub fn list(&self) -> &[u32]
         ensures { result.now ≡ self.now }
     {
         self.list.as_slice()
@@ -49,7 +50,7 @@ pub fn add_bits(
     alloc: Global,
     bits: &mut Vec<Vars>,
     node: &Node,
-    start: u64,
+    start: usize,
 ) -> Result<(), AllocError>
     requires { start < 2 ^ 63 }
     ensures { OnOk result (bits.new.items ≡ bits.old.items ++ free_vars start node.now) }
@@ -65,7 +66,7 @@ pub fn add_bits(
 }
 
 /// The number that an assignment gives to variables.
-pub fn read(assignment: &[bool], vars: &[u64]) -> u64
+pub fn read(assignment: &[bool], vars: &[u32]) -> u64
     requires short { length vars.now ≤ 64 }
     requires within { All (λ v. v < length assignment.now) vars.now }
     ensures value { result ≡ read_word (at assignment.now) vars.now }

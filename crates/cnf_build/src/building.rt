@@ -11,7 +11,7 @@ use crate::bits::{Vars, add_bits, read};
 use crate::clauses::{add_clause, netlist_clauses};
 use crate::lowering::{Wires, low_bit, node_lits, operand};
 use bit_circuits::{Gate, add_gate};
-use clause_check::Cnf;
+use clause_check::{Cnf, in_32_bits};
 use std::alloc::{AllocError, Global};
 use word_dag::{Node, Ob};
 
@@ -35,7 +35,7 @@ fn lower(alloc: Global, nodes: &[Node]) -> Result<Lowered, AllocError>
     let mut bits = Vec::new(alloc);
     for i in 0..nodes.len() {
         let node = &nodes[i];
-        add_bits(alloc, &mut bits, node, gates.len() as u64)?;
+        add_bits(alloc, &mut bits, node, gates.len())?;
         let lits = node_lits(alloc, &mut gates, &table, node)?;
         table.push(Wires::new(lits))?;
     }
@@ -58,7 +58,7 @@ pub struct Built {
 /// On the complexity of derivation in propositional calculus, 1968). The last clause is the root's bit. A literal stands once in
 /// a clause, and a clause with a literal and its negation is left out. It is refused for want of memory alone.
 pub fn build(alloc: Global, ob: &Ob) -> Result<Built, AllocError>
-    ensures clauses { IfOk result (λ b. b.cnf.clauses.items ≡ ob_clauses ob.now.nodes ob.now.root) }
+    ensures clauses { IfOk result (λ b. b.cnf.clauses ≡ ob_clauses ob.now.nodes ob.now.root) }
     ensures vars { IfOk result (λ b. b.cnf.vars ≡ length (netlist ob.now.nodes)) }
     ensures bits { IfOk result (λ b. b.bits.items ≡ ob_bits ob.now.nodes) }
     ensures carries { IfOk result (λ b. Carries ob.now.nodes ob.now.root b.cnf b.bits.items) }
@@ -68,7 +68,7 @@ pub fn build(alloc: Global, ob: &Ob) -> Result<Built, AllocError>
     let mut clauses = netlist_clauses(alloc, &gates)?;
     let root = low_bit(operand(&table, number));
     add_clause(alloc, &mut clauses, &[root])?;
-    let vars = gates.len() as u64;
+    let vars = in_32_bits(gates.len())?;
     Ok(Built {
         cnf: Cnf { vars, clauses },
         bits,

@@ -5,18 +5,15 @@ ghost use Rattle.bit_circuits.specs.Literals.{tidy, tidied};
 ghost use Rattle.bit_circuits.specs.Gates.{raw_clauses, clauses_from};
 
 use bit_circuits::{Gate, negative, positive, tidy_clause};
-use clause_check::{Clause, Lit};
+use clause_check::{Clauses, Lit, in_32_bits};
 use std::alloc::{AllocError, Global};
 
 /// Adds the clause of these literals, unless it holds in any case.
-pub fn add_clause(alloc: Global, clauses: &mut Vec<Clause>, lits: &[Lit]) -> Result<(), AllocError>
-    ensures { OnOk result (clauses.new.items ≡ clauses.old.items ++ option_to_list (tidy lits.now)) }
+pub fn add_clause(alloc: Global, clauses: &mut Clauses, lits: &[Lit]) -> Result<(), AllocError>
+    ensures { OnOk result (clauses.new ≡ clauses.old ++ option_to_list (tidy lits.now)) }
 {
     match tidy_clause(alloc, lits)? {
-        Some(clause) => {
-            clauses.push(clause)?;
-            Ok(())
-        }
+        Some(clause) => clauses.push(clause.lits()),
         None => Ok(()),
     }
 }
@@ -25,11 +22,11 @@ pub fn add_clause(alloc: Global, clauses: &mut Vec<Clause>, lits: &[Lit]) -> Res
 #[tactic(auto, using(crate::proofs::Joined::joined))]
 fn add_gate_clauses(
     alloc: Global,
-    clauses: &mut Vec<Clause>,
-    var: u64,
+    clauses: &mut Clauses,
+    var: u32,
     gate: Gate,
 ) -> Result<(), AllocError>
-    ensures { OnOk result (clauses.new.items ≡ clauses.old.items ++ tidied (raw_clauses var gate)) }
+    ensures { OnOk result (clauses.new ≡ clauses.old ++ tidied (raw_clauses var gate)) }
 {
     let on = positive(var);
     let off = negative(var);
@@ -57,12 +54,12 @@ fn add_gate_clauses(
 }
 
 /// The clauses of a netlist, in the order of its gates.
-pub fn netlist_clauses(alloc: Global, gates: &[Gate]) -> Result<Vec<Clause>, AllocError>
-    ensures { IfOk result (λ cs. cs.items ≡ clauses_from 0 gates.now) }
+pub fn netlist_clauses(alloc: Global, gates: &[Gate]) -> Result<Clauses, AllocError>
+    ensures { IfOk result (λ cs. cs ≡ clauses_from 0 gates.now) }
 {
-    let mut clauses = Vec::new(alloc);
+    let mut clauses = Clauses::new(alloc)?;
     for i in 0..gates.len() {
-        add_gate_clauses(alloc, &mut clauses, i as u64, gates[i])?;
+        add_gate_clauses(alloc, &mut clauses, in_32_bits(i)?, gates[i])?;
     }
     Ok(clauses)
 }

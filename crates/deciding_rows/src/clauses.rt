@@ -120,7 +120,7 @@ fn open_literal(clause: &[Lit], values: &[Option<bool>]) -> Option<Lit> {
     open
 }
 
-fn set_value(values: &mut [Option<bool>], var: u64, value: bool) {
+fn set_value(values: &mut [Option<bool>], var: u32, value: bool) {
     if let Some(place) = values.get_mut(var as usize) {
         *place = Some(value);
     }
@@ -136,8 +136,8 @@ fn assigned(alloc: Global, built: &Built, number: u64) -> Result<Vec<bool>, Allo
             rest /= 2;
         }
     }
-    for clause in &built.cnf.clauses {
-        if let Some(lit) = open_literal(clause.lits(), &values) {
+    for number in 0..built.cnf.clauses.len() {
+        if let Some(lit) = open_literal(built.cnf.clauses.clause(number), &values) {
             set_value(&mut values, lit.var, !lit.negative);
         }
     }

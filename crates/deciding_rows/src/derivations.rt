@@ -1,29 +1,29 @@
-use clause_check::{Clause, Cnf, Lit, Marks, Step, accept, holds};
+use clause_check::{Clause, Clauses, Cnf, Lit, Marks, Step, accept, holds};
 use std::alloc::{AllocError, Global};
 use std::test::Fail;
 
 /// The literal of a number that isn't 0: variable 0 is 1, and its negation -1.
-fn literal(number: i64) -> Lit {
+fn literal(number: i32) -> Lit {
     Lit {
         var: number.unsigned_abs().saturating_sub(1),
         negative: number < 0,
     }
 }
 
-fn clause(alloc: Global, numbers: &[i64]) -> Result<Option<Clause>, AllocError> {
+fn clause(alloc: Global, numbers: &[i32]) -> Result<Option<Clause>, AllocError> {
     Clause::of(alloc, numbers.iter().map(|n| literal(*n)).collect(alloc)?)
 }
 
-fn push(alloc: Global, clauses: &mut Vec<Clause>, numbers: &[i64]) -> Result<(), AllocError> {
+fn push(alloc: Global, clauses: &mut Clauses, numbers: &[i32]) -> Result<(), AllocError> {
     if let Some(clause) = clause(alloc, numbers)? {
-        clauses.push(clause)?;
+        clauses.push(clause.lits())?;
     }
     Ok(())
 }
 
 /// That a bit and its negation are both 1.
 fn contradiction(alloc: Global) -> Result<Option<Cnf>, AllocError> {
-    let mut clauses = Vec::new(alloc);
+    let mut clauses = Clauses::new(alloc)?;
     push(alloc, &mut clauses, &[1])?;
     push(alloc, &mut clauses, &[-3, 2])?;
     push(alloc, &mut clauses, &[-3, -2])?;
@@ -32,7 +32,7 @@ fn contradiction(alloc: Global) -> Result<Option<Cnf>, AllocError> {
 }
 
 /// Whether a step with the empty clause and these hints refutes the formula.
-fn accepts(alloc: Global, cnf: &Cnf, hints: &[u64]) -> Result<bool, AllocError> {
+fn accepts(alloc: Global, cnf: &Cnf, hints: &[u32]) -> Result<bool, AllocError> {
     let mut marks = Marks::new(alloc, cnf.vars)?;
     let mut steps = Vec::new(alloc);
     if let Some(clause) = clause(alloc, &[])? {
@@ -57,7 +57,7 @@ fn takes_clauses_and_formulas_alone(rt: HostRuntime) -> Result<(), Fail> {
     let alloc = rt.alloc();
     assert!(rt; clause(alloc, &[3, -1, 2])?.is_some());
     assert!(rt; clause(alloc, &[3, -1, 2, 1])?.is_none());
-    let mut clauses = Vec::new(alloc);
+    let mut clauses = Clauses::new(alloc)?;
     push(alloc, &mut clauses, &[1, -3])?;
     assert!(rt; Cnf::of(2, clauses).is_none());
     Ok(())
@@ -66,7 +66,7 @@ fn takes_clauses_and_formulas_alone(rt: HostRuntime) -> Result<(), Fail> {
 #[test]
 fn holds_where_each_clause_has_a_true_literal(rt: HostRuntime) -> Result<(), Fail> {
     let alloc = rt.alloc();
-    let mut clauses = Vec::new(alloc);
+    let mut clauses = Clauses::new(alloc)?;
     push(alloc, &mut clauses, &[1, -2])?;
     let cnf = Cnf::of(2, clauses).expect(&rt, "a formula");
     assert!(rt; holds(&cnf, &[false, false]));

@@ -1,4 +1,4 @@
-use job_pool::{Evidence, Tickets, run_jobs};
+use job_pool::{Crew, Evidence, Tickets, run_jobs};
 use outside::{Gate, QuietGate};
 use std::alloc::{AllocError, Global};
 use std::sync::atomic::Ordering::SeqCst;
@@ -86,7 +86,12 @@ fn two_workers_are_at_work_at_once(rt: HostRuntime) -> Result<(), Fail> {
         first: Side::new(),
         second: Side::new(),
     };
-    let ran = run_jobs(&rt, rt.alloc(), &obs, 9, 2, &meeting)?;
+    let crew = Crew {
+        rt: &rt,
+        alloc: rt.alloc(),
+        workers: 2,
+    };
+    let ran = run_jobs(&crew, &obs, 9, &meeting)?;
     assert!(rt; ran.draws.as_slice() == [0, 1, 2, 3].as_slice());
     assert!(rt;
         meeting.first.entries.load(SeqCst) == 1 && meeting.second.entries.load(SeqCst) == 1
@@ -101,7 +106,12 @@ fn ends_stand_in_the_order_of_the_jobs(rt: HostRuntime) -> Result<(), Fail> {
     let obs = constants(rt.alloc(), &ones)?;
     for workers in [1, 2, 16, 64] {
         assert_eq!(rt; obs.len(), 5);
-        let ran = run_jobs(&rt, rt.alloc(), &obs, 9, workers, &QuietGate)?;
+        let crew = Crew {
+            rt: &rt,
+            alloc: rt.alloc(),
+            workers,
+        };
+        let ran = run_jobs(&crew, &obs, 9, &QuietGate)?;
         assert_eq!(rt; ran.draws.len(), 5 + workers as usize);
         assert_eq!(rt; ran.ends.len(), 5);
         for (one, end) in ones.iter().zip(&ran.ends) {
@@ -119,7 +129,12 @@ fn ends_stand_in_the_order_of_the_jobs(rt: HostRuntime) -> Result<(), Fail> {
 fn one_job_is_drawn_past_by_each_worker(rt: HostRuntime) -> Result<(), Fail> {
     let obs = constants(rt.alloc(), &[false])?;
     assert_eq!(rt; obs.len(), 1);
-    let ran = run_jobs(&rt, rt.alloc(), &obs, 1, 16, &QuietGate)?;
+    let crew = Crew {
+        rt: &rt,
+        alloc: rt.alloc(),
+        workers: 16,
+    };
+    let ran = run_jobs(&crew, &obs, 1, &QuietGate)?;
     let mut next = 0;
     for number in &ran.draws {
         assert_eq!(rt; *number, next);

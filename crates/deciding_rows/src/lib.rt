@@ -6,6 +6,8 @@ mod clauses;
 #[cfg(test)]
 mod derivations;
 #[cfg(test)]
+mod faults;
+#[cfg(test)]
 mod helpers;
 #[cfg(test)]
 mod jobs;

@@ -3,7 +3,7 @@ use std::process::Abort;
 use std::test::Fail;
 use step_records::{fits_version_1, read_steps, record_fits, write_steps, write_steps_1};
 
-// Records of the same steps in both versions: an empty clause; two steps; none; the greatest variable and the greatest hint of the second version.
+// Records of the same steps in both versions: an empty clause; two steps; none; the greatest variable and the greatest hint.
 const RECORDS: &[(&[u8], &[u8])] = &[
     (
         b"\x44\x31\0\0\0\x01\0\0\0\0\0\0\0\x01\0\0\0\0\0\0\0\x05",
@@ -15,13 +15,14 @@ const RECORDS: &[(&[u8], &[u8])] = &[
     ),
     (b"\x44\x31\0\0\0\0", b"\x44\x32\x00"),
     (
-        b"\x44\x31\0\0\0\x01\0\0\0\x01\x7f\xff\xff\xff\xff\xff\xff\xff\0\0\0\x02\x3f\xff\xff\xff\xff\xff\xff\xff\x3f\xff\xff\xff\xff\xff\xff\xff",
-        b"\x44\x32\x01\x01\xff\xff\xff\xff\xff\xff\xff\xff\x7f\x02\xff\xff\xff\xff\xff\xff\xff\xff\x3f\x00",
+        b"\x44\x31\0\0\0\x01\0\0\0\x01\0\0\0\x01\xff\xff\xff\xff\0\0\0\x02\0\0\0\0\xff\xff\xff\xff\0\0\0\0\xff\xff\xff\xff",
+        b"\x44\x32\x01\x01\xff\xff\xff\xff\x1f\x02\xff\xff\xff\xff\x0f\x00",
     ),
 ];
 
 // Bytes that are no record, the second version's first: cut, and with a byte behind; a varint that ends in 0, one of eleven bytes, one of 2^64; a distance of 0
-// as a lower one, and a hint below 0; a variable twice; a hint and a variable of 2^62; no version; the first version cut, and with a variable twice.
+// as a lower one, and a hint below 0; a variable twice; a hint and a variable of 2^32; no version; the first version cut, with a byte behind, with a variable
+// twice, and with a hint and a variable of 2^32.
 const NO_RECORDS: &[&[u8]] = &[
     b"\x44\x32\x01\x00\x01",
     b"\x44\x32\x01\x00\x01\x05\x00",
@@ -31,14 +32,16 @@ const NO_RECORDS: &[&[u8]] = &[
     b"\x44\x32\x01\x00\x02\x05\x01",
     b"\x44\x32\x01\x00\x02\x05\x0d",
     b"\x44\x32\x01\x02\x06\x07\x01\x05",
-    b"\x44\x32\x01\x00\x01\x80\x80\x80\x80\x80\x80\x80\x80\x40",
-    b"\x44\x32\x01\x01\x80\x80\x80\x80\x80\x80\x80\x80\x80\x01\x00",
+    b"\x44\x32\x01\x00\x01\x80\x80\x80\x80\x10",
+    b"\x44\x32\x01\x01\x80\x80\x80\x80\x20\x00",
     b"",
     b"\x45\x31\0\0\0\0",
     b"\x44\x33\0\0\0\0",
     b"\x44\x31\0\0\0",
     b"\x44\x31\0\0\0\0\0",
     b"\x44\x31\0\0\0\x01\0\0\0\x02\0\0\0\0\0\0\0\x06\0\0\0\0\0\0\0\x07\0\0\0\0",
+    b"\x44\x31\0\0\0\x01\0\0\0\0\0\0\0\x01\0\0\0\x01\0\0\0\0",
+    b"\x44\x31\0\0\0\x01\0\0\0\x01\0\0\0\x02\0\0\0\0\0\0\0\0",
 ];
 
 // Reads the record of the first version, and writes that of the second.

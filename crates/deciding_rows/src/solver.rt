@@ -1,10 +1,10 @@
 use cdcl::{End, solve};
-use clause_check::{Clause, Cnf, Lit, Marks, accept, holds};
+use clause_check::{Clause, Clauses, Cnf, Lit, Marks, accept, holds};
 use std::alloc::{AllocError, Global};
 use std::test::Fail;
 
 /// Adds the clause of these literals, each a variable and whether it is negated.
-fn push(alloc: Global, clauses: &mut Vec<Clause>, lits: &[(u64, bool)]) -> Result<(), AllocError> {
+fn push(alloc: Global, clauses: &mut Clauses, lits: &[(u32, bool)]) -> Result<(), AllocError> {
     let lits = lits
         .iter()
         .map(|(var, negative)| Lit {
@@ -13,15 +13,15 @@ fn push(alloc: Global, clauses: &mut Vec<Clause>, lits: &[(u64, bool)]) -> Resul
         })
         .collect(alloc)?;
     if let Some(clause) = Clause::of(alloc, lits)? {
-        clauses.push(clause)?;
+        clauses.push(clause.lits())?;
     }
     Ok(())
 }
 
 /// Five pigeons in four holes: each has a hole, and no two have one.
 fn pigeons(alloc: Global) -> Result<Option<Cnf>, AllocError> {
-    let mut clauses = Vec::new(alloc);
-    for pigeon in 0..5_u64 {
+    let mut clauses = Clauses::new(alloc)?;
+    for pigeon in 0..5_u32 {
         let first = 4 * pigeon;
         push(
             alloc,
@@ -48,13 +48,13 @@ fn pigeons(alloc: Global) -> Result<Option<Cnf>, AllocError> {
 
 /// Two chains of 300,000 variables each, the first with its links from the end.
 fn chains(alloc: Global) -> Result<Option<Cnf>, AllocError> {
-    let mut clauses = Vec::new(alloc);
+    let mut clauses = Clauses::new(alloc)?;
     push(alloc, &mut clauses, &[(0, false)])?;
     push(alloc, &mut clauses, &[(300_000, false)])?;
-    for var in (0..299_999_u64).rev() {
+    for var in (0..299_999_u32).rev() {
         push(alloc, &mut clauses, &[(var, true), (var + 1, false)])?;
     }
-    for var in 300_000..599_999_u64 {
+    for var in 300_000..599_999_u32 {
         push(alloc, &mut clauses, &[(var, true), (var + 1, false)])?;
     }
     Ok(Cnf::of(600_000, clauses))
@@ -63,11 +63,11 @@ fn chains(alloc: Global) -> Result<Option<Cnf>, AllocError> {
 #[test]
 fn decides_formulas_without_literals(rt: HostRuntime) -> Result<(), Fail> {
     let alloc = rt.alloc();
-    let mut clauses = Vec::new(alloc);
+    let mut clauses = Clauses::new(alloc)?;
     push(alloc, &mut clauses, &[])?;
     let absurd = Cnf::of(0, clauses).expect(&rt, "a formula");
     assert!(rt; matches!(solve(alloc, &absurd, 1)?, End::Unsat(_)));
-    let empty = Cnf::of(0, Vec::new(alloc)).expect(&rt, "a formula");
+    let empty = Cnf::of(0, Clauses::new(alloc)?).expect(&rt, "a formula");
     assert!(rt; matches!(solve(alloc, &empty, 1)?, End::Sat(_)));
     Ok(())
 }

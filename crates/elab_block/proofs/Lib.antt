@@ -1,8 +1,8 @@
 mod Writing
 mod Trying
-mod Joins
+pub mod Joins
 mod Giving
-mod Saving
+pub mod Saving
 mod Sides
 mod Storing
 mod Matching

@@ -34,12 +34,12 @@ node_get [] i l lt g = absurd (omega arith)
 node_get (y ∷ ls) zero l lt g = ap (λ (z : Leaf). z.node) g
 node_get (y ∷ ls) (suc i) l lt g = node_get ls i l (omega arith) g
 
-node_with : (ls : List Leaf) (i n : ℕ) → i < length ls → node_at (with_node ls i n) i ≡ n
+pub node_with : (ls : List Leaf) (i n : ℕ) → i < length ls → node_at (with_node ls i n) i ≡ n
 node_with [] i n lt = absurd (omega arith)
 node_with (y ∷ ls) zero n lt = refl
 node_with (y ∷ ls) (suc i) n lt = node_with ls i n (omega arith)
 
-node_off : (ls : List Leaf) (i k n : ℕ) → (i ≡ k → ⊥) → node_at (with_node ls i n) k ≡ node_at ls k
+pub node_off : (ls : List Leaf) (i k n : ℕ) → (i ≡ k → ⊥) → node_at (with_node ls i n) k ≡ node_at ls k
 node_off [] i k n ne = refl
 node_off (y ∷ ls) zero zero n ne = absurd (ne refl)
 node_off (y ∷ ls) zero (suc k) n ne = refl
@@ -74,7 +74,7 @@ shown_each e ns (l ∷ ls) c h = (h 0 (omega arith), shown_each e ns ls c (λ k 
 
 -- ---- leaves for which no node is saved
 
-away_none : (k : ℕ) → IsAway [] k
+pub away_none : (k : ℕ) → IsAway [] k
 away_none k m = omega (arith, m.1)
 
 away_here : (s : Saved) (ss : List Saved) (k : ℕ) → IsAway (s ∷ ss) k → s.place ≡ k → ⊥
@@ -83,7 +83,7 @@ away_here s ss k h e = h (0, omega arith, e)
 away_rest : (s : Saved) (ss : List Saved) (k : ℕ) → IsAway (s ∷ ss) k → IsAway ss k
 away_rest s ss k h m = h (suc m.0, omega (arith, m.1), m.2)
 
-away_more : (s : Saved) (ss : List Saved) (k : ℕ) → (s.place ≡ k → ⊥) → IsAway ss k → IsAway (s ∷ ss) k
+pub away_more : (s : Saved) (ss : List Saved) (k : ℕ) → (s.place ≡ k → ⊥) → IsAway ss k → IsAway (s ∷ ss) k
 away_more s ss k ne h m = pick m.0 m.1 m.2
   where
     pick : (j : ℕ) → j < length (places_of (s ∷ ss)) → get_or (places_of (s ∷ ss)) j k ≡ k → ⊥

@@ -1,5 +1,5 @@
 -- What the signals of a module hold in a cycle, as nodes of a dag.
-use Rattle.std.specs.Prelude.{ℕ, ◌≡◌, ◌≢◌, List, [], ◌∷◌, map, nat_eq, if◌then◌else◌}
+use Rattle.std.specs.Prelude.{ℕ, ◌≡◌, ◌≢◌, List, [], ◌∷◌, nat_eq, if◌then◌else◌}
 use Rattle.vlog_runs.specs.declared.flat.Signal.{Signal}
 use Rattle.vlog_runs.specs.Places.{Name, Cycle, Place}
 use Rattle.word_dag.specs.declared.node.Node.{Node}
@@ -41,16 +41,6 @@ AreApart (l ∷ ls) = Lacks l.name ls × AreApart ls
 abbrev pub AreShown : Naming → List Node → List Leaf → Cycle → Type 0
 AreShown e ns [] c = Unit {0}
 AreShown e ns (l ∷ ls) c = (c l.name ≡ number_at e ns l.node) × AreShown e ns ls c
-
--- the nodes of leaves
-abbrev pub nodes_of : List Leaf → List ℕ
-nodes_of ls = map (λ (l : Leaf). l.node) ls
-
--- the leaves with these nodes
-abbrev pub with_nodes : List Leaf → List ℕ → List Leaf
-with_nodes [] is = []
-with_nodes (l ∷ ls) [] = l ∷ ls
-with_nodes (l ∷ ls) (i ∷ is) = record l { node = i } ∷ with_nodes ls is
 
 -- a cycle where a number is 1, else another one
 abbrev pub chosen : ℕ → Cycle → Cycle → Cycle

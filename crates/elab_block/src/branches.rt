@@ -52,8 +52,8 @@ fn saved_again(alloc: Global, leaves: &Leaves, others: &[Saved]) -> Result<Vec<S
     Ok(nodes)
 }
 
-// Puts saved nodes back.
-fn put_back(leaves: &mut Leaves, nodes: &[Saved])
+/// Puts saved nodes back.
+pub fn put_back(leaves: &mut Leaves, nodes: &[Saved])
     requires { AreWithin leaves.old (places_of nodes.now) }
     ensures { leaves.new ≡ put_back leaves.old nodes.now }
 {

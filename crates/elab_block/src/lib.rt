@@ -14,4 +14,6 @@ mod stores;
 mod targets;
 
 pub use blocks::run;
+pub use branches::{Saved, put_back, saved_at};
+pub use places::{before_assign, before_one};
 pub use stores::assign;

@@ -1,6 +1,8 @@
 // The leaves that statements assign.
 ghost use Rattle.std.specs.Prelude.{◌≡◌, ◌≢◌, ◌<◌, ◌↔◌, ℕ, IfOk};
 ghost use Rattle.std.specs.List.{Contains};
+ghost use Rattle.vlog_tree.specs.declared.expr.Expr.{Expr};
+ghost use Rattle.vlog_tree.specs.declared.stmt.Stmt.TheVariants as s;
 ghost use Rattle.vlog_tree.specs.Value.{Stands};
 ghost use Rattle.vlog_runs.specs.Places.{read};
 ghost use Rattle.elab_node.specs.Leaves.{declared};
@@ -122,7 +124,20 @@ fn saved_once(alloc: Global, places: Vec<usize>, leaves: &Leaves) -> Result<Vec<
     Ok(nodes)
 }
 
-/// The nodes of the leaves that a statement assigns.
+/// The nodes of the leaves that a blocking assignment to a left side assigns. It is refused for want of memory alone.
+pub fn before_assign(alloc: Global, left: &Lval, leaves: &Leaves) -> Result<Vec<Saved>, AllocError>
+    requires apart { AreApart leaves.now }
+    requires left { IsReadyLeft (declared leaves.now) left.now }
+    ensures saved { IfOk result (λ r. IsSaved leaves.now r.items) }
+    ensures covers { IfOk result (λ r. (right : Expr) → Covers leaves.now r.items (s.Blocking left.now right)) }
+{
+    let mut places = Vec::new(alloc);
+    add_left(left, leaves, &mut places)?;
+    let before = saved_once(alloc, places, leaves)?;
+    Ok(before)
+}
+
+/// The nodes of the leaves that a statement assigns. It is refused for want of memory alone.
 pub fn before_one(alloc: Global, stmt: &Stmt, leaves: &Leaves) -> Result<Vec<Saved>, AllocError>
     requires apart { AreApart leaves.now }
     requires stmt { IsReadyStmt (declared leaves.now) stmt.now }

@@ -1,7 +1,8 @@
 -- Leaves that show cycles.
-use Rattle.std.proofs.Common.{arith, ◌≡◌, ◌≢◌, ℕ, zero, suc, ◌+◌, ◌<◌, ◌≤◌, Bool, true, false, List, [], ◌∷◌, ◌++◌, None, refl, sym, ap, ◌∙◌, subst, inl, inr, map, length, get_or, take, drop, length-append, Vec, Global}
+use Rattle.std.proofs.Common.{arith, ◌≡◌, ◌≢◌, ℕ, zero, suc, ◌+◌, ◌<◌, ◌≤◌, ◌||◌, Bool, true, false, List, [], ◌∷◌, ◌++◌, None, refl, sym, ap, ◌∙◌, subst, inl, inr, ⊎_elim, map, length, get_or, take, drop, length-append, Vec, Global}
 use Rattle.std.proofs.lemmas.List.{take_all}
 use Rattle.std.specs.List.{flat_map}
+use Rattle.std.specs.Str.{bytes_eq}
 use Rattle.vlog_tree.specs.declared.item.Assign.{Assign}
 use Rattle.vlog_tree.specs.declared.stmt.Stmt.{Stmt}
 use Rattle.vlog_tree.specs.declared.stmt.Stmt.TheVariants as s
@@ -11,10 +12,11 @@ use Rattle.vlog_runs.specs.declared.flat.Flat.{Flat}
 use Rattle.vlog_runs.specs.declared.flat.Signal.{Signal}
 use Rattle.vlog_runs.specs.Places.{Name, Cycle, Among, entries_of}
 use Rattle.vlog_runs.specs.Blocks.{run}
+use Rattle.vlog_runs.specs.Contents.{is_among}
 use Rattle.vlog_runs.specs.Cycles.{flat_place}
 use Rattle.word_dag.specs.declared.node.Node.{Node}
 use Rattle.word_dag.specs.Nodes.{Naming}
-use Rattle.std.specs.Prelude.{◌⊎◌}
+use Rattle.std.specs.Prelude.{◌⊎◌, if◌then◌else◌}
 use Rattle.word_dag.specs.Adding.{Grows, Keeps, IsAt}
 use Rattle.word_dag.proofs.Valued.{grows_kept}
 use Rattle.vlog_tree.specs.Valuation.{IsLength}
@@ -22,12 +24,18 @@ use Rattle.word_design.specs.Designs.{free}
 use Rattle.elab_node.specs.declared.leaves.Leaf.{Leaf}
 use Rattle.elab_node.specs.Leaves.{entry_of, declared, AreReady, AreWide, with_node}
 use Rattle.elab_node.specs.Nodes.{AddsFrees, IsNode, number_at}
+use Rattle.elab_node.proofs.Leaving.{declared_with}
 use Rattle.elab_node.proofs.Kept.{node_kept, number_kept, ready_kept, keeps_then, keeps_same, grows_then, frees_then, number_grown, ready_grown}
-use Rattle.elab_block.specs.Standing.{AreLeavesOf, IsLeafOf, Lacks, AreApart, AreShown, nodes_of, with_nodes}
+use Rattle.elab_block.specs.declared.branches.Saved.{Saved}
+use Rattle.elab_block.specs.Saving.{node_at, saved_at, put_back, AreWithin, IsSaved}
+use Rattle.elab_block.specs.Sparing.{Covers}
+use Rattle.elab_block.specs.Standing.{AreLeavesOf, IsLeafOf, Lacks, AreApart, AreShown}
+use Rattle.elab_block.proofs.Joins.{apart_same}
+use Rattle.elab_block.proofs.Saving.{back_declared, back_saved, back_after, back_ready, saved_is, saved_own}
 use Rattle.elab_block.specs.Runs.{AreSet, Runs}
 use Rattle.flow_laws.specs.Laws.{place_over}
-use Rattle.elab_step.specs.Solving.{taking, driven, settled, solved, processes, drivers_of, AreDistinct}
-use Rattle.elab_step.specs.Boards.{IsBoard, IsBegun, AreBegun, IsFreeOf, Shows, statements, statement_at, picked, node_at, name_of, names_of, list_at, ArePlacesOf}
+use Rattle.elab_step.specs.Solving.{taking, driven, settled, drivers_in, solved, processes, drivers_of, AreDistinct}
+use Rattle.elab_step.specs.Boards.{IsBoard, IsBegun, AreBegun, IsFreeOf, Shows, statements, statement_at, picked, name_of, names_of, groups_of, list_at, list_in, ArePlacesOf}
 use Rattle.elab_step.proofs.Solving.{taken, kept}
 use Rattle.elab_step.proofs.Fitting.{one_entry}
 
@@ -58,28 +66,6 @@ set_of gs ls ns h = record { ready = h.ready; seen = h.ready; same = refl; apart
 
 -- ---- other nodes
 
-name_same : (l m : Leaf) → entry_of m 0 ≡ entry_of l 0 → m.name ≡ l.name
-name_same l m e = ap (λ (k : Entry). k.name) e
-
-pub nodes_back : (ls ms : List Leaf) → declared ms ≡ declared ls → with_nodes ms (nodes_of ls) ≡ ls
-nodes_back [] [] e = refl
-nodes_back [] (m ∷ ms) e = cc
-nodes_back (l ∷ ls) [] e = cc
-nodes_back (l ∷ ls) (m ∷ ms) e =
-    let h : entry_of m 0 ≡ entry_of l 0 = cc in
-    let t : declared ms ≡ declared ls = cc in
-    λ r. same_leaf h r ∷ nodes_back ls ms t r
-  where
-    same_leaf : entry_of m 0 ≡ entry_of l 0 → record m { node = l.node } ≡ l
-    same_leaf g = λ r. record {
-      name = ap (λ (k : Entry). k.name) g r;
-      offset = ap (λ (k : Entry). k.offset) g r;
-      width = ap (λ (k : Entry). k.width) g r;
-      low = ap (λ (k : Entry). k.low) g r;
-      signed = ap (λ (k : Entry). k.signed) g r;
-      node = l.node;
-    }
-
 pub board_at : (gs : List Signal) (ls : List Leaf) (a b : List Node) (i n : ℕ) (l : Leaf) → IsBoard gs ls a → Keeps a b → i < length ls → l ≡ get_or ls i l → IsNode b n l.width → IsBoard gs (with_node ls i n) b
 board_at gs ls a b i n l h k lt g node = record { leaves = leaves gs ls i h.leaves; ready = ready ls i h.ready lt g; apart = apart ls i h.apart }
   where
@@ -105,7 +91,40 @@ board_at gs ls a b i n l h k lt g node = record { leaves = leaves gs ls i h.leav
     apart (m ∷ ls) zero h = h
     apart (m ∷ ls) (suc i) h = (lacks m.name ls i h.0, apart ls i h.1)
 
--- ---- one value taken
+-- ---- leaves of the same names
+
+pub same_leaves : (gs : List Signal) (ls ms : List Leaf) → declared ms ≡ declared ls → AreLeavesOf gs ls → AreLeavesOf gs ms
+same_leaves [] [] [] e h = tt
+same_leaves [] [] (m ∷ ms) e h = cc
+same_leaves [] (l ∷ ls) ms e h = absurd h
+same_leaves (g ∷ gs) [] ms e h = absurd h
+same_leaves (g ∷ gs) (l ∷ ls) [] e h = cc
+same_leaves (g ∷ gs) (l ∷ ls) (m ∷ ms) e h =
+    let k : entry_of m 0 ≡ entry_of l 0 = cc in
+    let t : declared ms ≡ declared ls = cc in (
+      record {
+        name = ap (λ (z : Entry). z.name) k ∙ h.0.name;
+        offset = ap (λ (z : Entry). z.offset) k ∙ h.0.offset;
+        width = ap (λ (z : Entry). z.width) k ∙ h.0.width;
+        low = ap (λ (z : Entry). z.low) k ∙ h.0.low;
+        signed = ap (λ (z : Entry). z.signed) k ∙ h.0.signed;
+        depth = h.0.depth;
+      },
+      same_leaves gs ls ms t h.1,
+    )
+
+pub same_long : (ls ms : List Leaf) → declared ms ≡ declared ls → length ms ≡ length ls
+same_long [] [] e = refl
+same_long [] (m ∷ ms) e = cc
+same_long (l ∷ ls) [] e = cc
+same_long (l ∷ ls) (m ∷ ms) e = let t : declared ms ≡ declared ls = cc in ap suc (same_long ls ms t)
+
+pub number_among : (is : List ℕ) (i u : ℕ) → i < length is → Among is (get_or is i u)
+number_among [] i u l = absurd (omega arith)
+number_among (n ∷ is) zero u l = inl refl
+number_among (n ∷ is) (suc i) u l = inr (number_among is i u (omega arith))
+
+-- ---- values taken
 
 lacks_name : (x : Name) (gs : List Signal) (ls : List Leaf) (i : ℕ) → AreLeavesOf gs ls → i < length ls → Lacks x ls → x ≢ name_of gs i
 lacks_name x [] [] i h lt n = absurd (omega arith)
@@ -114,20 +133,24 @@ lacks_name x (g ∷ gs) [] i h lt n = absurd h
 lacks_name x (g ∷ gs) (l ∷ ls) zero h lt n = λ e. n.0 (e ∙ sym h.0.name)
 lacks_name x (g ∷ gs) (l ∷ ls) (suc i) h lt n = lacks_name x gs ls i h.1 (omega arith) n.1
 
-others_shown : (e : Naming) (b : List Node) (x : Name) (d c : Cycle) (ls : List Leaf) → Lacks x ls → AreShown e b ls c → AreShown e b ls (taking x d c)
-others_shown e b x d c [] n h = tt
-others_shown e b x d c (l ∷ ls) n h = (kept x l.name d c n.0 ∙ h.0, others_shown e b x d c ls n.1 h.1)
+-- another name
+alone : (x y : Name) → x ≢ y → Among (x ∷ []) y → ⊥
+alone x y n m = ⊎_elim n (λ u. u) m
 
-pub shown_taking : (e : Naming) (b : List Node) (d c : Cycle) (gs : List Signal) (ls : List Leaf) (i n : ℕ) → AreLeavesOf gs ls → AreApart ls → i < length ls → AreShown e b ls c → d (name_of gs i) ≡ number_at e b n → AreShown e b (with_node ls i n) (taking (name_of gs i) d c)
+others_shown : (e : Naming) (b : List Node) (x : Name) (d c : Cycle) (ls : List Leaf) → Lacks x ls → AreShown e b ls c → AreShown e b ls (taking (x ∷ []) d c)
+others_shown e b x d c [] n h = tt
+others_shown e b x d c (l ∷ ls) n h = (kept (x ∷ []) l.name d c (alone x l.name n.0) ∙ h.0, others_shown e b x d c ls n.1 h.1)
+
+shown_taking : (e : Naming) (b : List Node) (d c : Cycle) (gs : List Signal) (ls : List Leaf) (i n : ℕ) → AreLeavesOf gs ls → AreApart ls → i < length ls → AreShown e b ls c → d (name_of gs i) ≡ number_at e b n → AreShown e b (with_node ls i n) (taking (name_of gs i ∷ []) d c)
 shown_taking e b d c [] [] i n are apart lt h v = absurd (omega arith)
 shown_taking e b d c [] (l ∷ ls) i n are apart lt h v = absurd are
 shown_taking e b d c (g ∷ gs) [] i n are apart lt h v = absurd are
 shown_taking e b d c (g ∷ gs) (l ∷ ls) zero n are apart lt h v = (
-  subst (λ x. taking g.name d c x ≡ number_at e b n) (sym are.0.name) (taken g.name d c ∙ v),
+  subst (λ x. taking (g.name ∷ []) d c x ≡ number_at e b n) (sym are.0.name) (taken (g.name ∷ []) g.name d c (inl refl) ∙ v),
   others_shown e b g.name d c ls (subst (λ x. Lacks x ls) are.0.name apart.0) h.1,
 )
 shown_taking e b d c (g ∷ gs) (l ∷ ls) (suc i) n are apart lt h v = (
-  kept (name_of gs i) l.name d c (λ q. lacks_name l.name gs ls i are.1 (omega arith) apart.0 (sym q)) ∙ h.0,
+  kept (name_of gs i ∷ []) l.name d c (alone (name_of gs i) l.name (λ q. lacks_name l.name gs ls i are.1 (omega arith) apart.0 (sym q))) ∙ h.0,
   shown_taking e b d c gs ls i n are.1 apart.1 (omega arith) h.1 v,
 )
 
@@ -144,14 +167,69 @@ leaves_long [] (l ∷ ls) h = absurd h
 leaves_long (g ∷ gs) [] h = absurd h
 leaves_long (g ∷ gs) (l ∷ ls) h = let k = leaves_long gs ls h.1 in omega (arith, k)
 
--- a leaf is given what a statement makes of its name
-pub drive_shows : (gs : List Signal) (k : Stmt) (ls ms : List Leaf) (a b : List Node) (i : ℕ) → IsBoard gs ls a → AreLeavesOf gs ms → Keeps a b → i < length ls → length ms ≡ length ls
-    → Shows (λ c. run true (place_over gs) k c c) ls a ms b → Shows (λ c. taking (name_of gs i) (run true (place_over gs) k c c) c) ls a (with_node ls i (node_at ms i)) b
-drive_shows gs k ls ms a b i board are keeps lt long shows e c h =
-    shown_taking e b (run true (place_over gs) k c c) c gs ls i (node_at ms i) board.leaves board.apart lt (shown_kept e ls a b c keeps board.ready h)
-    (shown_at e b (run true (place_over gs) k c c) gs ms i are (omega (arith, long, lt)) (shows e c h))
+-- the values of one name, and then those of others
+taken_apart : (s t : Bool) (v w : ℕ) → (if (s || t) then v else w) ≡ (if t then v else (if (s || false) then v else w))
+taken_apart true true v w = refl
+taken_apart true false v w = refl
+taken_apart false true v w = refl
+taken_apart false false v w = refl
 
-pub zero_shows : (gs : List Signal) (ls : List Leaf) (a b : List Node) (i n : ℕ) → IsBoard gs ls a → Keeps a b → i < length ls → ((e : Naming) → number_at e b n ≡ 0) → Shows (taking (name_of gs i) (λ y. 0)) ls a (with_node ls i n) b
+taking_next : (x : Name) (xs : List Name) (d c : Cycle) → taking (x ∷ xs) d c ≡ taking xs d (taking (x ∷ []) d c)
+taking_next x xs d c = λ r y. taken_apart (bytes_eq x y) (is_among xs y) (d y) (c y) r
+
+-- leaves with some nodes of others, which show d
+module _ (e : Naming) (b : List Node) (d : Cycle) (gs : List Signal) (ms : List Leaf) (are : AreLeavesOf gs ms) (shown : AreShown e b ms d) where
+  pub shown_nodes : (is : List ℕ) (ls : List Leaf) (c : Cycle) → declared ls ≡ declared ms → AreApart ls → ((i : ℕ) → Among is i → i < length ms) → AreShown e b ls c → AreShown e b (put_back ls (saved_at ms is)) (taking (names_of gs is) d c)
+  shown_nodes [] ls c same apart within h = h
+  shown_nodes (i ∷ is) ls c same apart within h =
+      let lt = within i (inl refl) in
+      let long = same_long ms ls same in
+      let next = with_node ls i (node_at ms i) in
+      let moved = declared_with ls i (node_at ms i) in
+      subst (AreShown e b (put_back next (saved_at ms is))) (sym (taking_next (name_of gs i) (names_of gs is) d c))
+      (shown_nodes is next (taking (name_of gs i ∷ []) d c) (moved ∙ same) (apart_same ls next moved apart) (λ j m. within j (inr m))
+      (shown_taking e b d c gs ls i (node_at ms i) (same_leaves gs ms ls same are) apart (omega (arith, lt, long)) h (shown_at e b d gs ms i are lt shown)))
+
+-- each number of a list
+pub each_within : (ls : List Leaf) (is : List ℕ) → AreWithin ls is → (i : ℕ) → Among is i → i < length ls
+each_within ls [] w i m = absurd m
+each_within ls (j ∷ is) w i m = ⊎_elim (λ (q : j ≡ i). subst (λ z. z < length ls) q (w 0 0 (omega arith))) (λ n. each_within ls is (λ k u l. w (suc k) u (omega (arith, l))) i n) m
+
+pub all_within : (ls : List Leaf) (is : List ℕ) → ((i : ℕ) → Among is i → i < length ls) → AreWithin ls is
+all_within ls is h k u l = h (get_or is k u) (number_among is k u l)
+
+-- where a statement has been run, and all leaves but those of some nets have their nodes back
+module _ (gs : List Signal) (ls ms : List Leaf) (a b : List Node) (before : List Saved) (is : List ℕ) (board : IsBoard gs ls a) (after : IsBoard gs ms b) (same : declared ms ≡ declared ls) (keeps : Keeps a b)
+    (saved : IsSaved ls before) (within : AreWithin ls is) where
+  abbrev own : List Leaf
+  own = put_back ms before
+
+  moved : AreWithin ms is
+  moved k u l = let w = within k u l in let n = same_long ls ms same in omega (arith, w, n)
+
+  pub last_same : declared (put_back own (saved_at ms is)) ≡ declared ls
+  last_same = back_declared own (saved_at ms is) ∙ back_declared ms before ∙ same
+
+  own_ready : AreReady own b
+  own_ready = back_ready ms before b after.ready (saved_is ls ms before b same saved (ready_kept ls a b keeps board.ready))
+
+  pub last_board : IsBoard gs (put_back own (saved_at ms is)) b
+  last_board = record {
+    leaves = same_leaves gs ls (put_back own (saved_at ms is)) last_same board.leaves;
+    ready = back_ready own (saved_at ms is) b own_ready (saved_own ms own is b (back_declared ms before) moved after.ready);
+    apart = apart_same ls (put_back own (saved_at ms is)) last_same board.apart;
+  }
+
+  pub last_shows : (k : Stmt) → Covers ls before k → Shows (λ c. run true (place_over gs) k c c) ls a ms b
+      → Shows (λ c. taking (names_of gs is) (run true (place_over gs) k c c) c) ls a (put_back own (saved_at ms is)) b
+  last_shows k covers shows e c h =
+      let d = run true (place_over gs) k c c in
+      let now : AreShown e b ls c = shown_kept e ls a b c keeps board.ready h in
+      let there : AreShown e b ms d = shows e c h in
+      shown_nodes e b d gs ms after.leaves there is own c (back_declared ms before) (apart_same ms own (back_declared ms before) after.apart) (each_within ms is moved)
+      (back_after e b ls ms before c d same (subst (λ z. AreShown e b z c) (sym (back_saved ls before saved)) now) there (λ i lt away. covers i lt away gs true c c board.leaves))
+
+zero_shows : (gs : List Signal) (ls : List Leaf) (a b : List Node) (i n : ℕ) → IsBoard gs ls a → Keeps a b → i < length ls → ((e : Naming) → number_at e b n ≡ 0) → Shows (taking (name_of gs i ∷ []) (λ y. 0)) ls a (with_node ls i n) b
 zero_shows gs ls a b i n board keeps lt z e c h =
     shown_taking e b (λ y. 0) c gs ls i n board.leaves board.apart lt (shown_kept e ls a b c keeps board.ready h) (sym (z e))
 
@@ -298,34 +376,8 @@ signal_among (h ∷ gs) (suc i) g u l e = inr (signal_among gs i g u (omega arit
 
 -- ---- what runs leave
 
-pub same_leaves : (gs : List Signal) (ls ms : List Leaf) → declared ms ≡ declared ls → AreLeavesOf gs ls → AreLeavesOf gs ms
-same_leaves [] [] [] e h = tt
-same_leaves [] [] (m ∷ ms) e h = cc
-same_leaves [] (l ∷ ls) ms e h = absurd h
-same_leaves (g ∷ gs) [] ms e h = absurd h
-same_leaves (g ∷ gs) (l ∷ ls) [] e h = cc
-same_leaves (g ∷ gs) (l ∷ ls) (m ∷ ms) e h =
-    let k : entry_of m 0 ≡ entry_of l 0 = cc in
-    let t : declared ms ≡ declared ls = cc in (
-      record {
-        name = ap (λ (z : Entry). z.name) k ∙ h.0.name;
-        offset = ap (λ (z : Entry). z.offset) k ∙ h.0.offset;
-        width = ap (λ (z : Entry). z.width) k ∙ h.0.width;
-        low = ap (λ (z : Entry). z.low) k ∙ h.0.low;
-        signed = ap (λ (z : Entry). z.signed) k ∙ h.0.signed;
-        depth = h.0.depth;
-      },
-      same_leaves gs ls ms t h.1,
-    )
-
 pub board_after : (gs : List Signal) (ls ms : List Leaf) (a b : List Node) → IsBoard gs ls a → declared ms ≡ declared ls → AreSet None ms b → IsBoard gs ms b
 board_after gs ls ms a b h e set = record { leaves = same_leaves gs ls ms e h.leaves; ready = set.ready; apart = set.apart }
-
-pub same_long : (ls ms : List Leaf) → declared ms ≡ declared ls → length ms ≡ length ls
-same_long [] [] e = refl
-same_long [] (m ∷ ms) e = cc
-same_long (l ∷ ls) [] e = cc
-same_long (l ∷ ls) (m ∷ ms) e = let t : declared ms ≡ declared ls = cc in ap suc (same_long ls ms t)
 
 pub runs_show : (gs : List Signal) (k : Stmt) (ls ms : List Leaf) (a b : List Node) → IsBoard gs ls a → Runs None (λ hs. run true (place_over hs) k) ls a ms b → Shows (λ c. run true (place_over gs) k c c) ls a ms b
 runs_show gs k ls ms a b h r e c s = r gs e c c h.leaves tt s
@@ -365,121 +417,62 @@ item_among [] i x u l e = absurd (omega arith)
 item_among (y ∷ xs) zero x u l e = inl (sym e)
 item_among (y ∷ xs) (suc i) x u l e = inr (item_among xs i x u (omega arith) e)
 
--- ---- nodes taken and given back
-
-nodes_push : (ls : List Leaf) (l : Leaf) → nodes_of (ls ++ l ∷ []) ≡ nodes_of ls ++ l.node ∷ []
-nodes_push [] l = refl
-nodes_push (x ∷ ls) l = ap (λ r. x.node ∷ r) (nodes_push ls l)
-
-pub nodes_next : (ls : List Leaf) (i : ℕ) (l : Leaf) (is js : List ℕ) → i < length ls → l ≡ get_or ls i l → is ≡ nodes_of (take i ls) → js ≡ is ++ l.node ∷ [] → js ≡ nodes_of (take (i + 1) ls)
-nodes_next ls i l is js lt e h p = p ∙ ap (λ r. r ++ l.node ∷ []) h ∙ sym (nodes_push (take i ls) l) ∙ ap nodes_of (sym (take_next ls i l l lt e))
-
-pub nodes_all : (ls : List Leaf) (i : ℕ) (is : List ℕ) → length ls ≤ i → is ≡ nodes_of (take i ls) → is ≡ nodes_of ls
-nodes_all ls i is le h = h ∙ ap nodes_of (take_all i ls le)
-
-pub with_none : (ls : List Leaf) → ls ≡ with_nodes ls []
-with_none [] = refl
-with_none (l ∷ ls) = refl
-
-pub with_next : (ls ms : List Leaf) (is : List ℕ) (i n : ℕ) → i < length ls → i < length is → n ≡ get_or is i 0 → ms ≡ with_nodes ls (take i is) → with_node ms i n ≡ with_nodes ls (take (i + 1) is)
-with_next ls ms is i n lt in' e h = let k : suc i ≡ i + 1 = omega arith in ap (λ r. with_node r i n) h ∙ next ls is i lt in' e ∙ ap (λ m. with_nodes ls (take m is)) k
-  where
-    next : (ls : List Leaf) (is : List ℕ) (i : ℕ) → i < length ls → i < length is → n ≡ get_or is i 0 → with_node (with_nodes ls (take i is)) i n ≡ with_nodes ls (take (suc i) is)
-    next [] is i lt in' e = absurd (omega arith)
-    next (l ∷ ls) [] i lt in' e = absurd (omega arith)
-    next (l ∷ ls) (k ∷ is) zero lt in' e = ap (λ m. record l { node = m } ∷ ls) e ∙ ap (λ r. record l { node = k } ∷ r) (with_none ls)
-    next (l ∷ ls) (k ∷ is) (suc i) lt in' e = ap (λ r. record l { node = k } ∷ r) (next ls is i (omega arith) (omega arith) e)
-
-pub with_long : (ls : List Leaf) (is : List ℕ) → length (with_nodes ls is) ≡ length ls
-with_long [] is = refl
-with_long (l ∷ ls) [] = refl
-with_long (l ∷ ls) (i ∷ is) = ap suc (with_long ls is)
-
 pub node_long : (ls : List Leaf) (i n : ℕ) → length (with_node ls i n) ≡ length ls
 node_long [] i n = refl
 node_long (l ∷ ls) zero n = refl
 node_long (l ∷ ls) (suc i) n = ap suc (node_long ls i n)
 
-pub node_get : (ls : List Leaf) (i : ℕ) (l : Leaf) → i < length ls → l ≡ get_or ls i l → l.node ≡ node_at ls i
-node_get [] i l lt e = absurd (omega arith)
-node_get (m ∷ ls) zero l lt e = ap (λ (z : Leaf). z.node) e
-node_get (m ∷ ls) (suc i) l lt e = node_get ls i l (omega arith) e
+-- ---- nets that are 0, one after another
 
-pub nodes_long : (ls : List Leaf) → length (nodes_of ls) ≡ length ls
-nodes_long [] = refl
-nodes_long (l ∷ ls) = ap suc (nodes_long ls)
-
--- where a statement has been run, and all leaves but one have their nodes back
-pub driven_board : (gs : List Signal) (ls ms : List Leaf) (a b : List Node) (i : ℕ) → IsBoard gs ls a → IsBoard gs ms b → declared ms ≡ declared ls → Keeps a b → i < length ls
-    → IsBoard gs (with_node ls i (node_at ms i)) b
-driven_board gs ls ms a b i h k same keeps lt = record {
-  leaves = (board_at' gs ls i h.leaves);
-  ready = ready ls ms i same h.ready k.ready lt;
-  apart = apart ls i h.apart;
-}
-  where
-    board_at' : (gs : List Signal) (ls : List Leaf) (i : ℕ) → AreLeavesOf gs ls → AreLeavesOf gs (with_node ls i (node_at ms i))
-    board_at' gs ls i h = leaves gs ls i (node_at ms i) h
-      where
-        leaves : (gs : List Signal) (ls : List Leaf) (i n : ℕ) → AreLeavesOf gs ls → AreLeavesOf gs (with_node ls i n)
-        leaves [] [] i n h = tt
-        leaves [] (m ∷ ls) i n h = absurd h
-        leaves (g ∷ gs) [] i n h = absurd h
-        leaves (g ∷ gs) (m ∷ ls) zero n h = (record { name = h.0.name; offset = h.0.offset; width = h.0.width; low = h.0.low; signed = h.0.signed; depth = h.0.depth }, h.1)
-        leaves (g ∷ gs) (m ∷ ls) (suc i) n h = (h.0, leaves gs ls i n h.1)
-
-    ready : (ls ms : List Leaf) (i : ℕ) → declared ms ≡ declared ls → AreReady ls a → AreReady ms b → i < length ls → AreReady (with_node ls i (node_at ms i)) b
-    ready [] ms i e r q lt = tt
-    ready (l ∷ ls) [] i e r q lt = cc
-    ready (l ∷ ls) (m ∷ ms) zero e r q lt =
-        let w : entry_of m 0 ≡ entry_of l 0 = cc in
-        (r.0, subst (λ n. IsNode b m.node n) (ap (λ (z : Entry). z.width) w) q.1, ready_kept ls a b keeps r.2)
-    ready (l ∷ ls) (m ∷ ms) (suc i) e r q lt =
-        let t : declared ms ≡ declared ls = cc in
-        (r.0, node_kept a b l.node l.width keeps r.1, ready ls ms i t r.2 q.2 (omega arith))
-
-    lacks : (x : Name) (ls : List Leaf) (i n : ℕ) → Lacks x ls → Lacks x (with_node ls i n)
-    lacks x [] i n h = tt
-    lacks x (m ∷ ls) zero n h = h
-    lacks x (m ∷ ls) (suc i) n h = (h.0, lacks x ls i n h.1)
-
-    apart : (ls : List Leaf) (i : ℕ) → AreApart ls → AreApart (with_node ls i (node_at ms i))
-    apart ls i h = all ls i (node_at ms i) h
-      where
-        all : (ls : List Leaf) (i n : ℕ) → AreApart ls → AreApart (with_node ls i n)
-        all [] i n h = tt
-        all (m ∷ ls) zero n h = h
-        all (m ∷ ls) (suc i) n h = (lacks m.name ls i n h.0, all ls i n h.1)
-
--- ---- a net, statement after statement
-
-pub record Settling (f : Flat) (all : List Stmt) (x : Name) (rest : List Stmt) (ls : List Leaf) (a : List Node) (ms : List Leaf) (b : List Node) : Type 0 where
+pub record Clearing (f : Flat) (all rest : List Name) (ls : List Leaf) (a : List Node) (ms : List Leaf) (b : List Node) : Type 0 where
   pub keeps : Keeps a b
   pub board : IsBoard f.signals ms b
   pub long : length ms ≡ length ls
-  pub follows : Follows (settled (flat_place f) all x) (driven (flat_place f) rest x) ls a ms b
+  pub follows : Follows (taking all (λ y. 0)) (taking rest (λ y. 0)) ls a ms b
 
-pub settling_start : (f : Flat) (all : List Stmt) (ls : List Leaf) (a b : List Node) (i n : ℕ) (l : Leaf) → IsBoard f.signals ls a → Keeps a b → i < length ls → l ≡ get_or ls i l → IsNode b n l.width → ((e : Naming) → number_at e b n ≡ 0)
-    → Settling f all (name_of f.signals i) all ls a (with_node ls i n) b
-settling_start f all ls a b i n l h k lt g node z = record {
-  keeps = k;
-  board = board_at f.signals ls a b i n l h k lt g node;
-  long = node_long ls i n;
-  follows = follows_next (settled (flat_place f) all (name_of f.signals i)) (driven (flat_place f) all (name_of f.signals i)) (taking (name_of f.signals i) (λ y. 0)) ls ls (with_node ls i n) a a b
-      (λ e c s. (c, s, refl)) (zero_shows f.signals ls a b i n h k lt z);
+pub clearing_start : (f : Flat) (all : List Name) (ls : List Leaf) (a : List Node) → IsBoard f.signals ls a → Clearing f all all ls a ls a
+clearing_start f all ls a h = record { keeps = keeps_same a; board = h; long = refl; follows = follows_start (taking all (λ y. 0)) ls a }
+
+pub clearing_next : (f : Flat) (all rest : List Name) (i n : ℕ) (l : Leaf) (ls ms : List Leaf) (a b d : List Node) → Clearing f all (name_of f.signals i ∷ rest) ls a ms b → Keeps b d → i < length ms → l ≡ get_or ms i l → IsNode d n l.width
+    → ((e : Naming) → number_at e d n ≡ 0) → Clearing f all rest ls a (with_node ms i n) d
+clearing_next f all rest i n l ls ms a b d h keeps lt at node z =
+    let x = name_of f.signals i in
+    let P : (Cycle → Cycle) → Type 0 = λ g. Follows (taking all (λ y. 0)) g ls a ms b in
+    let split : taking (x ∷ rest) (λ y. 0) ≡ (λ c. taking rest (λ y. 0) (taking (x ∷ []) (λ y. 0) c)) = λ r c. taking_next x rest (λ y. 0) c r in
+    record {
+      keeps = keeps_then a b d h.keeps keeps;
+      board = board_at f.signals ms b d i n l h.board keeps lt at node;
+      long = node_long ms i n ∙ h.long;
+      follows = follows_next (taking all (λ y. 0)) (taking rest (λ y. 0)) (taking (x ∷ []) (λ y. 0)) ls ms (with_node ms i n) a b d (subst P split h.follows) (zero_shows f.signals ms b d i n h.board keeps lt z);
+    }
+
+-- ---- nets, statement after statement
+
+pub record Settling (f : Flat) (all : List Stmt) (xs : List Name) (rest : List Stmt) (ls : List Leaf) (a : List Node) (ms : List Leaf) (b : List Node) : Type 0 where
+  pub keeps : Keeps a b
+  pub board : IsBoard f.signals ms b
+  pub long : length ms ≡ length ls
+  pub follows : Follows (settled (flat_place f) all xs) (driven (flat_place f) rest xs) ls a ms b
+
+pub settling_start : (f : Flat) (all : List Stmt) (xs : List Name) (ls ms : List Leaf) (a b : List Node) → Clearing f xs [] ls a ms b → Settling f all xs all ls a ms b
+settling_start f all xs ls ms a b h = record {
+  keeps = h.keeps;
+  board = h.board;
+  long = h.long;
+  follows = λ e c s. let r = h.follows e c s in (r.0, r.1, ap (driven (flat_place f) all xs) r.2);
 }
 
-pub settling_next : (f : Flat) (all : List Stmt) (x : Name) (k : Stmt) (rest : List Stmt) (ls ms ks : List Leaf) (a b d : List Node) → Settling f all x (k ∷ rest) ls a ms b → Keeps b d → length ks ≡ length ms → IsBoard f.signals ks d
-    → Shows (λ c. taking x (run true (flat_place f) k c c) c) ms b ks d → Settling f all x rest ls a ks d
-settling_next f all x k rest ls ms ks a b d h keeps long board shows = record {
+pub settling_next : (f : Flat) (all : List Stmt) (xs : List Name) (k : Stmt) (rest : List Stmt) (ls ms ks : List Leaf) (a b d : List Node) → Settling f all xs (k ∷ rest) ls a ms b → Keeps b d → length ks ≡ length ms → IsBoard f.signals ks d
+    → Shows (λ c. taking xs (run true (flat_place f) k c c) c) ms b ks d → Settling f all xs rest ls a ks d
+settling_next f all xs k rest ls ms ks a b d h keeps long board shows = record {
   keeps = keeps_then a b d h.keeps keeps;
   board = board;
   long = long ∙ h.long;
-  follows = follows_next (settled (flat_place f) all x) (driven (flat_place f) rest x) (λ c. taking x (run true (flat_place f) k c c) c) ls ms ks a b d h.follows shows;
+  follows = follows_next (settled (flat_place f) all xs) (driven (flat_place f) rest xs) (λ c. taking xs (run true (flat_place f) k c c) c) ls ms ks a b d h.follows shows;
 }
 
-pub settling_end : (f : Flat) (all : List Stmt) (x : Name) (ls ms : List Leaf) (a b : List Node) → Settling f all x [] ls a ms b → Shows (settled (flat_place f) all x) ls a ms b
-settling_end f all x ls ms a b h = follows_end (settled (flat_place f) all x) ls ms a b h.follows
+pub settling_end : (f : Flat) (all : List Stmt) (xs : List Name) (ls ms : List Leaf) (a b : List Node) → Settling f all xs [] ls a ms b → Shows (settled (flat_place f) all xs) ls a ms b
+settling_end f all xs ls ms a b h = follows_end (settled (flat_place f) all xs) ls ms a b h.follows
 
 -- what is left of a list of places
 pub picked_at : (ks : List Stmt) (is : List ℕ) (i n u : ℕ) → i < length is → n ≡ get_or is i u → picked ks (drop i is) ≡ statement_at ks n ∷ picked ks (drop (i + 1) is)
@@ -500,11 +493,6 @@ pub leaf_wide : (ls : List Leaf) (ns : List Node) (i : ℕ) (l : Leaf) → AreRe
 leaf_wide [] ns i l r lt e = absurd (omega arith)
 leaf_wide (m ∷ ls) ns zero l r lt e = subst (λ (z : Leaf). IsLength z.width) (sym e) r.0
 leaf_wide (m ∷ ls) ns (suc i) l r lt e = leaf_wide ls ns i l r.2 (omega arith) e
-
-pub number_among : (is : List ℕ) (i u : ℕ) → i < length is → Among is (get_or is i u)
-number_among [] i u l = absurd (omega arith)
-number_among (n ∷ is) zero u l = inl refl
-number_among (n ∷ is) (suc i) u l = inr (number_among is i u (omega arith))
 
 -- ---- all nets
 
@@ -534,26 +522,55 @@ list_get [] i u l = absurd (omega arith)
 list_get (v ∷ vs) zero u l = refl
 list_get (v ∷ vs) (suc i) u l = list_get vs i u (omega arith)
 
-pub record Solving (f : Flat) (all rest : List Name) (ls : List Leaf) (a : List Node) (ms : List Leaf) (b : List Node) : Type 0 where
+pub list_first : (vs : List (Vec ℕ Global)) (is : List ℕ) → 0 < length is → list_at vs (get_or is 0 0) ≡ list_in vs is
+list_first vs [] l = absurd (omega arith)
+list_first vs (i ∷ is) l = refl
+
+-- the places of the statements that assign a group
+pub places_in : (f : Flat) (gs : List Signal) (vs : List (Vec ℕ Global)) (is : List ℕ) → ArePlacesOf f gs vs → ((i : ℕ) → Among is i → i < length vs)
+    → ((k : ℕ) → Among (list_in vs is) k → k < length (statements f)) × (picked (statements f) (list_in vs is) ≡ drivers_in (processes f) (names_of gs is))
+places_in f gs vs [] h w = (λ k m. absurd m, refl)
+places_in f gs vs (i ∷ is) h w = places_at f gs vs i h (w i (inl refl))
+
+pub record Solving (f : Flat) (all rest : List (List Name)) (ls : List Leaf) (a : List Node) (ms : List Leaf) (b : List Node) : Type 0 where
   pub keeps : Keeps a b
   pub board : IsBoard f.signals ms b
   pub follows : Follows (solved (flat_place f) (processes f) all) (solved (flat_place f) (processes f) rest) ls a ms b
 
-pub solving_start : (f : Flat) (all : List Name) (ls : List Leaf) (a : List Node) → IsBoard f.signals ls a → Solving f all all ls a ls a
+pub solving_start : (f : Flat) (all : List (List Name)) (ls : List Leaf) (a : List Node) → IsBoard f.signals ls a → Solving f all all ls a ls a
 solving_start f all ls a h = record { keeps = keeps_same a; board = h; follows = follows_start (solved (flat_place f) (processes f) all) ls a }
 
-pub solving_next : (f : Flat) (all : List Name) (x : Name) (rest : List Name) (js : List Stmt) (ls ms ks : List Leaf) (a b d : List Node) → Solving f all (x ∷ rest) ls a ms b → Keeps b d → IsBoard f.signals ks d → js ≡ drivers_of (processes f) x
-    → Shows (settled (flat_place f) js x) ms b ks d → Solving f all rest ls a ks d
-solving_next f all x rest js ls ms ks a b d h keeps board e shows =
-    let P : List Stmt → Type 0 = λ z. Shows (settled (flat_place f) z x) ms b ks d in
+pub solving_next : (f : Flat) (all : List (List Name)) (xs : List Name) (rest : List (List Name)) (js : List Stmt) (ls ms ks : List Leaf) (a b d : List Node) → Solving f all (xs ∷ rest) ls a ms b → Keeps b d → IsBoard f.signals ks d
+    → js ≡ drivers_in (processes f) xs → Shows (settled (flat_place f) js xs) ms b ks d → Solving f all rest ls a ks d
+solving_next f all xs rest js ls ms ks a b d h keeps board e shows =
+    let P : List Stmt → Type 0 = λ z. Shows (settled (flat_place f) z xs) ms b ks d in
     record {
       keeps = keeps_then a b d h.keeps keeps;
       board = board;
-      follows = follows_next (solved (flat_place f) (processes f) all) (solved (flat_place f) (processes f) rest) (settled (flat_place f) (drivers_of (processes f) x) x) ls ms ks a b d h.follows (subst P e shows);
+      follows = follows_next (solved (flat_place f) (processes f) all) (solved (flat_place f) (processes f) rest) (settled (flat_place f) (drivers_in (processes f) xs) xs) ls ms ks a b d h.follows (subst P e shows);
     }
 
-pub solving_end : (f : Flat) (all : List Name) (ls ms : List Leaf) (a b : List Node) → Solving f all [] ls a ms b → Shows (solved (flat_place f) (processes f) all) ls a ms b
+pub solving_end : (f : Flat) (all : List (List Name)) (ls ms : List Leaf) (a b : List Node) → Solving f all [] ls a ms b → Shows (solved (flat_place f) (processes f) all) ls a ms b
 solving_end f all ls ms a b h = follows_end (solved (flat_place f) (processes f) all) ls ms a b h.follows
+
+pub group_at : (vs : List (Vec ℕ Global)) (i : ℕ) (v u : Vec ℕ Global) → i < length vs → v ≡ get_or vs i u → Among vs v
+group_at [] i v u lt e = absurd (omega arith)
+group_at (w ∷ vs) zero v u lt e = inl (sym e)
+group_at (w ∷ vs) (suc i) v u lt e = inr (group_at vs i v u (omega arith) e)
+
+pub groups_at : (gs : List Signal) (vs : List (Vec ℕ Global)) (i : ℕ) (v u : Vec ℕ Global) → i < length vs → v ≡ get_or vs i u → groups_of gs (drop i vs) ≡ names_of gs v.items ∷ groups_of gs (drop (i + 1) vs)
+groups_at gs vs i v u lt e = let k : i + 1 ≡ suc i = omega arith in next vs i lt e ∙ ap (λ z. names_of gs v.items ∷ groups_of gs (drop z vs)) (sym k)
+  where
+    next : (vs : List (Vec ℕ Global)) (i : ℕ) → i < length vs → v ≡ get_or vs i u → groups_of gs (drop i vs) ≡ names_of gs v.items ∷ groups_of gs (drop (suc i) vs)
+    next [] i lt e = absurd (omega arith)
+    next (w ∷ vs) zero lt e = ap (λ (z : Vec ℕ Global). names_of gs z.items ∷ groups_of gs vs) (sym e)
+    next (w ∷ vs) (suc i) lt e = next vs i (omega arith) e
+
+pub groups_all : (gs : List Signal) (vs : List (Vec ℕ Global)) (i : ℕ) → length vs ≤ i → groups_of gs (drop i vs) ≡ []
+groups_all gs [] zero l = refl
+groups_all gs [] (suc i) l = refl
+groups_all gs (v ∷ vs) zero l = absurd (omega arith)
+groups_all gs (v ∷ vs) (suc i) l = groups_all gs vs i (omega arith)
 
 pub names_at : (gs : List Signal) (is : List ℕ) (i n u : ℕ) → i < length is → n ≡ get_or is i u → names_of gs (drop i is) ≡ name_of gs n ∷ names_of gs (drop (i + 1) is)
 names_at gs is i n u lt e = let k : i + 1 ≡ suc i = omega arith in next is i lt e ∙ ap (λ z. name_of gs n ∷ names_of gs (drop z is)) (sym k)

@@ -1,5 +1,5 @@
 -- The cycles of a module are those that its nets are solved to, and what follows is what its clocked blocks leave.
-use Rattle.std.proofs.Common.{◌≡◌, ◌≢◌, ℕ, ◌^◌, ◌<◌, ◌≤◌, Bool, true, false, List, [], ◌∷◌, ◌++◌, refl, sym, ap, ◌∙◌, subst, ◌⊎◌, inl, inr, ⊎_elim, map}
+use Rattle.std.proofs.Common.{◌≡◌, ℕ, ◌^◌, ◌<◌, ◌≤◌, Bool, true, false, List, [], ◌∷◌, ◌++◌, refl, sym, ap, ◌∙◌, subst, ◌⊎◌, inl, inr, ⊎_elim, map}
 use Rattle.std.specs.Prelude.{if◌then◌else◌}
 use Rattle.std.specs.Int.{bit_at}
 use Rattle.std.proofs.lemmas.Bool.{eq-eqb}
@@ -17,8 +17,8 @@ use Rattle.vlog_runs.specs.Blocks.{run, lefts, left_names, row_names, Drives, An
 use Rattle.vlog_runs.specs.Cycles.{flat_place, IsRegister, IsInput, IsDriven, DrivesFull, IsCycle, Follows}
 use Rattle.flat_laws.proofs.Lists.{among_append, append_left, append_right, among_map, map_among, flat_among}
 use Rattle.flow_laws.specs.Laws.{AreFit}
-use Rattle.elab_step.specs.Solving.{bodies, clocked, processes, assigned_by, after_edge, solved, ArePlain, IsNet, IsNetOrder}
-use Rattle.elab_step.proofs.Solving.{DrivesBit, AreApart, Meets, stable, named_or, AreProcesses, solved_only, solved_meets}
+use Rattle.elab_step.specs.Solving.{bodies, clocked, processes, assigned_by, after_edge, solved, joined, AreGroups, ArePlain, IsNet, IsNetOrder}
+use Rattle.elab_step.proofs.Solving.{DrivesBit, AreApart, Meets, stable, among_or, AreProcesses, solved_only, solved_meets}
 use Rattle.elab_step.proofs.Fitting.{less_or}
 
 -- ---- what drives a bit of a name names it
@@ -40,10 +40,6 @@ mutual
 
 pub drives_assigned : (p : Place) (k : Stmt) (x : Name) (b : ℕ) → DrivesBit p k x b → Among (assigned_by k) x
 drives_assigned p k x b h = flat_among left_names (lefts k) h.0 x h.1 (drives_name p h.0 x b h.2)
-
-pub among_or : (xs : List Name) (x : Name) → Among xs x ⊎ (Among xs x → ⊥)
-among_or [] x = inr (λ n. n)
-among_or (y ∷ xs) x = ⊎_elim (λ e. inl (inl e)) (λ (n : y ≢ x). ⊎_elim (λ m. inl (inr m)) (λ k. inr (λ h. ⊎_elim n k h)) (among_or xs x)) (named_or y x)
 
 -- ---- the statements of a module
 
@@ -205,20 +201,22 @@ module _ (f : Flat) (depends : Name → Name → Type 0) (width : Name → ℕ) 
           (λ l. bit_at_above (c g.name) g.width b (fits g m) l) (less_or b g.width)
 
   -- the cycles are those that nets are solved to
-  pub cycle_solved : (xs : List Name) (start c : Cycle) → IsNetOrder f depends xs → AreFit f.signals start → ((z : Name) → (Among xs z → ⊥) → start z ≡ c z) → IsCycle f c → (z : Name) → solved (flat_place f) (processes f) xs start z ≡ c z
-  cycle_solved xs start c o fits agree h =
-      solved_only (flat_place f) f.signals (processes f) (IsNet f) depends width can.laws xs start c o.order o.nets fits (λ g m. h.fits g g m (holds_itself f.signals g can.plain m)) agree
+  pub cycle_solved : (xss : List (List Name)) (start c : Cycle) → IsNetOrder f depends (joined xss) → AreGroups (processes f) depends xss → AreFit f.signals start → ((z : Name) → (Among (joined xss) z → ⊥) → start z ≡ c z) → IsCycle f c
+      → (z : Name) → solved (flat_place f) (processes f) xss start z ≡ c z
+  cycle_solved xss start c o groups fits agree h =
+      solved_only (flat_place f) f.signals (processes f) (IsNet f) depends width can.laws xss start c o.order groups o.nets fits (λ g m. h.fits g g m (holds_itself f.signals g can.plain m)) agree
       (λ x m. cycle_meets c h x (o.nets x m))
 
-  pub solved_cycle : (xs : List Name) (start c : Cycle) → IsNetOrder f depends xs → AreFit f.signals start → AreFit f.signals c → ((z : Name) → solved (flat_place f) (processes f) xs start z ≡ c z) → IsCycle f c
-  solved_cycle xs start c o fs fc h =
+  pub solved_cycle : (xss : List (List Name)) (start c : Cycle) → IsNetOrder f depends (joined xss) → AreGroups (processes f) depends xss → AreFit f.signals start → AreFit f.signals c
+      → ((z : Name) → solved (flat_place f) (processes f) xss start z ≡ c z) → IsCycle f c
+  solved_cycle xss start c o groups fs fc h =
       meets_cycle c fc
-      (λ x is. solved_meets (flat_place f) f.signals (processes f) (IsNet f) depends width can.laws xs start c o.order o.nets fs fc h x (listed_net x is))
+      (λ x is. solved_meets (flat_place f) f.signals (processes f) (IsNet f) depends width can.laws xss start c o.order groups o.nets fs fc h x (listed_net x is))
       (λ g m. ⊎_elim (λ n. inl (o.nets g.name n)) (λ n. inr n) (o.others g m))
     where
-      listed_net : (x : Name) → IsNet f x → Among xs x
+      listed_net : (x : Name) → IsNet f x → Among (joined xss) x
       listed_net x is =
-          ⊎_elim (λ m. subst (λ y. Among xs y) is.named m)
+          ⊎_elim (λ m. subst (λ y. Among (joined xss) y) is.named m)
           (λ n. absurd (⊎_elim (λ r. is.no_register (subst (λ y. IsRegister f y) is.named r)) (λ r. is.no_input (subst (λ y. IsInput f y) is.named r)) n))
           (o.others is.signal is.is_declared)
 

@@ -5,7 +5,6 @@ pub mod Drivers
 pub mod Elaborating
 pub mod Texts
 pub mod Boards
-pub mod Alone
 pub mod Runs
 pub mod Edges
 pub mod Solutions

@@ -1,5 +1,5 @@
 -- A design whose nets are solved has the runs of its module.
-use Rattle.std.proofs.Common.{◌≡◌, ℕ, ◌^◌, ◌<◌, true, false, List, [], ◌∷◌, refl, sym, ap, ◌∙◌, subst, inl, inr, ⊎_elim}
+use Rattle.std.proofs.Common.{◌≡◌, ℕ, ◌^◌, ◌<◌, true, false, List, refl, sym, ap, ◌∙◌, subst, ⊎_elim}
 use Rattle.word_core.specs.Words.{Bits}
 use Rattle.vlog_runs.specs.declared.flat.Flat.{Flat}
 use Rattle.vlog_runs.specs.declared.flat.Signal.{Signal}
@@ -11,15 +11,11 @@ use Rattle.word_design.specs.Designs.{Parts, naming_of, IsCycleOf, HasRunsOf}
 use Rattle.elab_node.specs.Nodes.{number_at}
 use Rattle.elab_node.proofs.Kept.{word_is, number_fits}
 use Rattle.flow_laws.specs.Laws.{AreFit}
-use Rattle.elab_step.specs.Solving.{clocked, processes, after_edge, solved, IsNet, IsNetOrder}
+use Rattle.elab_step.specs.Solving.{clocked, processes, after_edge, solved, joined, AreGroups, IsNet, IsNetOrder}
 use Rattle.elab_step.specs.Boards.{unset, IsSolved}
-use Rattle.elab_step.proofs.Solving.{bool_cases, other_name, solved_other}
+use Rattle.elab_step.proofs.Solving.{bool_cases, among_or, among_false, solved_other}
 use Rattle.elab_step.proofs.Fitting.{positive}
-use Rattle.elab_step.proofs.Cycles.{IsSolvable, AreClocked, among_or, holds_itself, cycle_solved, solved_cycle, follows_edge, edge_follows}
-
-among_false : (xs : List Name) (x : Name) → (Among xs x → ⊥) → is_among xs x ≡ false
-among_false [] x n = refl
-among_false (y ∷ xs) x n = rw (other_name y x (λ e. n (inl e))) (among_false xs x (λ m. n (inr m)))
+use Rattle.elab_step.proofs.Cycles.{IsSolvable, AreClocked, holds_itself, cycle_solved, solved_cycle, follows_edge, edge_follows}
 
 unset_other : (xs : List Name) (c : Cycle) (z : Name) → (Among xs z → ⊥) → unset xs c z ≡ c z
 unset_other xs c z n = rw (among_false xs z n) refl
@@ -28,16 +24,16 @@ unset_fits : (gs : List Signal) (xs : List Name) (c : Cycle) → AreFit gs c →
 unset_fits gs xs c h g m =
     ⊎_elim (λ (e : is_among xs g.name ≡ true). rw e (positive g.width)) (λ (e : is_among xs g.name ≡ false). rw e (h g m)) (bool_cases (is_among xs g.name))
 
-module _ (f : Flat) (depends : Name → Name → Type 0) (width : Name → ℕ) (can : IsSolvable f depends width) (edge : AreClocked f) (xs : List Name) (order : IsNetOrder f depends xs) (d : Parts) (is : IsSolved f xs d) where
+module _ (f : Flat) (depends : Name → Name → Type 0) (width : Name → ℕ) (can : IsSolvable f depends width) (edge : AreClocked f) (xss : List (List Name)) (order : IsNetOrder f depends (joined xss)) (groups : AreGroups (processes f) depends xss) (d : Parts) (is : IsSolved f xss d) where
   abbrev all_solved : Cycle → Cycle
-  all_solved c = solved (flat_place f) (processes f) xs (unset xs c)
+  all_solved c = solved (flat_place f) (processes f) xss (unset (joined xss) c)
 
   cycle_fits : (c : Cycle) → IsCycle f c → AreFit f.signals c
   cycle_fits c h g m = h.fits g g m (holds_itself f.signals g can.plain m)
 
   -- in a cycle the nets are solved to it
   settles : (c : Cycle) → IsCycle f c → (z : Name) → all_solved c z ≡ c z
-  settles c h = cycle_solved f depends width can xs (unset xs c) c order (unset_fits f.signals xs c (cycle_fits c h)) (unset_other xs c) h
+  settles c h = cycle_solved f depends width can xss (unset (joined xss) c) c order groups (unset_fits f.signals (joined xss) c (cycle_fits c h)) (unset_other (joined xss) c) h
 
   to_cycle : (c : Cycle) → IsCycle f c → IsCycleOf d c
   to_cycle c h n m =
@@ -56,7 +52,7 @@ module _ (f : Flat) (depends : Name → Name → Type 0) (width : Name → ℕ) 
   of_solved : (c : Cycle) → IsCycleOf d c → (z : Name) → all_solved c z ≡ c z
   of_solved c h z =
       ⊎_elim (λ m. let s = order.nets z m in subst (λ y. all_solved c y ≡ c y) s.named (one s.signal s.is_declared))
-      (λ n. solved_other (flat_place f) f.signals (processes f) (IsNet f) depends width can.laws xs (unset xs c) z n ∙ unset_other xs c z n) (among_or xs z)
+      (λ n. solved_other (flat_place f) f.signals (processes f) (IsNet f) depends width can.laws xss (unset (joined xss) c) z n ∙ unset_other (joined xss) c z n) (among_or (joined xss) z)
     where
       one : (g : Signal) → Among f.signals g → all_solved c g.name ≡ c g.name
       one g m =
@@ -66,7 +62,7 @@ module _ (f : Flat) (depends : Name → Name → Type 0) (width : Name → ℕ) 
           ap (all_solved c) (sym r.2 ∙ n.2) ∙ sym (n.5 c (of_fits c h)) ∙ e ∙ ap c r.2
 
   from_cycle : (c : Cycle) → IsCycleOf d c → IsCycle f c
-  from_cycle c h = solved_cycle f depends width can xs (unset xs c) c order (unset_fits f.signals xs c (of_fits c h)) (of_fits c h) (of_solved c h)
+  from_cycle c h = solved_cycle f depends width can xss (unset (joined xss) c) c order groups (unset_fits f.signals (joined xss) c (of_fits c h)) (of_fits c h) (of_solved c h)
 
   next_is : (c : Cycle) → IsCycle f c → (r : Register) → Among d.registers r → number_at (naming_of c) d.nodes r.next ≡ after_edge (flat_place f) (clocked f.blocks) c c r.name
   next_is c h r m =

@@ -15,11 +15,12 @@ use Rattle.elab_node.specs.declared.leaves.Leaf.{Leaf}
 use Rattle.elab_node.specs.Leaves.{AreReady}
 use Rattle.elab_node.specs.Nodes.{AddsFrees, number_at}
 use Rattle.elab_node.proofs.Kept.{number_kept, ready_kept, keeps_then}
+use Rattle.elab_block.specs.Saving.{node_at}
 use Rattle.elab_block.specs.Standing.{AreLeavesOf, AreShown}
 use Rattle.elab_block.specs.Runs.{AreSet}
 use Rattle.flow_laws.specs.Laws.{AreFit}
-use Rattle.elab_step.specs.Solving.{clocked, processes, after_edge, solved}
-use Rattle.elab_step.specs.Boards.{IsBoard, AreBegun, IsFreeOf, Shows, ShowsEdge, IsSolution, node_at, name_of, unset}
+use Rattle.elab_step.specs.Solving.{clocked, processes, after_edge, solved, joined}
+use Rattle.elab_step.specs.Boards.{IsBoard, AreBegun, IsFreeOf, Shows, ShowsEdge, IsSolution, name_of, unset}
 use Rattle.elab_step.proofs.Boards.{shown_kept, shown_at, begun_grown, leaves_long}
 
 shown_before : (e : Naming) (ls : List Leaf) (a b : List Node) (c : Cycle) → Keeps a b → AreReady ls a → AreShown e b ls c → AreShown e a ls c
@@ -29,11 +30,11 @@ shown_before e (l ∷ ls) a b c k r h = (h.0 ∙ number_kept e a b l.node l.widt
 board_kept : (gs : List Signal) (ls : List Leaf) (a b : List Node) → Keeps a b → IsBoard gs ls a → IsBoard gs ls b
 board_kept gs ls a b k h = record { leaves = h.leaves; ready = ready_kept ls a b k h.ready; apart = h.apart }
 
-pub solution : (f : Flat) (xs : List Name) (ts : List Bool) (a b d : List Node) (first start now next : List Leaf) → IsBoard f.signals first a → AreBegun a f.signals ts first → AddsFrees (IsFreeOf f.signals ts) [] a → start ≡ first → Keeps a b → IsBoard f.signals now b
-    → Shows (solved (flat_place f) (processes f) xs) start a now b → Keeps b d → AreSet (Some now) next d → ShowsEdge f now b next d → IsSolution f xs ts d first now next
-solution f xs ts a b d first start now next board begun frees e k nb shows m set edge =
+pub solution : (f : Flat) (xss : List (List Name)) (ts : List Bool) (a b d : List Node) (first start now next : List Leaf) → IsBoard f.signals first a → AreBegun a f.signals ts first → AddsFrees (IsFreeOf f.signals ts) [] a → start ≡ first → Keeps a b → IsBoard f.signals now b
+    → Shows (solved (flat_place f) (processes f) xss) start a now b → Keeps b d → AreSet (Some now) next d → ShowsEdge f now b next d → IsSolution f xss ts d first now next
+solution f xss ts a b d first start now next board begun frees e k nb shows m set edge =
     let km = keeps_then a b d k m in
-    let P : List Leaf → Type 0 = λ z. Shows (solved (flat_place f) (processes f) xs) z a now b in
+    let P : List Leaf → Type 0 = λ z. Shows (solved (flat_place f) (processes f) xss) z a now b in
     let sh = subst P e shows in
     record {
       first_board = board_kept f.signals first a d km board;
@@ -41,7 +42,7 @@ solution f xs ts a b d first start now next board begun frees e k nb shows m set
       frees = λ n i free at. elim (frees n i free (km.frees n i free at)) [ inl none ↦ absurd (omega (arith, none.0)) | inr g ↦ g ];
       board = board_kept f.signals now b d m nb;
       set = set;
-      shows = λ e c s. shown_kept e now b d (solved (flat_place f) (processes f) xs c) m nb.ready (sh e c (shown_before e first a d c km board.ready s));
+      shows = λ e c s. shown_kept e now b d (solved (flat_place f) (processes f) xss c) m nb.ready (sh e c (shown_before e first a d c km board.ready s));
       edge = λ e c s. edge e c (shown_before e now b d c m nb.ready s);
     }
 
@@ -67,12 +68,12 @@ begun_shown ns xs c (g ∷ gs) (false ∷ ts) (l ∷ ls) f h fits = (
   begun_shown ns xs c gs ts ls f.1 h.2 (λ k m. fits k (inr m)),
 )
 
-module _ (f : Flat) (xs : List Name) (ts : List Bool) (ns : List Node) (first now next : List Leaf) (is : IsSolution f xs ts ns first now next) (flags : AreFlags xs f.signals ts) (c : Cycle) (fits : AreFit f.signals c) where
+module _ (f : Flat) (xss : List (List Name)) (ts : List Bool) (ns : List Node) (first now next : List Leaf) (is : IsSolution f xss ts ns first now next) (flags : AreFlags (joined xss) f.signals ts) (c : Cycle) (fits : AreFit f.signals c) where
   abbrev solved_to : Cycle
-  solved_to = solved (flat_place f) (processes f) xs (unset xs c)
+  solved_to = solved (flat_place f) (processes f) xss (unset (joined xss) c)
 
   now_shown : AreShown (naming_of c) ns now solved_to
-  now_shown = is.shows (naming_of c) (unset xs c) (begun_shown ns xs c f.signals ts first flags is.begun fits)
+  now_shown = is.shows (naming_of c) (unset (joined xss) c) (begun_shown ns (joined xss) c f.signals ts first flags is.begun fits)
 
   -- the node of a signal has the value that it is solved to
   pub net_number : (i : ℕ) → i < length f.signals → number_at (naming_of c) ns (node_at now i) ≡ solved_to (name_of f.signals i)

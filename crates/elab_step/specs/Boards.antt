@@ -23,7 +23,7 @@ use Rattle.elab_node.specs.Nodes.{IsNode, number_at}
 use Rattle.elab_block.specs.Standing.{IsLeafOf, AreLeavesOf, AreApart, AreShown}
 use Rattle.elab_block.specs.Runs.{AreSet}
 use Rattle.flow_laws.specs.Laws.{AreFit}
-use Rattle.elab_step.specs.Solving.{clocked, processes, drivers_of, after_edge, solved}
+use Rattle.elab_step.specs.Solving.{clocked, processes, drivers_of, after_edge, solved, joined}
 
 -- a leaf for each signal, in their order, each with a node of its length
 pub record IsBoard (gs : List Signal) (ls : List Leaf) (ns : List Node) : Type 0 where
@@ -46,12 +46,6 @@ statement_at (k ∷ ks) (suc i) = statement_at ks i
 
 abbrev pub picked : List Stmt → List ℕ → List Stmt
 picked ks is = map (statement_at ks) is
-
--- the node of a leaf
-abbrev pub node_at : List Leaf → ℕ → ℕ
-node_at [] i = 0
-node_at (l ∷ ls) zero = l.node
-node_at (l ∷ ls) (suc i) = node_at ls i
 
 -- the name of a signal
 abbrev pub name_of : List Signal → ℕ → Name
@@ -89,18 +83,26 @@ IsFreeOf (g ∷ gs) (false ∷ ts) n = (n ≡ free g.name g.width) ⊎ IsFreeOf 
 abbrev pub unset : List Name → Cycle → Cycle
 unset xs c z = if is_among xs z then 0 else c z
 
--- the nets of a design have the values that they are solved to, and the registers next what the clocked blocks leave
-pub record IsSolved (f : Flat) (xs : List Name) (d : Parts) : Type 0 where
+-- the nets of a design have the values that groups of them are solved to, and the registers next what the clocked blocks leave
+pub record IsSolved (f : Flat) (xss : List (List Name)) (d : Parts) : Type 0 where
   pub fit : FitFrom [] d.nodes
   pub net : (n : Net) → Among d.nets n → (g : Signal) × Among f.signals g × (n.name ≡ g.name) × (n.width ≡ g.width) × IsNode d.nodes n.node n.width
-      × ((c : Cycle) → AreFit f.signals c → number_at (naming_of c) d.nodes n.node ≡ solved (flat_place f) (processes f) xs (unset xs c) g.name)
+      × ((c : Cycle) → AreFit f.signals c → number_at (naming_of c) d.nodes n.node ≡ solved (flat_place f) (processes f) xss (unset (joined xss) c) g.name)
   pub each_net : (g : Signal) → Among f.signals g → (n : Net) × Among d.nets n × (n.name ≡ g.name) × (n.width ≡ g.width)
   pub register : (r : Register) → Among d.registers r → IsRegister f r.name × IsNode d.nodes r.next r.width
-      × ((c : Cycle) → AreFit f.signals c → let now = solved (flat_place f) (processes f) xs (unset xs c) in number_at (naming_of c) d.nodes r.next ≡ after_edge (flat_place f) (clocked f.blocks) now now r.name)
+      × ((c : Cycle) → AreFit f.signals c → let now = solved (flat_place f) (processes f) xss (unset (joined xss) c) in number_at (naming_of c) d.nodes r.next ≡ after_edge (flat_place f) (clocked f.blocks) now now r.name)
   pub each_register : (x : Name) → IsRegister f x → (r : Register) × Among d.registers r × (r.name ≡ x)
 
 abbrev pub names_of : List Signal → List ℕ → List Name
 names_of gs is = map (name_of gs) is
+
+-- groups of places below a number
+abbrev pub AreBelow : ℕ → List (Vec ℕ Global) → Type 0
+AreBelow n vs = (v : Vec ℕ Global) (i : ℕ) → Among vs v → Among v.items i → i < n
+
+-- the names of groups of places
+abbrev pub groups_of : List Signal → List (Vec ℕ Global) → List (List Name)
+groups_of gs vs = map (λ (v : Vec ℕ Global). names_of gs v.items) vs
 
 -- the list of this place
 abbrev pub list_at : List (Vec ℕ Global) → ℕ → List ℕ
@@ -108,16 +110,21 @@ list_at [] i = []
 list_at (v ∷ vs) zero = v.items
 list_at (v ∷ vs) (suc i) = list_at vs i
 
+-- the list of the first one of a group of places
+abbrev pub list_in : List (Vec ℕ Global) → List ℕ → List ℕ
+list_in vs [] = []
+list_in vs (i ∷ is) = list_at vs i
+
 -- the later leaves show what the clocked blocks make of the cycle that the earlier ones show
 abbrev pub ShowsEdge : Flat → List Leaf → List Node → List Leaf → List Node → Type 0
 ShowsEdge f ls a ms b = (e : Naming) (c : Cycle) → AreShown e a ls c → AreShown e b ms (after_edge (flat_place f) (clocked f.blocks) c c)
 
 -- leaves as they are begun, in the cycle that they are solved to, and after the edge that ends it
-pub record IsSolution (f : Flat) (xs : List Name) (nets : List Bool) (ns : List Node) (first now next : List Leaf) : Type 0 where
+pub record IsSolution (f : Flat) (xss : List (List Name)) (nets : List Bool) (ns : List Node) (first now next : List Leaf) : Type 0 where
   pub first_board : IsBoard f.signals first ns
   pub begun : AreBegun ns f.signals nets first
   pub frees : (n : Node) (i : ℕ) → is_free n ≡ true → IsAt ns i n → IsFreeOf f.signals nets n
   pub board : IsBoard f.signals now ns
   pub set : AreSet (Some now) next ns
-  pub shows : (e : Naming) (c : Cycle) → AreShown e ns first c → AreShown e ns now (solved (flat_place f) (processes f) xs c)
+  pub shows : (e : Naming) (c : Cycle) → AreShown e ns first c → AreShown e ns now (solved (flat_place f) (processes f) xss c)
   pub edge : (e : Naming) (c : Cycle) → AreShown e ns now c → AreShown e ns next (after_edge (flat_place f) (clocked f.blocks) c c)

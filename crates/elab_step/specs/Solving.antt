@@ -1,7 +1,6 @@
--- A module without instances, solved one net after another (IEEE 1364-2005, sections 6.1 and 9.2).
+-- A module without instances, solved one group of nets after another (IEEE 1364-2005, sections 6.1 and 9.2).
 use Rattle.std.specs.Prelude.{◌≡◌, ◌⊎◌, true, false, List, [], ◌∷◌, ◌++◌, map, if◌then◌else◌}
 use Rattle.std.specs.List.{flat_map}
-use Rattle.std.specs.Str.{bytes_eq}
 use Rattle.vlog_tree.specs.declared.item.Assign.{Assign}
 use Rattle.vlog_tree.specs.declared.stmt.Stmt.{Stmt}
 use Rattle.vlog_tree.specs.declared.stmt.Stmt.TheVariants as s
@@ -36,23 +35,42 @@ abbrev pub drivers_of : List Stmt → Name → List Stmt
 drivers_of [] x = []
 drivers_of (k ∷ ks) x = if is_among (assigned_by k) x then k ∷ drivers_of ks x else drivers_of ks x
 
--- a cycle, with another one's value of a name
-abbrev pub taking : Name → Cycle → Cycle → Cycle
-taking x d c y = if bytes_eq x y then d y else c y
+-- a cycle, with another one's values of some names
+abbrev pub taking : List Name → Cycle → Cycle → Cycle
+taking xs d c y = if is_among xs y then d y else c y
 
--- a cycle in which x has in turn what each statement makes of it
-abbrev pub driven : Place → List Stmt → Name → Cycle → Cycle
-driven p [] x c = c
-driven p (k ∷ ks) x c = driven p ks x (taking x (run true p k c c) c)
+-- a cycle in which these names have in turn what each statement makes of them
+abbrev pub driven : Place → List Stmt → List Name → Cycle → Cycle
+driven p [] xs c = c
+driven p (k ∷ ks) xs c = driven p ks xs (taking xs (run true p k c c) c)
 
 -- the same from 0 on
-abbrev pub settled : Place → List Stmt → Name → Cycle → Cycle
-settled p ks x c = driven p ks x (taking x (λ y. 0) c)
+abbrev pub settled : Place → List Stmt → List Name → Cycle → Cycle
+settled p ks xs c = driven p ks xs (taking xs (λ y. 0) c)
 
--- nets one after another, each by the statements that assign it
-abbrev pub solved : Place → List Stmt → List Name → Cycle → Cycle
+-- those that assign the first one of a group of names
+abbrev pub drivers_in : List Stmt → List Name → List Stmt
+drivers_in ks [] = []
+drivers_in ks (x ∷ xs) = drivers_of ks x
+
+-- groups of nets one after another, each by the statements that assign it
+abbrev pub solved : Place → List Stmt → List (List Name) → Cycle → Cycle
 solved p ks [] c = c
-solved p ks (x ∷ xs) c = solved p ks xs (settled p (drivers_of ks x) x c)
+solved p ks (xs ∷ rest) c = solved p ks rest (settled p (drivers_in ks xs) xs c)
+
+-- the names of groups, group after group
+abbrev pub joined : List (List Name) → List Name
+joined [] = []
+joined (xs ∷ rest) = xs ++ joined rest
+
+-- names that the same statements assign, none of which depends on one of them
+pub record IsGroup (ks : List Stmt) (depends : Name → Name → Type 0) (xs : List Name) : Type 0 where
+  pub same : (x : Name) → Among xs x → drivers_of ks x ≡ drivers_in ks xs
+  pub apart : (x z : Name) → Among xs x → depends x z → Among xs z → ⊥
+
+abbrev pub AreGroups : List Stmt → (Name → Name → Type 0) → List (List Name) → Type 0
+AreGroups ks depends [] = Unit {0}
+AreGroups ks depends (xs ∷ rest) = IsGroup ks depends xs × AreGroups ks depends rest
 
 -- no name stands twice
 abbrev pub AreDistinct : List Name → Type 0

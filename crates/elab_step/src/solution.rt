@@ -1,8 +1,7 @@
 // All nets of a module and what its clocked blocks leave, as nodes.
-ghost use Rattle.std.specs.Prelude.{◌≡◌, ◌<◌, length, ℕ, IfOk};
-ghost use Rattle.vlog_runs.specs.Places.{Among};
+ghost use Rattle.std.specs.Prelude.{◌≡◌, length, IfOk};
 ghost use Rattle.elab_step.specs.Asked.{CanElaborate};
-ghost use Rattle.elab_step.specs.Boards.{names_of, ArePlacesOf, IsSolution};
+ghost use Rattle.elab_step.specs.Boards.{groups_of, ArePlacesOf, AreBelow, IsSolution};
 
 use crate::edge::{copy_of, run_clocked};
 use crate::nets::solve_nets;
@@ -21,25 +20,25 @@ pub struct Solution {
     pub next: Leaves,
 }
 
-/// Solves a module's nets in an order of their places, each by the places of the statements that assign it, and runs its clocked blocks. The
-/// flags tell the nets; every other signal is a free word. It is refused for want of memory alone.
+/// Solves groups of a module's nets in an order of their places, each by the places of the statements that assign it, and runs its clocked blocks.
+/// The flags tell the nets; every other signal is a free word. It is refused for want of memory alone.
 pub fn solve(
     alloc: Global,
     flat: &Flat,
     places: &[Vec<usize>],
-    order: &[usize],
+    groups: &[Vec<usize>],
     nets: &[bool],
 ) -> Result<Solution, AllocError>
     requires can { CanElaborate flat.now }
     requires places { ArePlacesOf flat.now flat.now.signals places.now }
-    requires order { (i : ℕ) → Among order.now i → i < length places.now }
+    requires groups { AreBelow (length places.now) groups.now }
     requires nets { length nets.now ≡ length flat.now.signals }
-    ensures { IfOk result (λ s. IsSolution flat.now (names_of flat.now.signals order.now) nets.now s.dag s.begun s.now s.next) }
+    ensures { IfOk result (λ s. IsSolution flat.now (groups_of flat.now.signals groups.now) nets.now s.dag s.begun s.now s.next) }
 {
     let mut dag = Dag::new(alloc);
     let begun = begun(alloc, &mut dag, flat.signals.as_slice(), nets)?;
     let mut now = copy_of(alloc, &begun)?;
-    solve_nets(alloc, &mut dag, flat, places, order, &mut now)?;
+    solve_nets(alloc, &mut dag, flat, places, groups, &mut now)?;
     let mut next = copy_of(alloc, &now)?;
     run_clocked(alloc, &mut dag, flat, &now, &mut next)?;
     Ok(Solution {

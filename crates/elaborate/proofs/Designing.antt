@@ -1,5 +1,5 @@
 -- The parts that are made are a design with the nets solved.
-use Rattle.std.proofs.Common.{arith, ◌≡◌, ◌≢◌, ◌+◌, ℕ, ℤ, Bool, true, false, List, [], ◌∷◌, ◌++◌, map, Option, Some, refl, sym, ap, ◌∙◌, subst, ◌⊎◌, inl, inr, ⊎_elim}
+use Rattle.std.proofs.Common.{arith, ◌≡◌, ◌+◌, ℕ, ℤ, Bool, true, false, List, [], ◌∷◌, ◌++◌, map, Option, Some, refl, sym, ap, ◌∙◌, subst, ◌⊎◌, inl, inr, ⊎_elim}
 use Rattle.std.specs.Prelude.{if◌then◌else◌}
 use Rattle.std.specs.List.{flat_map}
 use Rattle.vlog_tree.specs.declared.stmt.Stmt.{Stmt}
@@ -26,7 +26,7 @@ use Rattle.elab_node.specs.declared.leaves.Leaf.{Leaf}
 use Rattle.elab_node.specs.Nodes.{number_at}
 use Rattle.elab_faults.specs.Drivers.{DependsOn}
 use Rattle.flow_laws.specs.Laws.{AreFit}
-use Rattle.elab_step.specs.Solving.{AreDistinct, IsNetOrder, processes, driven, settled, solved, drivers_of, taking}
+use Rattle.elab_step.specs.Solving.{AreDistinct, IsNetOrder, processes, driven, settled, solved, drivers_in, joined, taking}
 use Rattle.elab_step.specs.Asked.{CanElaborate}
 use Rattle.elab_step.specs.Boards.{IsBegun, IsFreeOf, IsSolution, IsSolved, unset}
 use Rattle.elab_step.proofs.Solving.{bool_cases, kept}
@@ -43,15 +43,15 @@ use Rattle.elaborate.proofs.Tracks.{Known, Row, net_part, register_part, signal_
 
 -- ---- what isn't solved stays
 
-driven_other : (p : Place) (ks : List Stmt) (x z : Name) (c : Cycle) → x ≢ z → driven p ks x c z ≡ c z
-driven_other p [] x z c n = refl
-driven_other p (k ∷ ks) x z c n = driven_other p ks x z (taking x (run true p k c c) c) n ∙ kept x z (run true p k c c) c n
+driven_other : (p : Place) (ks : List Stmt) (xs : List Name) (z : Name) (c : Cycle) → (Among xs z → ⊥) → driven p ks xs c z ≡ c z
+driven_other p [] xs z c n = refl
+driven_other p (k ∷ ks) xs z c n = driven_other p ks xs z (taking xs (run true p k c c) c) n ∙ kept xs z (run true p k c c) c n
 
-still : (p : Place) (ks : List Stmt) (xs : List Name) (c : Cycle) (z : Name) → (Among xs z → ⊥) → solved p ks xs c z ≡ c z
+still : (p : Place) (ks : List Stmt) (xss : List (List Name)) (c : Cycle) (z : Name) → (Among (joined xss) z → ⊥) → solved p ks xss c z ≡ c z
 still p ks [] c z n = refl
-still p ks (x ∷ xs) c z n =
-    still p ks xs (settled p (drivers_of ks x) x c) z (λ m. n (inr m))
-    ∙ driven_other p (drivers_of ks x) x z (taking x (λ y. 0) c) (λ e. n (inl e)) ∙ kept x z (λ y. 0) c (λ e. n (inl e))
+still p ks (xs ∷ rest) c z n =
+    still p ks rest (settled p (drivers_in ks xs) xs c) z (λ m. n (append_right xs (joined rest) z m))
+    ∙ driven_other p (drivers_in ks xs) xs z (taking xs (λ y. 0) c) (λ m. n (append_left xs (joined rest) z m)) ∙ kept xs z (λ y. 0) c (λ m. n (append_left xs (joined rest) z m))
 
 not_among : (xs : List Name) (x : Name) → is_among xs x ≡ false → Among xs x → ⊥
 not_among xs x e m = let h : true ≡ false = sym (of_among xs x m) ∙ e in cc
@@ -69,7 +69,7 @@ sources_names (r ∷ rs) = ap (λ z. r.name ∷ z) (sources_names rs)
 abbrev register_at : Row → Register
 register_at w = record { name = w.begun.name; width = w.begun.width; node = w.begun.node; next = w.later.node }
 
-module _ (k : Known) (can : CanElaborate k.flat) (order : IsNetOrder k.flat (DependsOn k.flat) k.order) (rs : Rows k k.flat.signals k.nets k.registers k.first k.now k.next)
+module _ (k : Known) (can : CanElaborate k.flat) (order : IsNetOrder k.flat (DependsOn k.flat) (joined k.groups)) (rs : Rows k k.flat.signals k.nets k.registers k.first k.now k.next)
     (fit : FitFrom [] k.nodes) (distinct : IsDistinct k.nodes) (frees : (n : Node) (i : ℕ) → is_free n ≡ true → IsAt k.nodes i n → IsFreeOf k.flat.signals k.nets n)
     (apart : (x : Name) → IsInput k.flat x → IsRegister k.flat x → ⊥) where
   abbrev ws : List Row
@@ -98,9 +98,9 @@ module _ (k : Known) (can : CanElaborate k.flat) (order : IsNetOrder k.flat (Dep
   source_net : (w : Row) → Among ws w → IsRegister k.flat w.signal.name ⊎ IsInput k.flat w.signal.name → w.net ≡ false
   source_net w m h =
       ⊎_elim
-      (λ (e : is_among k.order w.signal.name ≡ true). let n = order.nets w.signal.name (among_of k.order w.signal.name e) in absurd (⊎_elim n.no_register n.no_input h))
-      (λ (e : is_among k.order w.signal.name ≡ false). sym (track w m).flag ∙ e)
-      (bool_cases (is_among k.order w.signal.name))
+      (λ (e : is_among (joined k.groups) w.signal.name ≡ true). let n = order.nets w.signal.name (among_of (joined k.groups) w.signal.name e) in absurd (⊎_elim n.no_register n.no_input h))
+      (λ (e : is_among (joined k.groups) w.signal.name ≡ false). sym (track w m).flag ∙ e)
+      (bool_cases (is_among (joined k.groups) w.signal.name))
 
   source_free : (w : Row) → Among ws w → w.net ≡ false → IsAt k.nodes w.begun.node (free w.begun.name w.begun.width)
   source_free w m e =
@@ -273,7 +273,7 @@ module _ (k : Known) (can : CanElaborate k.flat) (order : IsNetOrder k.flat (Dep
       let r = free_row (ws) (Free x n side t) (subst (λ z. IsFreeOf (map (λ (w : Row). w.signal) ws) z (Free x n side t)) rs.flags (subst (λ z. IsFreeOf z k.nets (Free x n side t)) rs.signals (frees (Free x n side t) i refl at))) in
       let w = r.row in
       let tw = track w r.there in
-      let none : Among k.order w.signal.name → ⊥ = not_among k.order w.signal.name (tw.flag ∙ r.no_net) in
+      let none : Among (joined k.groups) w.signal.name → ⊥ = not_among (joined k.groups) w.signal.name (tw.flag ∙ r.no_net) in
       let is_source = ⊎_elim (λ m. absurd (none m)) (λ h. h) (order.others w.signal tw.declared) in
       let word : Free x n side t ≡ free w.begun.name w.begun.width = r.is ∙ (λ i. free (sym tw.begun.name i) (sym tw.begun.width i)) in
       let name : w.begun.name ≡ x = let e = word in cc in (
@@ -317,8 +317,8 @@ module _ (k : Known) (can : CanElaborate k.flat) (order : IsNetOrder k.flat (Dep
       by true e = let t = track w m in sym (t.now_shown c fits) ∙ ap (solved_to k c) t.solved.name
       by false e =
           let t = track w m in
-          sym (t.first_shown c fits) ∙ ap (unset k.order c) t.begun.name
-          ∙ sym (still (flat_place k.flat) (processes k.flat) k.order (unset k.order c) w.signal.name (not_among k.order w.signal.name (t.flag ∙ e)))
+          sym (t.first_shown c fits) ∙ ap (unset (joined k.groups) c) t.begun.name
+          ∙ sym (still (flat_place k.flat) (processes k.flat) k.groups (unset (joined k.groups) c) w.signal.name (not_among (joined k.groups) w.signal.name (t.flag ∙ e)))
 
   next_value : (w : Row) → Among ws w → (c : Cycle) → AreFit gs c → number_at (naming_of c) k.nodes w.later.node ≡ edge_of k c w.begun.name
   next_value w m c fits = let t = track w m in sym (t.next_shown c fits) ∙ ap (edge_of k c) (t.after.name ∙ sym t.begun.name)
@@ -335,12 +335,12 @@ module _ (k : Known) (can : CanElaborate k.flat) (order : IsNetOrder k.flat (Dep
   abbrev NetSolved : Parts → Net → Type 0
   NetSolved d n =
       (g : Signal) × Among gs g × (n.name ≡ g.name) × (n.width ≡ g.width) × IsNode k.nodes n.node n.width
-      × ((c : Cycle) → AreFit gs c → number_at (naming_of c) k.nodes n.node ≡ solved (flat_place k.flat) (processes k.flat) k.order (unset k.order c) g.name)
+      × ((c : Cycle) → AreFit gs c → number_at (naming_of c) k.nodes n.node ≡ solved (flat_place k.flat) (processes k.flat) k.groups (unset (joined k.groups) c) g.name)
 
   abbrev RegisterSolved : Register → Type 0
   RegisterSolved r = IsRegister k.flat r.name × IsNode k.nodes r.next r.width × ((c : Cycle) → AreFit gs c → number_at (naming_of c) k.nodes r.next ≡ edge_of k c r.name)
 
-  pub is_solved : (outputs : List Name) (clock : Option Name) (asyncs : List Async) → IsSolved k.flat k.order (made outputs clock asyncs)
+  pub is_solved : (outputs : List Name) (clock : Option Name) (asyncs : List Async) → IsSolved k.flat k.groups (made outputs clock asyncs)
   is_solved outputs clock asyncs = record {
     fit = fit;
     net = λ n m.
@@ -426,13 +426,13 @@ module _ (k : Known) (can : CanElaborate k.flat) (order : IsNetOrder k.flat (Dep
   }
 
 -- the rows of a solution
-pub rows_of : (f : Flat) (xs : List Name) (ns : List Node) (ts rs : List Bool) (first now next : List Leaf) → CanElaborate f → IsSolution f xs ts ns first now next → ts ≡ flags_among xs f.signals → rs ≡ flags_among (clocked_names f) f.signals
-    → Rows (record { flat = f; order = xs; nodes = ns; nets = ts; registers = rs; first = first; now = now; next = next }) f.signals ts rs first now next
-rows_of f xs ns ts rs first now next can is nets registers =
-    let k : Known = record { flat = f; order = xs; nodes = ns; nets = ts; registers = rs; first = first; now = now; next = next } in
-    let flags : AreFlags xs f.signals ts = subst (λ z. AreFlags xs f.signals z) (sym nets) (nets_flagged xs f.signals) in
-    let start : (e : Cycle) → AreFit f.signals e → AreShown (naming_of e) ns first (unset xs e) = λ e n. begun_shown ns xs e f.signals ts first flags is.begun n in
-    let shown : (e : Cycle) → AreFit f.signals e → AreShown (naming_of e) ns now (solved_to k e) = λ e n. is.shows (naming_of e) (unset xs e) (start e n) in
+pub rows_of : (f : Flat) (xss : List (List Name)) (ns : List Node) (ts rs : List Bool) (first now next : List Leaf) → CanElaborate f → IsSolution f xss ts ns first now next → ts ≡ flags_among (joined xss) f.signals → rs ≡ flags_among (clocked_names f) f.signals
+    → Rows (record { flat = f; groups = xss; nodes = ns; nets = ts; registers = rs; first = first; now = now; next = next }) f.signals ts rs first now next
+rows_of f xss ns ts rs first now next can is nets registers =
+    let k : Known = record { flat = f; groups = xss; nodes = ns; nets = ts; registers = rs; first = first; now = now; next = next } in
+    let flags : AreFlags (joined xss) f.signals ts = subst (λ z. AreFlags (joined xss) f.signals z) (sym nets) (nets_flagged (joined xss) f.signals) in
+    let start : (e : Cycle) → AreFit f.signals e → AreShown (naming_of e) ns first (unset (joined xss) e) = λ e n. begun_shown ns (joined xss) e f.signals ts first flags is.begun n in
+    let shown : (e : Cycle) → AreFit f.signals e → AreShown (naming_of e) ns now (solved_to k e) = λ e n. is.shows (naming_of e) (unset (joined xss) e) (start e n) in
     tracks_of k f.signals ts rs first now next (record {
       declared = λ g m. m;
       nets = λ w m. m;
@@ -450,16 +450,16 @@ rows_of f xs ns ts rs first now next can is nets registers =
       next_shown = λ e n. is.edge (naming_of e) (solved_to k e) (shown e n);
     })
 
-pub design_made : (f : Flat) (xs : List Name) (ns : List Node) (ts rs : List Bool) (first now next : List Leaf) → CanElaborate f → IsNetOrder f (DependsOn f) xs → IsSolution f xs ts ns first now next
-    → ts ≡ flags_among xs f.signals → rs ≡ flags_among (clocked_names f) f.signals → FitFrom [] ns → IsDistinct ns → ((x : Name) → IsInput f x → IsRegister f x → ⊥)
+pub design_made : (f : Flat) (xss : List (List Name)) (ns : List Node) (ts rs : List Bool) (first now next : List Leaf) → CanElaborate f → IsNetOrder f (DependsOn f) (joined xss) → IsSolution f xss ts ns first now next
+    → ts ≡ flags_among (joined xss) f.signals → rs ≡ flags_among (clocked_names f) f.signals → FitFrom [] ns → IsDistinct ns → ((x : Name) → IsInput f x → IsRegister f x → ⊥)
     → (d : Parts) → d.nodes ≡ ns → d.registers ≡ flat_map register_of (zip3 rs first next) → d.inputs ≡ flat_map (input_of (signal_names f.signals) first) f.ports → d.nets ≡ map net_of (zip3 ts first now)
-    → d.outputs ≡ flat_map output_of f.ports → d.clock ≡ f.clock → d.asyncs ≡ f.asyncs → IsDesign d × IsSolved f xs d × HasSignals f d
-design_made f xs ns ts rs first now next can order is nets registers fit distinct apart d a b i n o c r =
-    let k : Known = record { flat = f; order = xs; nodes = ns; nets = ts; registers = rs; first = first; now = now; next = next } in
-    let rows = rows_of f xs ns ts rs first now next can is nets registers in
+    → d.outputs ≡ flat_map output_of f.ports → d.clock ≡ f.clock → d.asyncs ≡ f.asyncs → IsDesign d × IsSolved f xss d × HasSignals f d
+design_made f xss ns ts rs first now next can order is nets registers fit distinct apart d a b i n o c r =
+    let k : Known = record { flat = f; groups = xss; nodes = ns; nets = ts; registers = rs; first = first; now = now; next = next } in
+    let rows = rows_of f xss ns ts rs first now next can is nets registers in
     let whole : Parts = made k can order rows fit distinct is.frees apart (flat_map output_of f.ports) f.clock f.asyncs in
     let e : whole ≡ d = λ j. record { nodes = sym a j; registers = sym b j; inputs = sym i j; nets = sym n j; outputs = sym o j; clock = sym c j; asyncs = sym r j } in (
       subst IsDesign e (is_design k can order rows fit distinct is.frees apart (flat_map output_of f.ports) f.clock f.asyncs),
-      subst (IsSolved f xs) e (is_solved k can order rows fit distinct is.frees apart (flat_map output_of f.ports) f.clock f.asyncs),
+      subst (IsSolved f xss) e (is_solved k can order rows fit distinct is.frees apart (flat_map output_of f.ports) f.clock f.asyncs),
       subst (HasSignals f) e (has_signals k can order rows fit distinct is.frees apart),
     )

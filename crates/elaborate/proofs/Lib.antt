@@ -11,3 +11,4 @@ pub mod Standing
 pub mod Tracks
 pub mod Judging
 pub mod Designing
+pub mod Grouping

@@ -24,7 +24,7 @@ use Rattle.elaborate.proofs.Tracks.{clocked_register, register_clocked}
 
 -- ---- places and names
 
-at_name : (gs : List Signal) (i : ℕ) → i < length gs → IsAt gs i (name_of gs i)
+pub at_name : (gs : List Signal) (i : ℕ) → i < length gs → IsAt gs i (name_of gs i)
 at_name [] i l = absurd (omega arith)
 at_name (g ∷ gs) zero l = refl
 at_name (g ∷ gs) (suc i) l = at_name gs i (omega arith)

@@ -19,7 +19,7 @@ use Rattle.elab_node.specs.Leaves.{AreReady}
 use Rattle.elab_node.specs.Nodes.{IsNode, number_at}
 use Rattle.elab_block.specs.Standing.{AreLeavesOf, IsLeafOf, AreShown}
 use Rattle.flow_laws.specs.Laws.{AreFit}
-use Rattle.elab_step.specs.Solving.{clocked, processes, after_edge, solved, AreDistinct}
+use Rattle.elab_step.specs.Solving.{clocked, processes, after_edge, solved, joined, AreDistinct}
 use Rattle.elab_step.specs.Boards.{AreBegun, IsBegun, IsFreeOf, unset}
 use Rattle.elab_step.proofs.Solving.{bool_cases}
 use Rattle.elab_step.proofs.Solutions.{AreFlags}
@@ -75,10 +75,10 @@ module _ (f : Flat) (plain : ArePlain f.signals) where
 abbrev pub signal_name : Signal → Name
 signal_name g = g.name
 
--- what is known of a module: its nets in an order, its nodes, all flags and all leaves
+-- what is known of a module: the groups of its nets, its nodes, all flags and all leaves
 pub record Known : Type 0 where
   pub flat : Flat
-  pub order : List Name
+  pub groups : List (List Name)
   pub nodes : List Node
   pub nets : List Bool
   pub registers : List Bool
@@ -109,7 +109,7 @@ registers_in ws = map register_name (flat_map register_of (map register_part ws)
 
 module _ (k : Known) where
   abbrev pub solved_to : Cycle → Cycle
-  solved_to c = solved (flat_place k.flat) (processes k.flat) k.order (unset k.order c)
+  solved_to c = solved (flat_place k.flat) (processes k.flat) k.groups (unset (joined k.groups) c)
 
   abbrev pub edge_of : Cycle → Cycle
   edge_of c = after_edge (flat_place k.flat) (clocked k.flat.blocks) (solved_to c) (solved_to c)
@@ -119,7 +119,7 @@ module _ (k : Known) where
     pub declared : Among k.flat.signals w.signal
     pub is_net : Among (zip3 k.nets k.first k.now) (net_part w)
     pub is_register : Among (zip3 k.registers k.first k.next) (register_part w)
-    pub flag : is_among k.order w.signal.name ≡ w.net
+    pub flag : is_among (joined k.groups) w.signal.name ≡ w.net
     pub yes : w.register ≡ true → IsRegister k.flat w.signal.name
     pub no : IsRegister k.flat w.signal.name → w.register ≡ true
     pub begun : IsLeafOf w.signal w.begun
@@ -129,7 +129,7 @@ module _ (k : Known) where
     pub first_node : IsNode k.nodes w.begun.node w.begun.width
     pub now_node : IsNode k.nodes w.settled.node w.settled.width
     pub next_node : IsNode k.nodes w.later.node w.later.width
-    pub first_shown : (e : Cycle) → AreFit k.flat.signals e → unset k.order e w.begun.name ≡ number_at (naming_of e) k.nodes w.begun.node
+    pub first_shown : (e : Cycle) → AreFit k.flat.signals e → unset (joined k.groups) e w.begun.name ≡ number_at (naming_of e) k.nodes w.begun.node
     pub now_shown : (e : Cycle) → AreFit k.flat.signals e → solved_to e w.settled.name ≡ number_at (naming_of e) k.nodes w.settled.node
     pub next_shown : (e : Cycle) → AreFit k.flat.signals e → edge_of e w.later.name ≡ number_at (naming_of e) k.nodes w.later.node
 
@@ -152,7 +152,7 @@ module _ (k : Known) where
     pub declared : (g : Signal) → Among gs g → Among k.flat.signals g
     pub nets : (w : Bool × Leaf × Leaf) → Among (zip3 ts as' bs) w → Among (zip3 k.nets k.first k.now) w
     pub registers : (w : Bool × Leaf × Leaf) → Among (zip3 rs as' cs) w → Among (zip3 k.registers k.first k.next) w
-    pub flags : AreFlags k.order gs ts
+    pub flags : AreFlags (joined k.groups) gs ts
     pub tells : AreRegisters k.flat gs rs
     pub begun : AreBegun k.nodes gs ts as'
     pub solved : AreLeavesOf gs bs
@@ -160,7 +160,7 @@ module _ (k : Known) where
     pub first_ready : AreReady as' k.nodes
     pub now_ready : AreReady bs k.nodes
     pub next_ready : AreReady cs k.nodes
-    pub first_shown : (e : Cycle) → AreFit k.flat.signals e → AreShown (naming_of e) k.nodes as' (unset k.order e)
+    pub first_shown : (e : Cycle) → AreFit k.flat.signals e → AreShown (naming_of e) k.nodes as' (unset (joined k.groups) e)
     pub now_shown : (e : Cycle) → AreFit k.flat.signals e → AreShown (naming_of e) k.nodes bs (solved_to e)
     pub next_shown : (e : Cycle) → AreFit k.flat.signals e → AreShown (naming_of e) k.nodes cs (edge_of e)
 

@@ -3,3 +3,4 @@ pub mod Sources
 pub mod Placing
 pub mod Ordering
 pub mod Asked
+pub mod Groups

@@ -5,8 +5,8 @@ ghost use Rattle.vlog_runs.specs.Places.{Name};
 ghost use Rattle.vlog_runs.specs.Cycles.{IsInput, IsRegister};
 ghost use Rattle.elab_faults.specs.Drivers.{DependsOn};
 ghost use Rattle.elab_step.specs.Asked.{CanElaborate};
-ghost use Rattle.elab_step.specs.Boards.{names_of, IsSolution, IsSolved};
-ghost use Rattle.elab_step.specs.Solving.{IsNetOrder};
+ghost use Rattle.elab_step.specs.Boards.{groups_of, IsSolution, IsSolved};
+ghost use Rattle.elab_step.specs.Solving.{IsNetOrder, joined};
 ghost use Rattle.elaborate.specs.Parts.{HasSignals};
 ghost use Rattle.elaborate.specs.Sources.{signal_names, clocked_names, flags_among};
 
@@ -17,25 +17,25 @@ use std::alloc::{AllocError, Global};
 use vlog_runs::Flat;
 use word_design::Design;
 
-/// The design of a module whose nets are solved in an order of their dependences. The flags tell the nets and the registers. It is refused for
+/// The design of a module whose nets are solved group after group in an order of their dependences. The flags tell the nets and the registers. It is refused for
 /// want of memory alone.
 pub fn design_of(
     alloc: Global,
     flat: &Flat,
     names: &Names<'_>,
-    order: &[usize],
+    groups: &[Vec<usize>],
     nets: &[bool],
     registers: &[bool],
     solution: Solution,
 ) -> Result<Design, AllocError>
     requires can { CanElaborate flat.now }
     requires names { names.now ≡ signal_names flat.now.signals }
-    requires order { IsNetOrder flat.now (DependsOn flat.now) (names_of flat.now.signals order.now) }
-    requires nets { nets.now ≡ flags_among (names_of flat.now.signals order.now) flat.now.signals }
+    requires order { IsNetOrder flat.now (DependsOn flat.now) (joined (groups_of flat.now.signals groups.now)) }
+    requires nets { nets.now ≡ flags_among (joined (groups_of flat.now.signals groups.now)) flat.now.signals }
     requires registers { registers.now ≡ flags_among (clocked_names flat.now) flat.now.signals }
     requires apart { (x : Name) → IsInput flat.now x → IsRegister flat.now x → ⊥ }
-    requires solution { IsSolution flat.now (names_of flat.now.signals order.now) nets.now solution.dag solution.begun solution.now solution.next }
-    ensures solved { IfOk result (λ d. IsSolved flat.now (names_of flat.now.signals order.now) d) }
+    requires solution { IsSolution flat.now (groups_of flat.now.signals groups.now) nets.now solution.dag solution.begun solution.now solution.next }
+    ensures solved { IfOk result (λ d. IsSolved flat.now (groups_of flat.now.signals groups.now) d) }
     ensures signals { IfOk result (λ d. HasSignals flat.now d) }
 {
     // the nodes of a dag fit, and no two are the same

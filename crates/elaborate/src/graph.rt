@@ -101,7 +101,7 @@ pub fn design_by_graph(
         Sorted::Order(places) => {
             let sources = source_flags(alloc, flat)?;
             let nets = unflagged(alloc, &sources, &places)?;
-            let design = design_in_order(alloc, flat, &nets)?;
+            let design = design_in_order(alloc, flat, graph, &nets)?;
             Ok(design)
         }
         Sorted::Cycle(cycle) => Err(looped(alloc, flat.signals.as_slice(), cycle[0])?),

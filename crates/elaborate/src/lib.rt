@@ -4,6 +4,7 @@
 mod design;
 mod flags;
 mod graph;
+mod groups;
 mod inputs;
 mod judge;
 mod ordered;

@@ -1,10 +1,11 @@
 // Findings about covers of outputs.
 use crate::finding::Finding;
-use crate::sets::{count_of_covers, cover_in, property_in};
-use crate::titles::{declared_name, property_at, property_name, titled};
-use crate::tokens::{byte_at, shown};
 use set_tree::{Cover, Property, Set, To};
 use std::alloc::{AllocError, Global};
+use text_places::{
+    byte_at, count_of_covers, cover_in, declared_name, property_at, property_in, property_name,
+    shown, titled,
+};
 use vlog_tree::Token;
 
 /// The cover of an output that a property has.
@@ -90,6 +91,31 @@ fn bounds_hint(property: &Property, at: u32, output: u32) -> &'static str {
     "ends from its begin to the window + 1"
 }
 
+/// The sentence for a property that has so many covers of an output.
+fn cover_sentence(
+    alloc: Global,
+    set: &Set,
+    at: u32,
+    output: u32,
+    count: usize,
+) -> Result<String, AllocError> {
+    let title = titled(alloc, set, at)?;
+    let name = shown(declared_name(set, output));
+    if count == 0 {
+        return format!(in alloc;
+            "{title} has no cover of `{name}`: it covers each output once, as `cover {name} from 1 to 2;`"
+        );
+    }
+    if count > 1 {
+        return format!(in alloc; "{title} has several covers of `{name}`: leave one");
+    }
+    let hint = match property_at(set, at) {
+        Some(property) => bounds_hint(property, at, output),
+        None => "is missing",
+    };
+    format!(in alloc; "the cover of `{name}` in {title} is out of bounds: it {hint}")
+}
+
 /// A cover that is missing, stands several times, or is out of bounds.
 pub fn cover_finding(
     alloc: Global,
@@ -104,20 +130,5 @@ pub fn cover_finding(
         Some(property) => count_of_covers(property, name),
         None => 1,
     };
-    let title = titled(alloc, set, at)?;
-    let name = shown(name);
-    let sentence = match count {
-        0 => format!(in alloc;
-            "{title} has no cover of `{name}`: it covers each output once, as `cover {name} from 1 to 2;`"
-        )?,
-        1 => {
-            let hint = match property_at(set, at) {
-                Some(property) => bounds_hint(property, at, output),
-                None => "is missing",
-            };
-            format!(in alloc; "the cover of `{name}` in {title} is out of bounds: it {hint}")?
-        }
-        _ => format!(in alloc; "{title} has several covers of `{name}`: leave one")?,
-    };
-    Ok(Finding::of_set(byte, sentence))
+    Ok(Finding::of_set(byte, cover_sentence(alloc, set, at, output, count)?))
 }

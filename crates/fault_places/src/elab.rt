@@ -1,11 +1,10 @@
 // Findings about a module without instances.
 use crate::finding::Finding;
-use crate::modules::{Pick, declared_in};
 use crate::sources::Sources;
-use crate::tokens::text_of;
 use elab_faults::ElabFault;
 use outside::Text;
 use std::alloc::{AllocError, Global};
+use text_places::{Pick, declared_in, text_of};
 
 /// The wrong form of assignment, by what is declared.
 fn kind_sentence(alloc: Global, sources: &Sources<'_>, path: &Text) -> Result<String, AllocError> {

@@ -4,15 +4,13 @@ use crate::finding::{Finding, Side};
 use crate::fit::bind_finding;
 use crate::flat::flat_finding;
 use crate::mem::mem_finding;
-use crate::place::{Place, add_line, place_of};
 use crate::reading::{read_finding, set_finding};
-use crate::sets::block_of;
 use crate::sources::Sources;
 use crate::structure::graph_finding;
-use crate::tokens::tokens_of;
 use check_faults::{CheckFault, ModuleFault, SetStop};
 use outside::Text;
 use std::alloc::{AllocError, Global};
+use text_places::{Place, add_line, block_of, place_of, tokens_of};
 
 /// The names of the two files of a check.
 #[derive(Clone, Copy)]
@@ -40,7 +38,7 @@ fn module_finding(
                 "the text has more than 1,048,576 bytes: leave out the modules that the block doesn't use";
             Ok(Finding::of_module(None, String::from_str(alloc, sentence)?))
         }
-        ModuleFault::Read(fault) => read_finding(alloc, texts.module, fault),
+        ModuleFault::Read(fault) => read_finding(alloc, texts.module, sources.modules, fault),
         ModuleFault::Flat(fault) => flat_finding(alloc, sources, fault),
         ModuleFault::Mem(fault) => mem_finding(alloc, sources, fault),
         ModuleFault::Elab(fault) => elab_finding(alloc, sources, fault),
@@ -59,23 +57,21 @@ fn stop_finding(
                 "the text has more than 1,048,576 bytes: a set of this length is more than one block needs";
             Ok(Finding::of_set(None, String::from_str(alloc, sentence)?))
         }
-        SetStop::Read(fault) => set_finding(alloc, texts.set, fault),
+        SetStop::Read(fault) => set_finding(alloc, texts.set, sources.set, fault),
         SetStop::Graph(unsound) => graph_finding(alloc, sources.set, unsound),
     }
 }
 
-fn finding_of(alloc: Global, texts: &Texts<'_>, fault: &CheckFault) -> Result<Finding, AllocError> {
-    let modules = tokens_of(alloc, texts.module, false)?;
-    let set = tokens_of(alloc, texts.set, true)?;
-    let sources = Sources {
-        modules: &modules,
-        set: &set,
-        top: block_of(&set),
-    };
+fn check_finding(
+    alloc: Global,
+    texts: &Texts<'_>,
+    sources: &Sources<'_>,
+    fault: &CheckFault,
+) -> Result<Finding, AllocError> {
     match fault {
-        CheckFault::Module(fault) => module_finding(alloc, texts, &sources, fault),
-        CheckFault::Set(stop) => stop_finding(alloc, texts, &sources, stop),
-        CheckFault::Bind(fault) => bind_finding(alloc, &sources, fault),
+        CheckFault::Module(fault) => module_finding(alloc, texts, sources, fault),
+        CheckFault::Set(stop) => stop_finding(alloc, texts, sources, stop),
+        CheckFault::Bind(fault) => bind_finding(alloc, sources, fault),
         CheckFault::NoLine => {
             let sentence =
                 "the report has no line of this name: `signoff lines M S` puts the names of its lines";
@@ -87,6 +83,17 @@ fn finding_of(alloc: Global, texts: &Texts<'_>, fault: &CheckFault) -> Result<Fi
         }
         CheckFault::Memory => Ok(Finding::of_none(String::from_str(alloc, "out of memory")?)),
     }
+}
+
+fn finding_of(alloc: Global, texts: &Texts<'_>, fault: &CheckFault) -> Result<Finding, AllocError> {
+    let modules = tokens_of(alloc, texts.module, false)?;
+    let set = tokens_of(alloc, texts.set, true)?;
+    let sources = Sources {
+        modules: &modules,
+        set: &set,
+        top: block_of(&set),
+    };
+    check_finding(alloc, texts, &sources, fault)
 }
 
 /// Adds `FILE:LINE:COL: `, as far as it is known.

@@ -1,16 +1,17 @@
 // Findings about a set that doesn't fit its block.
 use crate::finding::Finding;
-use crate::modules::{Pick, declared_in as declared_in_module};
-use crate::sets::{Declared, declared_in};
 use crate::sources::Sources;
-use crate::tokens::{behind_word, byte_at, first, shown, text_of, width_at, word_at};
 use binding::BindFault;
 use outside::Text;
 use std::alloc::{AllocError, Global};
+use text_places::{
+    DeclaredInSet, Pick, behind_word, byte_at, declared_in, declared_in_set, first, shown, text_of,
+    width_at, word_at,
+};
 use vlog_words::is;
 
 fn declared_byte(sources: &Sources<'_>, name: &Text) -> Option<usize> {
-    byte_at(declared_in(sources.set, name.bytes(), Pick::First)?.named)
+    byte_at(declared_in_set(sources.set, name.bytes(), Pick::First)?.named)
 }
 
 fn missing(alloc: Global, sources: &Sources<'_>, name: &Text) -> Result<Finding, AllocError> {
@@ -26,12 +27,12 @@ fn missing(alloc: Global, sources: &Sources<'_>, name: &Text) -> Result<Finding,
 /// The width that a signal has in the block, where the text has it in plain numbers.
 fn width_in_block(sources: &Sources<'_>, name: &Text) -> Option<u64> {
     let named = sources.named(name.bytes())?;
-    width_at(declared_in_module(named.body, named.last, Pick::First)?.range())
+    width_at(declared_in(named.body, named.last, Pick::First)?.range())
 }
 
 fn other_width(alloc: Global, sources: &Sources<'_>, name: &Text) -> Result<Finding, AllocError> {
     let byte = declared_byte(sources, name);
-    let here = declared_in(sources.set, name.bytes(), Pick::First).and_then(
+    let here = declared_in_set(sources.set, name.bytes(), Pick::First).and_then(
         |declared| declared.width(),
     );
     let there = width_in_block(sources, name);
@@ -67,7 +68,11 @@ fn extra_input(alloc: Global, sources: &Sources<'_>, name: &Text) -> Result<Find
 }
 
 /// The sentence for a declared name that is something else in the block.
-fn declared_role(alloc: Global, declared: &Declared<'_>, name: &str) -> Result<String, AllocError> {
+fn declared_role(
+    alloc: Global,
+    declared: &DeclaredInSet<'_>,
+    name: &str,
+) -> Result<String, AllocError> {
     if is(declared.role(), b"input") {
         return format!(in alloc;
             "`{name}` is declared as an input, but is none of the block, or is its clock or its reset"
@@ -85,7 +90,7 @@ fn declared_role(alloc: Global, declared: &Declared<'_>, name: &str) -> Result<S
 
 fn other_role(alloc: Global, sources: &Sources<'_>, name: &Text) -> Result<Finding, AllocError> {
     let text = text_of(name);
-    if let Some(declared) = declared_in(sources.set, name.bytes(), Pick::First) {
+    if let Some(declared) = declared_in_set(sources.set, name.bytes(), Pick::First) {
         let sentence = declared_role(alloc, &declared, text)?;
         return Ok(Finding::of_set(byte_at(declared.named), sentence));
     }

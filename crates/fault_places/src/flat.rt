@@ -1,14 +1,14 @@
 // Findings about modules that can't be made one module without instances.
-use crate::clocks::broken_rule;
 use crate::finding::Finding;
-use crate::modules::{Named, Pick, declared_in, last_instance_in, place_of_name};
 use crate::ports::{port_finding, unknown_finding};
 use crate::sources::Sources;
-use crate::suspects::{divided_signal, leaving_select};
-use crate::tokens::{behind_word, byte_at, last_behind_word, shown, text_of};
 use flat_faults::FlatFault;
 use outside::Text;
 use std::alloc::{AllocError, Global};
+use text_places::{
+    Named, Pick, behind_word, broken_rule, byte_at, declared_in, divided_signal, last_behind_word,
+    last_instance_in, leaving_select, place_of_name, shown, text_of,
+};
 
 /// No module has the name of the set's block.
 fn no_top(alloc: Global, sources: &Sources<'_>) -> Result<Finding, AllocError> {

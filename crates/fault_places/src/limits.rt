@@ -1,9 +1,11 @@
 // Findings about quantities of a set that leave their bounds.
 use crate::finding::Finding;
-use crate::sets::{count_of, declares, offset_above};
-use crate::tokens::{behind, byte_at, first, number_at, stands, up_to, width_at, word_at};
 use set_lookup::Quantity;
 use std::alloc::{AllocError, Global};
+use text_places::{
+    behind, byte_at, count_of, declares, first, number_at, offset_above, stands, up_to, width_at,
+    word_at,
+};
 use vlog_tree::Token;
 
 /// The sentence for a quantity.

@@ -1,10 +1,10 @@
 // Findings about memories.
 use crate::finding::Finding;
 use crate::sources::Sources;
-use crate::tokens::text_of;
 use mem_laws::MemFault;
 use outside::Text;
 use std::alloc::{AllocError, Global};
+use text_places::text_of;
 
 /// A finding about a memory or a word of one, at the place of its declaration.
 fn named(

@@ -1,12 +1,12 @@
 // Findings about names that aren't declared and about ports that don't fit.
 use crate::finding::Finding;
-use crate::modules::{
-    Instance, Named, Pick, declared_in, given_in, instance_in, module_in, used_in,
-};
 use crate::sources::Sources;
-use crate::tokens::{byte_at, shown, text_of};
 use outside::Text;
 use std::alloc::{AllocError, Global};
+use text_places::{
+    Instance, Named, Pick, byte_at, declared_in, given_in, instance_in, module_in, shown, text_of,
+    used_in,
+};
 use vlog_tree::Token;
 
 /// An instance whose module the text doesn't have, or that is given more parameters than its module has.
@@ -59,6 +59,29 @@ fn unknown_name(alloc: Global, named: &Named<'_>, name: &str) -> Result<Finding,
     Ok(Finding::of_module(byte, sentence))
 }
 
+/// The place at which an instance is given a port or a parameter by a name.
+fn given_at<'a>(named: &Named<'a>) -> Option<&'a [Token]> {
+    given_in(&named.outer?, named.last)
+}
+
+/// A name that isn't declared in the module in which it should be.
+fn undeclared(
+    alloc: Global,
+    sources: &Sources<'_>,
+    named: &Named<'_>,
+    name: &str,
+) -> Result<Finding, AllocError> {
+    if used_in(named.body, named.last).is_none() {
+        if let Some(given) = given_at(named) {
+            return unknown_port(alloc, named, given, name);
+        }
+    }
+    match instance_in(named.body, named.last) {
+        Some(instance) => unfit_instance(alloc, sources, &instance, name),
+        None => unknown_name(alloc, named, name),
+    }
+}
+
 /// A name that isn't declared.
 pub fn unknown_finding(
     alloc: Global,
@@ -66,20 +89,30 @@ pub fn unknown_finding(
     path: &Text,
 ) -> Result<Finding, AllocError> {
     let name = text_of(path);
-    let Some(named) = sources.named(path.bytes()) else {
-        return Ok(Finding::of_module(None, format!(in alloc; "`{name}` isn't declared")?));
-    };
-    if let Some(outer) = named.outer {
-        if let Some(given) = given_in(&outer, named.last) {
-            if used_in(named.body, named.last).is_none() {
-                return unknown_port(alloc, &named, given, name);
-            }
+    match sources.named(path.bytes()) {
+        Some(named) => undeclared(alloc, sources, &named, name),
+        None => {
+            let sentence = format!(in alloc; "`{name}` isn't declared")?;
+            Ok(Finding::of_module(None, sentence))
         }
     }
-    match instance_in(named.body, named.last) {
-        Some(instance) => unfit_instance(alloc, sources, &instance, name),
-        None => unknown_name(alloc, &named, name),
-    }
+}
+
+/// An instance with more or fewer connections than its module has ports.
+fn unfit_count(alloc: Global, instance: &Instance<'_>, name: &str) -> Result<Finding, AllocError> {
+    let of = shown(instance.of_module());
+    let sentence = format!(in alloc;
+        "`{name}` has more or fewer connections than its module `{of}` has ports: connect by names"
+    )?;
+    Ok(Finding::of_module(byte_at(instance.named), sentence))
+}
+
+/// A port that is connected and doesn't fit.
+fn unfit_port(alloc: Global, given: &[Token], name: &str) -> Result<Finding, AllocError> {
+    let sentence = format!(in alloc;
+        "the port `{name}` is connected twice, or is an output connected to what can't be assigned"
+    )?;
+    Ok(Finding::of_module(byte_at(given), sentence))
 }
 
 /// Ports that don't fit: those of an instance, one that is given, or one of a module's header.
@@ -90,24 +123,16 @@ pub fn port_finding(
 ) -> Result<Finding, AllocError> {
     let name = text_of(path);
     let Some(named) = sources.named(path.bytes()) else {
-        return Ok(Finding::of_module(None, format!(in alloc; "the ports of `{name}` don't fit")?));
+        let sentence = format!(in alloc; "the ports of `{name}` don't fit")?;
+        return Ok(Finding::of_module(None, sentence));
     };
     if let Some(instance) = instance_in(named.body, named.last) {
-        let of = shown(instance.of_module());
-        let sentence = format!(in alloc;
-            "`{name}` has more or fewer connections than its module `{of}` has ports: connect by names"
-        )?;
-        return Ok(Finding::of_module(byte_at(instance.named), sentence));
+        return unfit_count(alloc, &instance, name);
     }
-    if let Some(outer) = named.outer {
-        if let Some(given) = given_in(&outer, named.last) {
-            let sentence = format!(in alloc;
-                "the port `{name}` is connected twice, or is an output connected to what can't be assigned"
-            )?;
-            return Ok(Finding::of_module(byte_at(given), sentence));
-        }
+    match given_at(&named) {
+        Some(given) => unfit_port(alloc, given, name),
+        None => header_finding(alloc, &named, name),
     }
-    header_finding(alloc, &named, name)
 }
 
 /// A name that stands in the list of a module's ports without a direction, or has a direction and doesn't stand there.

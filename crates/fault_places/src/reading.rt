@@ -1,14 +1,15 @@
 // Findings about texts that aren't read.
 use crate::finding::Finding;
 use crate::limits::limit_finding;
-use crate::modules::Pick;
-use crate::sets::{clause_before, cover_in, declared_in, next_again, used_in};
 use crate::subset::instead_of;
 use crate::syntax::{module_syntax, set_syntax};
-use crate::tokens::{behind, behind_word, byte_at, last_behind_word, shown, text_of, tokens_of};
 use outside::Text;
 use set_read::SetFault;
 use std::alloc::{AllocError, Global};
+use text_places::{
+    Pick, behind, behind_word, byte_at, clause_before, cover_in, declared_in_set, last_behind_word,
+    next_again, shown, text_of, used_in_set,
+};
 use vlog_lex::{Class, ReadFault, sign_size};
 use vlog_tree::Token;
 use vlog_words::is;
@@ -66,15 +67,19 @@ fn outside_sentence(alloc: Global, text: &[u8], byte: usize) -> Result<String, A
     format!(in alloc; "`{word_text}` isn't supported: {hint}")
 }
 
-/// A fault of the reader of modules.
-pub fn read_finding(alloc: Global, text: &[u8], fault: &ReadFault) -> Result<Finding, AllocError> {
+/// A fault of the reader of modules, whose text has these tokens.
+pub fn read_finding(
+    alloc: Global,
+    text: &[u8],
+    tokens: &[Token],
+    fault: &ReadFault,
+) -> Result<Finding, AllocError> {
     let (byte, sentence) = match fault {
         ReadFault::Bytes(byte) => (Some(*byte), bytes_sentence(alloc, text, *byte)?),
         ReadFault::Number(byte) => (Some(*byte), number_sentence(alloc, text, *byte)?),
         ReadFault::Outside(byte) => (Some(*byte), outside_sentence(alloc, text, *byte)?),
         ReadFault::Syntax(byte) => {
-            let tokens = tokens_of(alloc, text, false)?;
-            let sentence = module_syntax(alloc, &tokens, *byte, word_from(text, *byte))?;
+            let sentence = module_syntax(alloc, tokens, *byte, word_from(text, *byte))?;
             (Some(*byte), sentence)
         }
         ReadFault::Deep => (
@@ -91,9 +96,9 @@ pub fn read_finding(alloc: Global, text: &[u8], fault: &ReadFault) -> Result<Fin
 
 /// The place at which a name is used that isn't declared, or that is covered and is no output.
 fn unknown_byte(set: &[Token], name: &[u8]) -> Option<usize> {
-    match declared_in(set, name, Pick::First) {
+    match declared_in_set(set, name, Pick::First) {
         Some(_) => byte_at(behind(cover_in(set, name)?, 1)),
-        None => byte_at(used_in(set, name)?),
+        None => byte_at(used_in_set(set, name)?),
     }
 }
 
@@ -116,8 +121,8 @@ fn unknown_name(alloc: Global, set: &[Token], name: &Text) -> Result<Finding, Al
 
 /// The second declaration of a name.
 fn declared_again<'a>(set: &'a [Token], name: &[u8]) -> Option<&'a [Token]> {
-    let one = declared_in(set, name, Pick::First)?;
-    let last = declared_in(set, name, Pick::Last)?;
+    let one = declared_in_set(set, name, Pick::First)?;
+    let last = declared_in_set(set, name, Pick::Last)?;
     if byte_at(one.named) == byte_at(last.named) {
         return None;
     }
@@ -167,9 +172,13 @@ fn repeated_name(alloc: Global, set: &[Token], name: &Text) -> Result<Finding, A
     Ok(Finding::of_set(byte, sentence))
 }
 
-/// A fault of the reader of sets.
-pub fn set_finding(alloc: Global, text: &[u8], fault: &SetFault) -> Result<Finding, AllocError> {
-    let tokens = tokens_of(alloc, text, true)?;
+/// A fault of the reader of sets, whose text has these tokens.
+pub fn set_finding(
+    alloc: Global,
+    text: &[u8],
+    tokens: &[Token],
+    fault: &SetFault,
+) -> Result<Finding, AllocError> {
     match fault {
         SetFault::Bytes(byte) => Ok(Finding::of_set(
             Some(*byte),
@@ -180,12 +189,12 @@ pub fn set_finding(alloc: Global, text: &[u8], fault: &SetFault) -> Result<Findi
             number_sentence(alloc, text, *byte)?,
         )),
         SetFault::Syntax(byte) => {
-            let sentence = set_syntax(alloc, &tokens, *byte, word_from(text, *byte))?;
+            let sentence = set_syntax(alloc, tokens, *byte, word_from(text, *byte))?;
             Ok(Finding::of_set(Some(*byte), sentence))
         }
-        SetFault::Unknown(name) => unknown_name(alloc, &tokens, name),
-        SetFault::Twice(name) => repeated_name(alloc, &tokens, name),
-        SetFault::Limit(quantity) => limit_finding(alloc, &tokens, *quantity),
+        SetFault::Unknown(name) => unknown_name(alloc, tokens, name),
+        SetFault::Twice(name) => repeated_name(alloc, tokens, name),
+        SetFault::Limit(quantity) => limit_finding(alloc, tokens, *quantity),
         SetFault::Deep => {
             let sentence =
                 "a formula is nested more than 498 deep: give the block a wire for a part of it";

@@ -1,5 +1,5 @@
 // The two texts of a check as tokens.
-use crate::modules::{Named, byte_of_name, instance_in, module_in, named_in};
+use text_places::{Named, byte_of_name, instance_in, module_in, named_in};
 use vlog_tree::Token;
 
 /// The tokens of the modules and of the set, and the name of the set's block.

@@ -1,13 +1,13 @@
 // Findings about the structure of a set.
 use crate::covers::{Edge, cover_finding, tile_finding};
 use crate::finding::Finding;
-use crate::modules::Pick;
-use crate::sets::{declared_in, offset_above, property_in, window_of};
-use crate::titles::{declared_name, invariant_name, property_name, titled};
-use crate::tokens::{behind_word, byte_at, first, shown, up_to};
 use set_sound::{GraphFault, Place, Unsound};
 use set_tree::Set;
 use std::alloc::{AllocError, Global};
+use text_places::{
+    Pick, behind_word, byte_at, declared_in_set, declared_name, first, invariant_name,
+    offset_above, property_in, property_name, shown, titled, up_to, window_of,
+};
 use vlog_tree::Token;
 
 /// The first offset in the `until` of a property that is above 0.
@@ -15,29 +15,43 @@ fn until_offset(property: &[Token]) -> Option<usize> {
     offset_above(up_to(first(property, b"until")?, b";"), 0)
 }
 
-/// A formula of a property that reads outside its window, or an `until` that reads another cycle than its own.
+fn until_sentence(alloc: Global, set: &Set, at: u32) -> Result<String, AllocError> {
+    let title = titled(alloc, set, at)?;
+    format!(in alloc;
+        "the `until` of {title} reads another cycle than `@0`: it is a test of each cycle"
+    )
+}
+
+fn window_sentence(alloc: Global, set: &Set, at: u32, window: u64) -> Result<String, AllocError> {
+    let title = titled(alloc, set, at)?;
+    format!(in alloc;
+        "{title} reads behind its window, cycle {window}: correct the offset, or give a larger `window`"
+    )
+}
+
+/// A formula of a property, by its place, that reads behind its window, or an `until` that reads another cycle than its own.
+fn offset_in(alloc: Global, property: &[Token], set: &Set, at: u32) -> Result<Finding, AllocError> {
+    if let Some(byte) = until_offset(property) {
+        return Ok(Finding::of_set(Some(byte), until_sentence(alloc, set, at)?));
+    }
+    let window = window_of(property).unwrap_or(0);
+    let byte = offset_above(property, window).or(byte_at(property));
+    Ok(Finding::of_set(byte, window_sentence(alloc, set, at, window)?))
+}
+
+/// A formula of a property that reads outside its window.
 fn property_offset(
     alloc: Global,
     tokens: &[Token],
     set: &Set,
     at: u32,
 ) -> Result<Finding, AllocError> {
-    let title = titled(alloc, set, at)?;
-    let Some(property) = property_in(tokens, property_name(set, at)) else {
-        return Ok(Finding::of_set(None, format!(in alloc; "{title} reads outside its window")?));
-    };
-    if let Some(byte) = until_offset(property) {
-        let sentence = format!(in alloc;
-            "the `until` of {title} reads another cycle than `@0`: it is a test of each cycle"
-        )?;
-        return Ok(Finding::of_set(Some(byte), sentence));
+    if let Some(property) = property_in(tokens, property_name(set, at)) {
+        return offset_in(alloc, property, set, at);
     }
-    let window = window_of(property).unwrap_or(0);
-    let byte = offset_above(property, window).or(byte_at(property));
-    let sentence = format!(in alloc;
-        "{title} reads behind its window, cycle {window}: correct the offset, or give a larger `window`"
-    )?;
-    Ok(Finding::of_set(byte, sentence))
+    let title = titled(alloc, set, at)?;
+    let sentence = format!(in alloc; "{title} reads outside its window")?;
+    Ok(Finding::of_set(None, sentence))
 }
 
 fn invariant_offset(
@@ -63,7 +77,7 @@ fn domain_offset(
     at: u32,
 ) -> Result<Finding, AllocError> {
     let name = declared_name(set, at);
-    let declared = declared_in(tokens, name, Pick::First);
+    let declared = declared_in_set(tokens, name, Pick::First);
     let byte = declared.and_then(|declared| offset_above(up_to(declared.item, b";"), 0));
     let name = shown(name);
     let sentence = format!(in alloc;
@@ -75,6 +89,16 @@ fn domain_offset(
 /// The place of a word in a property.
 fn word_in(tokens: &[Token], property: &[u8], word: &[u8]) -> Option<usize> {
     byte_at(first(property_in(tokens, property)?, word)?)
+}
+
+/// A property that has reset as a successor.
+fn into_reset(alloc: Global, tokens: &[Token], set: &Set, at: u32) -> Result<Finding, AllocError> {
+    let byte = word_in(tokens, property_name(set, at), b"next");
+    let title = titled(alloc, set, at)?;
+    let sentence = format!(in alloc;
+        "{title} has `reset` as a successor: reset is active at the begin of a run alone"
+    )?;
+    Ok(Finding::of_set(byte, sentence))
 }
 
 /// A fault of the structure of a set.
@@ -95,14 +119,7 @@ pub fn graph_finding(
         GraphFault::Offset(Place::Property(at)) => property_offset(alloc, tokens, set, at),
         GraphFault::Offset(Place::Invariant(at)) => invariant_offset(alloc, tokens, set, at),
         GraphFault::Offset(Place::Output(at)) => domain_offset(alloc, tokens, set, at),
-        GraphFault::IntoReset(at) => {
-            let byte = word_in(tokens, property_name(set, at), b"next");
-            let title = titled(alloc, set, at)?;
-            let sentence = format!(in alloc;
-                "{title} has `reset` as a successor: reset is active at the begin of a run alone"
-            )?;
-            Ok(Finding::of_set(byte, sentence))
-        }
+        GraphFault::IntoReset(at) => into_reset(alloc, tokens, set, at),
         GraphFault::HandAtReset => {
             let byte = word_in(tokens, b"reset", b"hand");
             let sentence =

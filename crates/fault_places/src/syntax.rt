@@ -1,7 +1,7 @@
 // Sentences for tokens that the grammars don't have where they stand.
 use crate::subset::{instead_of, instead_of_system};
-use crate::tokens::{around, first, shown, stands, word_at, word_of};
 use std::alloc::{AllocError, Global};
+use text_places::{around, first, shown, stands, word_at, word_of};
 use vlog_tree::{Kind, Token};
 use vlog_words::is;
 

@@ -2,7 +2,7 @@
 ghost use Rattle.std.specs.Prelude.{◌≡◌, OnOk, length};
 
 use crate::claim::{Claim, Helper};
-use clause_check::{Clause, Cnf, Lit, Look, Step, look_at};
+use clause_check::{Clause, Cnf, Lit, Look, Step, in_32_bits, look_at};
 use std::alloc::{AllocError, Global};
 use word_dag::Ob;
 
@@ -29,7 +29,7 @@ struct Trail {
     /// The literals that were made true, in their order.
     forced: Vec<Lit>,
     /// The clauses that forced them, and the one that is false.
-    hints: Vec<u64>,
+    hints: Vec<u32>,
 }
 
 /// The place of a literal in a table.
@@ -39,42 +39,77 @@ fn index_of(lit: Lit) -> usize {
         .saturating_add(usize::from(lit.negative))
 }
 
-/// A list without numbers for each literal.
-fn no_occurrences(alloc: Global, vars: u64) -> Result<Vec<Vec<u64>>, AllocError> {
-    let mut table = Vec::new(alloc);
-    for _ in 0..vars.saturating_mul(2) {
-        table.push(Vec::new(alloc))?;
-    }
-    Ok(table)
+/// For each literal the numbers of the clauses that have it, the list of one literal behind that of another.
+#[derive(Drop)]
+struct Occurrences {
+    /// Where each literal's list begins, and where the last one ends.
+    bounds: Vec<u32>,
+    numbers: Vec<u32>,
 }
 
 /// For each literal the numbers of the clauses that have it.
-fn occurrences(alloc: Global, cnf: &Cnf) -> Result<Vec<Vec<u64>>, AllocError> {
-    let mut table = no_occurrences(alloc, cnf.vars)?;
-    for (number, clause) in cnf.clauses.iter().enumerate() {
-        note(&mut table, clause.lits(), number as u64)?;
-    }
-    Ok(table)
-}
-
-fn note(table: &mut Vec<Vec<u64>>, lits: &[Lit], number: u64) -> Result<(), AllocError> {
-    for lit in lits {
-        if let Some(numbers) = table.get_mut(index_of(*lit)) {
-            numbers.push(number)?;
+fn occurrences_in(alloc: Global, cnf: &Cnf) -> Result<Occurrences, AllocError> {
+    let literals = (cnf.vars as usize).saturating_mul(2);
+    let mut bounds = vec![in alloc; 0_u32; literals.saturating_add(2)]?;
+    for number in 0..cnf.clauses.len() {
+        for lit in cnf.clauses.clause(number) {
+            raise(&mut bounds, index_of(*lit).saturating_add(2));
         }
     }
-    Ok(())
+    let mut all = 0_u32;
+    for bound in bounds.iter_mut() {
+        all = all.saturating_add(*bound);
+        *bound = all;
+    }
+    // (each list is filled from its beginning on, which so becomes its end and the beginning of the next one)
+    let mut numbers = vec![in alloc; 0_u32; all as usize]?;
+    for number in 0..in_32_bits(cnf.clauses.len())? {
+        for lit in cnf.clauses.clause(number as usize) {
+            let place = raise(&mut bounds, index_of(*lit).saturating_add(1));
+            if let Some(found) = numbers.get_mut(place as usize) {
+                *found = number;
+            }
+        }
+    }
+    Ok(Occurrences { bounds, numbers })
+}
+
+/// Makes the number at a place greater by 1, and gives what it was.
+fn raise(numbers: &mut [u32], place: usize) -> u32 {
+    match numbers.get_mut(place) {
+        Some(number) => {
+            let before = *number;
+            *number = before.saturating_add(1);
+            before
+        }
+        None => 0,
+    }
+}
+
+impl Occurrences {
+    /// The numbers of the clauses that have the literal.
+    fn of(&self, lit: Lit) -> &[u32] {
+        let at = index_of(lit);
+        let (Some(start), Some(end)) = (self.bounds.get(at), self.bounds.get(at.saturating_add(1)))
+        else {
+            return &[];
+        };
+        self.numbers
+            .get(*start as usize..*end as usize)
+            .unwrap_or(&[])
+    }
 }
 
 /// Looks at a clause, and makes true what it forces. Whether the clause is false.
-fn is_false(cnf: &Cnf, trail: &mut Trail, number: u64) -> Result<bool, AllocError>
+fn is_false(cnf: &Cnf, trail: &mut Trail, number: u32) -> Result<bool, AllocError>
     requires room { length trail.old.values.items ≡ cnf.now.vars }
     ensures room { OnOk result (length trail.new.values.items ≡ cnf.now.vars) }
 {
-    let Some(clause) = cnf.clauses.get(number as usize) else {
+    let place = number as usize;
+    if place >= cnf.clauses.len() {
         return Ok(false);
-    };
-    match look_at(clause.lits(), &trail.values) {
+    }
+    match look_at(cnf.clauses.clause(place), &trail.values) {
         Look::Open => Ok(false),
         Look::False => {
             trail.hints.push(number)?;
@@ -90,7 +125,7 @@ fn is_false(cnf: &Cnf, trail: &mut Trail, number: u64) -> Result<bool, AllocErro
 }
 
 /// Looks at the clauses of these numbers in turn, until one is false. Whether one is.
-fn is_one_false(cnf: &Cnf, trail: &mut Trail, numbers: &[u64]) -> Result<bool, AllocError>
+fn is_one_false(cnf: &Cnf, trail: &mut Trail, numbers: &[u32]) -> Result<bool, AllocError>
     requires room { length trail.old.values.items ≡ cnf.now.vars }
     ensures room { OnOk result (length trail.new.values.items ≡ cnf.now.vars) }
 {
@@ -106,27 +141,25 @@ fn is_one_false(cnf: &Cnf, trail: &mut Trail, numbers: &[u64]) -> Result<bool, A
 fn propagates(alloc: Global, cnf: &Cnf, trail: &mut Trail) -> Result<bool, AllocError>
     requires room { length trail.old.values.items ≡ cnf.now.vars }
 {
-    let clauses: Vec<u64> = (0..cnf.clauses.len() as u64).collect(alloc)?;
+    let clauses: Vec<u32> = (0..in_32_bits(cnf.clauses.len())?).collect(alloc)?;
     if is_one_false(cnf, trail, &clauses)? {
         return Ok(true);
     }
-    let table = occurrences(alloc, cnf)?;
+    let table = occurrences_in(alloc, cnf)?;
     // (each literal that is forced gives one more variable its value)
     for at in 0..cnf.vars as usize {
         let Some(lit) = trail.forced.get(at).copied() else {
             return Ok(false);
         };
-        if let Some(numbers) = table.get(index_of(lit.negated())) {
-            if is_one_false(cnf, trail, numbers)? {
-                return Ok(true);
-            }
+        if is_one_false(cnf, trail, table.of(lit.negated()))? {
+            return Ok(true);
         }
     }
     Ok(false)
 }
 
 /// The derivation of the empty clause in one step along these clauses.
-fn one_step(alloc: Global, hints: Vec<u64>) -> Result<Vec<Step>, AllocError> {
+fn one_step(alloc: Global, hints: Vec<u32>) -> Result<Vec<Step>, AllocError> {
     let clause = Clause::new(Vec::new(alloc));
     let mut steps = Vec::new(alloc);
     steps.push(Step { clause, hints })?;

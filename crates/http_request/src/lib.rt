@@ -9,8 +9,6 @@ mod order;
 mod places;
 mod read;
 mod refusal;
-#[cfg(test)]
-mod tests;
 mod wanted;
 
 pub use bounds::front_len;

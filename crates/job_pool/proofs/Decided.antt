@@ -22,7 +22,7 @@ decided budget ob cnf bits (Sat assignment) carries shown =
 decided budget ob cnf bits (Spent steps) carries shown = tt
 
 -- an end over the obligation's clauses
-pub evident : (budget : ℕ) (ob : Parts) (cnf : Cnf) (bits : List (List ℕ)) (end : End) → cnf.vars ≡ length (netlist ob.nodes) → cnf.clauses.items ≡ ob_clauses ob.nodes ob.root → Carries ob.nodes ob.root cnf bits → IsEnd cnf budget end → IsEvidence budget ob end
+pub evident : (budget : ℕ) (ob : Parts) (cnf : Cnf) (bits : List (List ℕ)) (end : End) → cnf.vars ≡ length (netlist ob.nodes) → cnf.clauses ≡ ob_clauses ob.nodes ob.root → Carries ob.nodes ob.root cnf bits → IsEnd cnf budget end → IsEvidence budget ob end
 evident budget ob cnf bits end vars clauses carries shown = record { formula = cnf; vars = vars; clauses = clauses; shown = shown; decides = decided budget ob cnf bits end carries shown }
 
 -- the values that an assignment has, which holds for the obligation's clauses

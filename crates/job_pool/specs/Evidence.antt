@@ -20,6 +20,6 @@ Decides ob (Spent steps) = ⊤
 pub record IsEvidence (budget : ℕ) (ob : Parts) (end : End) : Type 0 where
   pub formula : Cnf
   pub vars : formula.vars ≡ length (netlist ob.nodes)
-  pub clauses : formula.clauses.items ≡ ob_clauses ob.nodes ob.root
+  pub clauses : formula.clauses ≡ ob_clauses ob.nodes ob.root
   pub shown : IsEnd formula budget end
   pub decides : Decides ob end

@@ -1,10 +1,12 @@
-// One obligation decided.
+// Obligations decided.
 ghost use Rattle.std.specs.Prelude.{◌<◌, IfOk};
 ghost use Rattle.job_pool.specs.Shown.{IsShown};
 
+use crate::task::Task;
 use cdcl::End;
 use clause_check::Step;
 use cnf_build::build;
+use outside::Gate;
 use presolve::solve;
 use std::alloc::{AllocError, Global};
 use word_dag::Ob;
@@ -20,8 +22,8 @@ pub enum Evidence {
     Chain(Vec<Step>),
 }
 
-/// Decides an obligation within a budget of steps. It is refused for want of memory alone.
-pub(crate) fn decide(alloc: Global, ob: &Ob, budget: u64) -> Result<Evidence, AllocError>
+// Decides an obligation within a budget of steps. It is refused for want of memory alone.
+fn decide(alloc: Global, ob: &Ob, budget: u64) -> Result<Evidence, AllocError>
     requires { 0 < budget }
     ensures { IfOk result (IsShown budget ob.now) }
 {
@@ -33,5 +35,25 @@ pub(crate) fn decide(alloc: Global, ob: &Ob, budget: u64) -> Result<Evidence, Al
             Ok(Evidence::Values(values))
         }
         End::Spent(steps) => Ok(Evidence::Chain(steps)),
+    }
+}
+
+/// Obligations are decided, each within this budget of steps. The gate is entered before each.
+#[derive(Drop)]
+pub(crate) struct Deciding<'a, G> {
+    pub alloc: Global,
+    pub budget: u64,
+    pub gate: &'a G,
+    ghost some: { 0 < budget },
+}
+
+impl<'a, G: Gate> Task<Ob, Evidence> for Deciding<'a, G> {
+    ghost use Rattle.job_pool.specs.Shown.{IsShown};
+
+    ghost ends = { λ deciding. IsShown deciding.budget };
+
+    fn end(&self, number: u64, ob: &Ob) -> Result<Evidence, AllocError> {
+        self.gate.enter(number);
+        decide(self.alloc, ob, self.budget)
     }
 }

@@ -1,13 +1,18 @@
-//! Obligations decided by workers in threads of their own, which draw the numbers of their jobs from one shared word.
+//! Tasks done with the elements of a list by workers in threads of their own, which draw the numbers of the elements from one
+//! shared word; and obligations decided so.
 #![tactic(auto)]
 
+mod crew;
 mod evidence;
 mod order;
 mod rule;
 mod run;
+mod task;
 mod tickets;
 mod work;
 
+pub use crew::{Crew, Ran};
 pub use evidence::Evidence;
-pub use run::{Ran, run_jobs};
+pub use run::run_jobs;
+pub use task::Task;
 pub use tickets::{Seat, Tickets};

@@ -1,24 +1,23 @@
 // The ends in the order of the jobs.
 ghost use Rattle.std.specs.Prelude.{◌≡◌, ℕ, IfOk, IsPermutation, List, map};
 ghost use Rattle.std.specs.List.{range_with_len};
-ghost use Rattle.job_pool.specs.Jobs.{IsOrdered, evidence_of};
+ghost use Rattle.job_pool.specs.Jobs.{IsOrdered, end_of};
 
-use crate::evidence::Evidence;
 use crate::work::Done;
 use std::alloc::{AllocError, Global};
 
-// What shows the ends, in the order of their numbers.
-pub(crate) fn ordered(alloc: Global, mut done: Vec<Done>) -> Result<Vec<Evidence>, AllocError>
+// The ends, in the order of their numbers.
+pub(crate) fn ordered<X: Drop>(alloc: Global, mut done: Vec<Done<X>>) -> Result<Vec<X>, AllocError>
     ensures { IfOk result (λ ends. IsOrdered done.items ends.items) }
 {
     done.sort_unstable_by_key(|d| d.number);
     ends_of(alloc, done)
 }
 
-fn ends_of(alloc: Global, done: Vec<Done>) -> Result<Vec<Evidence>, AllocError>
-    ensures { IfOk result (λ ends. ends.items ≡ map evidence_of done.items) }
+fn ends_of<X: Drop>(alloc: Global, done: Vec<Done<X>>) -> Result<Vec<X>, AllocError>
+    ensures { IfOk result (λ ends. ends.items ≡ map end_of done.items) }
 {
-    done.into_iter().map(|d| d.evidence).collect(alloc)
+    done.into_iter().map(|d| d.end).collect(alloc)
 }
 
 // The numbers below n.

@@ -32,7 +32,7 @@ var_below ob b carried is =
     let word = carried.in_range b.place [] is.place in
     word.2 b.height 0 is.height
 
-module _ (ob : Parts) (carried : IsCarried ob) (cnf : Cnf) (units : List (List Lit)) (vars : cnf.vars ≡ length (netlist ob.nodes)) (clauses : cnf.clauses.items ≡ ob_clauses ob.nodes ob.root ++ units) where
+module _ (ob : Parts) (carried : IsCarried ob) (cnf : Cnf) (units : List (List Lit)) (vars : cnf.vars ≡ length (netlist ob.nodes)) (clauses : cnf.clauses ≡ ob_clauses ob.nodes ob.root ++ units) where
   -- what holds for the clauses and the units has values at which the root is 1, and the units are satisfied
   module _ (a : List Bool) (holds : Holds cnf a) where
     each_of : All (Satisfies a) (ob_clauses ob.nodes ob.root ++ units)

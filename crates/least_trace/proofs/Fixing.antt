@@ -30,7 +30,7 @@ module _ (ob : Parts) (bits : List Bit) (i : ℕ) (b d : Bit) (lt : i < length b
       below_are ob.nodes us bits i d lt ∙ ap (λ x. map (as_in ob.nodes us) (take i bits) ++ is_zero ob.nodes x ∷ []) (sym is)
 
   -- with the unit clause that the bit is 0 the formula is the one of the bit
-  pub is_below : (us : List ℕ) (cnf next : Cnf) (excluded : List Excluded) → IsFixed ob bits i cnf us excluded → next.vars ≡ cnf.vars → next.clauses.items ≡ cnf.clauses.items ++ is_zero ob.nodes b ∷ [] → IsBelow ob bits us i next
+  pub is_below : (us : List ℕ) (cnf next : Cnf) (excluded : List Excluded) → IsFixed ob bits i cnf us excluded → next.vars ≡ cnf.vars → next.clauses ≡ cnf.clauses ++ is_zero ob.nodes b ∷ [] → IsBelow ob bits us i next
   is_below us cnf next excluded f ev ec = record {
     vars = ev ∙ f.vars;
     clauses = ec ∙ ap (λ cs. cs ++ is_zero ob.nodes b ∷ []) f.clauses
@@ -39,7 +39,7 @@ module _ (ob : Parts) (bits : List Bit) (i : ℕ) (b d : Bit) (lt : i < length b
   }
 
   -- the unit clauses with one more, over values that are the same in the earlier bits
-  clauses_more : (us vs : List ℕ) (u : ℕ) (cnf next : Cnf) (excluded : List Excluded) → IsFixed ob bits i cnf us excluded → Agree (take i bits) us vs → bit_in vs b ≡ u → next.clauses.items ≡ cnf.clauses.items ++ unit_of (var_of ob.nodes b) u ∷ [] → next.clauses.items ≡ ob_clauses ob.nodes ob.root ++ map (as_in ob.nodes vs) (take (i + 1) bits)
+  clauses_more : (us vs : List ℕ) (u : ℕ) (cnf next : Cnf) (excluded : List Excluded) → IsFixed ob bits i cnf us excluded → Agree (take i bits) us vs → bit_in vs b ≡ u → next.clauses ≡ cnf.clauses ++ unit_of (var_of ob.nodes b) u ∷ [] → next.clauses ≡ ob_clauses ob.nodes ob.root ++ map (as_in ob.nodes vs) (take (i + 1) bits)
   clauses_more us vs u cnf next excluded f agree e ec =
       let unit = unit_of (var_of ob.nodes b) u in
       let base = ob_clauses ob.nodes ob.root in
@@ -68,7 +68,7 @@ module _ (ob : Parts) (bits : List Bit) (i : ℕ) (b d : Bit) (lt : i < length b
   later excluded before = All-weaker (λ (e : Excluded). e.bit < i) (λ (e : Excluded). e.bit < i + 1) (λ e l. omega arith) excluded before
 
   -- a bit that is 0 in values that are the same in the earlier bits
-  pub fixed_zero : (us vs : List ℕ) (cnf next : Cnf) (excluded : List Excluded) → IsFixed ob bits i cnf us excluded → Satisfy ob vs → Agree (take i bits) us vs → bit_in vs b ≡ 0 → next.vars ≡ cnf.vars → next.clauses.items ≡ cnf.clauses.items ++ is_zero ob.nodes b ∷ [] → IsFixed ob bits (i + 1) next vs excluded
+  pub fixed_zero : (us vs : List ℕ) (cnf next : Cnf) (excluded : List Excluded) → IsFixed ob bits i cnf us excluded → Satisfy ob vs → Agree (take i bits) us vs → bit_in vs b ≡ 0 → next.vars ≡ cnf.vars → next.clauses ≡ cnf.clauses ++ is_zero ob.nodes b ∷ [] → IsFixed ob bits (i + 1) next vs excluded
   fixed_zero us vs cnf next excluded f witness agree zero ev ec = record {
     vars = ev ∙ f.vars;
     clauses = clauses_more us vs 0 cnf next excluded f agree zero ec;
@@ -83,7 +83,7 @@ module _ (ob : Parts) (bits : List Bit) (i : ℕ) (b d : Bit) (lt : i < length b
   }
 
   -- a bit that is 0 in the values of an assignment that holds
-  pub found_zero : IsCarried ob → All (IsBit ob.nodes) bits → (us vs : List ℕ) (cnf next : Cnf) (excluded : List Excluded) (a : List Bool) → IsFixed ob bits i cnf us excluded → next.vars ≡ cnf.vars → next.clauses.items ≡ cnf.clauses.items ++ is_zero ob.nodes b ∷ [] → Holds next a → vs ≡ read_words (at a) (ob_bits ob.nodes) → IsFixed ob bits (i + 1) next vs excluded
+  pub found_zero : IsCarried ob → All (IsBit ob.nodes) bits → (us vs : List ℕ) (cnf next : Cnf) (excluded : List Excluded) (a : List Bool) → IsFixed ob bits i cnf us excluded → next.vars ≡ cnf.vars → next.clauses ≡ cnf.clauses ++ is_zero ob.nodes b ∷ [] → Holds next a → vs ≡ read_words (at a) (ob_bits ob.nodes) → IsFixed ob bits (i + 1) next vs excluded
   found_zero carried known us vs cnf next excluded a f ev ec holds ew =
       let below = is_below us cnf next excluded f ev ec in
       let units = units_below ob.nodes us bits i in
@@ -112,7 +112,7 @@ module _ (ob : Parts) (bits : List Bit) (i : ℕ) (b d : Bit) (lt : i < length b
         refuted cnf e.steps.items refutes found.0 found.1
 
     -- such a bit is 1
-    pub fixed_one : (base next : Cnf) (excluded after : List Excluded) → IsFixed ob bits i base us excluded → bit_in us b ≡ 1 → e.bit ≡ i → next.vars ≡ base.vars → next.clauses.items ≡ base.clauses.items ++ (plus (var_of ob.nodes b) ∷ []) ∷ [] → after ≡ excluded ++ e ∷ [] → IsFixed ob bits (i + 1) next us after
+    pub fixed_one : (base next : Cnf) (excluded after : List Excluded) → IsFixed ob bits i base us excluded → bit_in us b ≡ 1 → e.bit ≡ i → next.vars ≡ base.vars → next.clauses ≡ base.clauses ++ (plus (var_of ob.nodes b) ∷ []) ∷ [] → after ≡ excluded ++ e ∷ [] → IsFixed ob bits (i + 1) next us after
     fixed_one base next excluded after f one number ev ec ea =
         let itself : Agree (take i bits) us us = λ k z within. refl in
         let place : 0 + length (take i bits) ≡ e.bit = omega (arith, length-take-le i bits (omega arith), number) in

@@ -48,7 +48,7 @@ units_below nodes us (b ∷ bits) (suc i) = as_in nodes us b ∷ units_below nod
 -- the clauses of the obligation, then those units: what holds for them has 0 at bit i and comes before the values there
 pub record IsBelow (ob : Parts) (bits : List Bit) (us : List ℕ) (i : ℕ) (cnf : Cnf) : Type 0 where
   pub vars : cnf.vars ≡ length (netlist ob.nodes)
-  pub clauses : cnf.clauses.items ≡ ob_clauses ob.nodes ob.root ++ units_below ob.nodes us bits i
+  pub clauses : cnf.clauses ≡ ob_clauses ob.nodes ob.root ++ units_below ob.nodes us bits i
 
 -- the steps refute that the bit is 0
 pub record Excludes (ob : Parts) (bits : List Bit) (us : List ℕ) (e : Excluded) : Type 0 where

@@ -27,14 +27,14 @@ pub record IsBit (nodes : List Node) (b : Bit) : Type 0 where
 pub record IsCarried (ob : Parts) : Type 0 where
   pub formula : Cnf
   pub vars : formula.vars ≡ length (netlist ob.nodes)
-  pub clauses : formula.clauses.items ≡ ob_clauses ob.nodes ob.root
+  pub clauses : formula.clauses ≡ ob_clauses ob.nodes ob.root
   pub in_range : All (IsBits (length (netlist ob.nodes))) (ob_bits ob.nodes)
   pub carries : Carries ob.nodes ob.root formula (ob_bits ob.nodes)
 
 -- the first i bits are decided: no values come before these by them, and unit clauses keep them as they are
 pub record IsFixed (ob : Parts) (bits : List Bit) (i : ℕ) (cnf : Cnf) (us : List ℕ) (excluded : List Excluded) : Type 0 where
   pub vars : cnf.vars ≡ length (netlist ob.nodes)
-  pub clauses : cnf.clauses.items ≡ ob_clauses ob.nodes ob.root ++ map (as_in ob.nodes us) (take i bits)
+  pub clauses : cnf.clauses ≡ ob_clauses ob.nodes ob.root ++ map (as_in ob.nodes us) (take i bits)
   pub witness : Satisfy ob us
   pub none_before : NoneBefore ob (take i bits) us
   pub entries : map number_of excluded ≡ ones_from 0 us (take i bits)

@@ -57,7 +57,7 @@ impl Bit {
     }
 
     /// Its variable, where these are the variables of the free words.
-    pub fn var(self, vars: &[Vars]) -> u64
+    pub fn var(self, vars: &[Vars]) -> u32
         requires place { self.place < length vars.now }
         requires height { self.height < length (slice_index_or vars.now self.place []) }
         ensures { result ≡ slice_index (slice_index_or vars.now self.place []) self.height }

@@ -5,8 +5,6 @@ mod bits;
 mod ends;
 mod finding;
 mod laws;
-#[cfg(test)]
-mod tests;
 mod walk;
 mod words;
 

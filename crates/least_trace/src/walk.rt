@@ -8,7 +8,7 @@ use crate::bits::Bit;
 use crate::ends::Excluded;
 use bit_circuits::{negative, positive};
 use cdcl::{End, solve};
-use clause_check::{Clause, Cnf, Lit, Step};
+use clause_check::{Cnf, Lit, Step};
 use cnf_build::Built;
 use std::alloc::{AllocError, Global};
 
@@ -24,18 +24,16 @@ pub struct Walk {
 // Adds the unit clause of a literal.
 fn add_unit(alloc: Global, cnf: &mut Cnf, lit: Lit) -> Result<(), AllocError>
     requires { lit.var < cnf.old.vars }
-    ensures clauses { OnOk result (cnf.new.clauses.items ≡ cnf.old.clauses.items ++ (lit ∷ []) ∷ []) }
+    ensures clauses { OnOk result (cnf.new.clauses ≡ cnf.old.clauses ++ (lit ∷ []) ∷ []) }
     ensures vars { cnf.new.vars ≡ cnf.old.vars }
 {
-    let lits = vec![in alloc; lit]?;
-    cnf.clauses.push(Clause::new(lits))?;
-    Ok(())
+    cnf.clauses.push(&[lit])
 }
 
 // Turns the last unit clause, which says that a bit is 0.
-fn turn_last(alloc: Global, cnf: &mut Cnf, var: u64) -> Result<(), AllocError>
+fn turn_last(alloc: Global, cnf: &mut Cnf, var: u32) -> Result<(), AllocError>
     requires { var < cnf.old.vars }
-    ensures clauses { OnOk result (cnf.new.clauses.items ≡ take (length cnf.old.clauses.items - 1) cnf.old.clauses.items ++ (plus var ∷ []) ∷ []) }
+    ensures clauses { OnOk result (cnf.new.clauses ≡ take (length cnf.old.clauses - 1) cnf.old.clauses ++ (plus var ∷ []) ∷ []) }
     ensures vars { cnf.new.vars ≡ cnf.old.vars }
 {
     cnf.clauses.pop();

@@ -31,7 +31,7 @@ use Rattle.line_clauses.specs.declared.fault.KeepFault.TheVariants as k
 -- the formula has the clauses of the obligation
 pub record HasClauses (ob : Parts) (formula : Cnf) : Type 0 where
   pub vars : formula.vars ≡ length (netlist ob.nodes)
-  pub clauses : formula.clauses.items ≡ ob_clauses ob.nodes ob.root
+  pub clauses : formula.clauses ≡ ob_clauses ob.nodes ob.root
 
 -- the clauses of an obligation of the line of a name
 pub record HasLineClauses (b : Pair) (name : List ℕ) (formula : Cnf) : Type 0 where

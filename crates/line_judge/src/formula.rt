@@ -78,10 +78,10 @@ fn own_number(alloc: Global, expr: &Expr, entries: &Valuation) -> Result<u64, Al
     requires defined { IsDefined entries.now expr.now (width_of entries.now expr.now) (sign_of entries.now expr.now) }
     ensures { IfOk result (λ v. v ≡ own_value entries.now expr.now) }
 {
-    match evaluated(alloc, expr, entries)? {
-        Some((word, _)) => Ok(word.value()),
-        None => unreachable!(),
-    }
+    let Some((word, _)) = evaluated(alloc, expr, entries)? else {
+        unreachable!()
+    };
+    Ok(word.value())
 }
 
 /// The value of a formula of a set in the first of some rows, the names being read in the rows of their offsets. Refused for want of
@@ -98,8 +98,7 @@ pub fn formula_value(
 {
     let last = largest(formula) as usize;
     let entries = entries_of(alloc, set.set().names.as_slice(), &rows[..last + 1])?;
-    let value = own_number(alloc, formula, &entries)?;
-    Ok(value)
+    own_number(alloc, formula, &entries)
 }
 
 /// Whether a formula of a set holds in the first of some rows, which reach its largest offset. Refused for want of memory alone.

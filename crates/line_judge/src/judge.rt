@@ -7,6 +7,7 @@ ghost use Rattle.set_tree.specs.Parts.{property_at, IsPosition, window_of, assum
 ghost use Rattle.set_tree.specs.Traces.{IsTrace, IsConstrained, SameInputs};
 ghost use Rattle.set_tree.specs.Lines.{last_row, ViolatesEnd, ViolatesSplit, ViolatesSameEnd, ViolatesChoose, ViolatesHand};
 ghost use Rattle.line_laws.specs.Tests.{any_from, determined, same, is_number, opens, ends_at, pairs, pairs_to, violates_choose, violates_hand, violates_split, violates_determine};
+ghost use Rattle.twin_tests.specs.Ordering.{line_of};
 ghost use Rattle.twin_tests.specs.Reading.{FollowsWithin};
 ghost use Rattle.line_judge.specs.Judging.{is_same, endless, ends_apart, covers_apart, IsSized, AreSized, Undetermines, NamesProperties, AreViolating};
 
@@ -14,8 +15,17 @@ use crate::formula::{holds, rows_from};
 use crate::property::{end_of, is_assumed, meets_constraints, property_at, same_hands, starts};
 use crate::trace::{all_agree, is_trace};
 use set_sound::Sound;
-use set_tree::{Line, Rows, To};
+use set_tree::{Rows, To};
 use std::alloc::{AllocError, Global};
+use twin_tests::SetLine;
+
+/// A set, and the rows of two windows that may violate its lines.
+#[derive(Clone, Copy)]
+pub struct Windows<'a> {
+    pub set: &'a Sound,
+    pub one: &'a [Rows<u64>],
+    pub other: &'a [Rows<u64>],
+}
 
 /// Whether rows are a trace of a set at each cycle of which the constraints hold that fit. Refused for want of memory alone.
 pub fn is_constrained(alloc: Global, set: &Sound, rows: &[Rows<u64>]) -> Result<bool, AllocError>
@@ -24,8 +34,7 @@ pub fn is_constrained(alloc: Global, set: &Sound, rows: &[Rows<u64>]) -> Result<
     if !fits(set, rows) {
         return Ok(false);
     }
-    let met = meets_constraints(alloc, set, rows)?;
-    Ok(met)
+    meets_constraints(alloc, set, rows)
 }
 
 // Whether rows are a trace of a set.
@@ -43,20 +52,6 @@ fn is_sized(set: &Sound, end: usize, rows: &[Rows<u64>]) -> bool
     rows.len() == end + 1 && fits(set, rows)
 }
 
-// Whether two are, with the same inputs.
-fn are_sized(set: &Sound, end: usize, one: &[Rows<u64>], other: &[Rows<u64>]) -> bool
-    requires { end ≤ 1000 }
-    ensures { IsTrue result ↔ AreSized set.now end one.now other.now }
-{
-    if !is_sized(set, end, one) {
-        return false;
-    }
-    if !is_sized(set, end, other) {
-        return false;
-    }
-    all_agree(set.set().names.as_slice(), one, other)
-}
-
 // Whether the property at a position starts in the first row of a trace that meets the constraints.
 fn opens(alloc: Global, set: &Sound, at: u32, rows: &[Rows<u64>]) -> Result<bool, AllocError>
     requires trace { IsTrace set.now rows.now }
@@ -72,63 +67,13 @@ fn opens(alloc: Global, set: &Sound, at: u32, rows: &[Rows<u64>]) -> Result<bool
 fn is_same(one: Option<u8>, other: Option<u8>) -> bool
     ensures { result ≡ is_same one other }
 {
-    match (one, other) {
-        (None, None) => true,
-        (Some(one), Some(other)) => one == other,
-        (None, Some(_)) | (Some(_), None) => false,
-    }
+    one == other
 }
 
 fn is_number(one: Option<u8>, n: u8) -> bool
     ensures { result ≡ is_number one n }
 {
-    match one {
-        None => false,
-        Some(one) => one == n,
-    }
-}
-
-// Whether the property at a position starts in the first row of both traces, and hands over the same.
-fn pairs(
-    alloc: Global,
-    set: &Sound,
-    at: u32,
-    one: &[Rows<u64>],
-    other: &[Rows<u64>],
-) -> Result<bool, AllocError>
-    requires one { IsTrace set.now one.now }
-    requires other { IsTrace set.now other.now }
-    requires position { IsPosition set.now at }
-    requires window { window_of set.now at < length one.now }
-    requires other_window { window_of set.now at < length other.now }
-    ensures { IfOk result (λ b. b ≡ pairs (meaning_of set.now) set.now at one.now other.now) }
-{
-    let first = opens(alloc, set, at, one)?;
-    let second = opens(alloc, set, at, other)?;
-    let hands = same_hands(alloc, set, at, one, other)?;
-    Ok(first && second && hands)
-}
-
-// Whether it does so, and ends at n in both.
-fn pairs_to(
-    alloc: Global,
-    set: &Sound,
-    at: u32,
-    n: u8,
-    one: &[Rows<u64>],
-    other: &[Rows<u64>],
-) -> Result<bool, AllocError>
-    requires one { IsTrace set.now one.now }
-    requires other { IsTrace set.now other.now }
-    requires position { IsPosition set.now at }
-    requires window { window_of set.now at < length one.now }
-    requires other_window { window_of set.now at < length other.now }
-    ensures { IfOk result (λ b. b ≡ pairs_to (meaning_of set.now) set.now at n one.now other.now) }
-{
-    let pairs = pairs(alloc, set, at, one, other)?;
-    let first = end_of(alloc, set, at, one)?;
-    let second = end_of(alloc, set, at, other)?;
-    Ok(pairs && is_number(first, n) && is_number(second, n))
+    one == Some(n)
 }
 
 fn is_endless(alloc: Global, set: &Sound, at: u32, rows: &[Rows<u64>]) -> Result<bool, AllocError>
@@ -140,26 +85,6 @@ fn is_endless(alloc: Global, set: &Sound, at: u32, rows: &[Rows<u64>]) -> Result
     let opens = opens(alloc, set, at, rows)?;
     let end = end_of(alloc, set, at, rows)?;
     Ok(opens && is_same(end, None))
-}
-
-fn end_apart(
-    alloc: Global,
-    set: &Sound,
-    at: u32,
-    one: &[Rows<u64>],
-    other: &[Rows<u64>],
-) -> Result<bool, AllocError>
-    requires one { IsTrace set.now one.now }
-    requires other { IsTrace set.now other.now }
-    requires position { IsPosition set.now at }
-    requires window { window_of set.now at < length one.now }
-    requires other_window { window_of set.now at < length other.now }
-    ensures { IfOk result (λ b. b ≡ ends_apart (meaning_of set.now) set.now at one.now other.now) }
-{
-    let pairs = pairs(alloc, set, at, one, other)?;
-    let first = end_of(alloc, set, at, one)?;
-    let second = end_of(alloc, set, at, other)?;
-    Ok(pairs && !is_same(first, second))
 }
 
 // Whether one of the properties is assumed in the first row.
@@ -180,57 +105,6 @@ fn any_assumed(
         }
     }
     Ok(false)
-}
-
-// Whether a successor of the property at a position, which starts and ends at n, isn't assumed there in the second trace alone.
-fn is_chosen_once(
-    alloc: Global,
-    set: &Sound,
-    at: u32,
-    next: u32,
-    n: u8,
-    one: &[Rows<u64>],
-    other: &[Rows<u64>],
-) -> Result<bool, AllocError>
-    requires one { IsTrace set.now one.now }
-    requires other { IsTrace set.now other.now }
-    requires position { IsPosition set.now at }
-    requires next { IsPosition set.now next }
-    requires size { length one.now ≡ max (window_of set.now at) (n + window_of set.now next) + 1 }
-    requires other_size { length other.now ≡ max (window_of set.now at) (n + window_of set.now next) + 1 }
-    ensures { IfOk result (λ b. b ≡ violates_choose (meaning_of set.now) set.now at next n one.now other.now) }
-{
-    let pairs = pairs_to(alloc, set, at, n, one, other)?;
-    let chosen = is_assumed(alloc, set, next, rows_from(one, usize::from(n)))?;
-    let also = is_assumed(alloc, set, next, rows_from(other, usize::from(n)))?;
-    Ok(pairs && chosen && !also)
-}
-
-// Whether both traces go on with a successor that doesn't hand over the same.
-fn hands_apart(
-    alloc: Global,
-    set: &Sound,
-    at: u32,
-    next: u32,
-    n: u8,
-    one: &[Rows<u64>],
-    other: &[Rows<u64>],
-) -> Result<bool, AllocError>
-    requires one { IsTrace set.now one.now }
-    requires other { IsTrace set.now other.now }
-    requires position { IsPosition set.now at }
-    requires next { IsPosition set.now next }
-    requires size { length one.now ≡ max (window_of set.now at) (n + window_of set.now next) + 1 }
-    requires other_size { length other.now ≡ max (window_of set.now at) (n + window_of set.now next) + 1 }
-    ensures { IfOk result (λ b. b ≡ violates_hand (meaning_of set.now) set.now at next n one.now other.now) }
-{
-    let pairs = pairs_to(alloc, set, at, n, one, other)?;
-    let one = rows_from(one, usize::from(n));
-    let other = rows_from(other, usize::from(n));
-    let first = starts(alloc, set, next, one)?;
-    let second = starts(alloc, set, next, other)?;
-    let same = same_hands(alloc, set, next, one, other)?;
-    Ok(pairs && first && second && !same)
 }
 
 // The offset at which a cover ends, where its property ends at n.
@@ -273,71 +147,7 @@ fn violates_end(alloc: Global, set: &Sound, at: u32, rows: &[Rows<u64>]) -> Resu
     if !is_sized(set, end, rows) {
         return Ok(false);
     }
-    let endless = is_endless(alloc, set, at, rows)?;
-    Ok(endless)
-}
-
-// `same-end P`.
-fn violates_same_end(
-    alloc: Global,
-    set: &Sound,
-    at: u32,
-    one: &[Rows<u64>],
-    other: &[Rows<u64>],
-) -> Result<bool, AllocError>
-    requires { IsPosition set.now at }
-    ensures { IfOk result (λ b. IsTrue b ↔ ViolatesSameEnd (meaning_of set.now) set.now at one.now other.now) }
-{
-    let end = window(set, at);
-    if !are_sized(set, end, one, other) {
-        return Ok(false);
-    }
-    let apart = end_apart(alloc, set, at, one, other)?;
-    Ok(apart)
-}
-
-// `choose P Q`, where P ends at n.
-fn violates_choose(
-    alloc: Global,
-    set: &Sound,
-    at: u32,
-    next: u32,
-    n: u8,
-    one: &[Rows<u64>],
-    other: &[Rows<u64>],
-) -> Result<bool, AllocError>
-    requires position { IsPosition set.now at }
-    requires next { IsPosition set.now next }
-    ensures { IfOk result (λ b. IsTrue b ↔ ViolatesChoose (meaning_of set.now) set.now at next n one.now other.now) }
-{
-    let end = edge(set, at, next, n);
-    if !are_sized(set, end, one, other) {
-        return Ok(false);
-    }
-    let once = is_chosen_once(alloc, set, at, next, n, one, other)?;
-    Ok(once)
-}
-
-// `hand P Q`, where P ends at n.
-fn violates_hand(
-    alloc: Global,
-    set: &Sound,
-    at: u32,
-    next: u32,
-    n: u8,
-    one: &[Rows<u64>],
-    other: &[Rows<u64>],
-) -> Result<bool, AllocError>
-    requires position { IsPosition set.now at }
-    requires next { IsPosition set.now next }
-    ensures { IfOk result (λ b. IsTrue b ↔ ViolatesHand (meaning_of set.now) set.now at next n one.now other.now) }
-{
-    let end = edge(set, at, next, n);
-    if !are_sized(set, end, one, other) {
-        return Ok(false);
-    }
-    let apart = hands_apart(alloc, set, at, next, n, one, other)?;
-    Ok(apart)
+    is_endless(alloc, set, at, rows)
 }
 
 // Whether the property at a position starts and ends at n, and no successor is assumed there.
@@ -395,8 +205,7 @@ fn violates_split(
     if !is_sized(set, end, rows) {
         return Ok(false);
     }
-    let split = is_split(alloc, set, at, n, rows)?;
-    Ok(split)
+    is_split(alloc, set, at, n, rows)
 }
 
 fn same(one: bool, other: bool) -> bool
@@ -422,21 +231,17 @@ fn in_domain(
     let Some(domain) = &name.domain else {
         return Ok(true);
     };
-    let inside = holds(alloc, set, domain, rows)?;
-    Ok(inside)
+    holds(alloc, set, domain, rows)
 }
 
 // The value of the name at a position in the first row.
 fn value_of(output: u32, rows: &[Rows<u64>]) -> u64
     ensures { result ≡ value_of output rows.now }
 {
-    match rows.first() {
-        None => 0,
-        Some(row) => match row.as_slice().get(output as usize) {
-            None => 0,
-            Some(value) => *value,
-        },
-    }
+    let Some(row) = rows.first() else {
+        return 0;
+    };
+    row.as_slice().get(output as usize).copied().unwrap_or(0)
 }
 
 // Whether an output is determined in the first row.
@@ -459,166 +264,258 @@ fn determined(
     Ok(same(first, second) && (!first || equal))
 }
 
-// Whether an output isn't determined in one of the rows from one up to another.
-fn any_apart(
-    alloc: Global,
-    set: &Sound,
-    output: u32,
-    from: usize,
-    to: usize,
-    one: &[Rows<u64>],
-    other: &[Rows<u64>],
-) -> Result<bool, AllocError>
-    requires one { IsTrace set.now one.now }
-    requires other { IsTrace set.now other.now }
-    requires within { to ≤ length one.now }
-    requires other_within { to ≤ length other.now }
-    ensures { IfOk result (λ b. b ≡ any_from from (to - from) (λ at. not (determined (meaning_of set.now) set.now output (drop at one.now) (drop at other.now)))) }
-{
-    for at in from..to {
-        let first = rows_from(one, at);
-        let second = rows_from(other, at);
-        let determined = determined(alloc, set, output, first, second)?;
-        if !determined {
-            return Ok(true);
-        }
-    }
-    Ok(false)
-}
-
-// Whether the property at a position, which ends at n, covers an output at an offset where it isn't determined.
-fn any_covered_apart(
-    alloc: Global,
-    set: &Sound,
-    at: u32,
-    n: u8,
-    one: &[Rows<u64>],
-    other: &[Rows<u64>],
-) -> Result<bool, AllocError>
-    requires one { IsTrace set.now one.now }
-    requires other { IsTrace set.now other.now }
-    requires position { IsPosition set.now at }
-    requires window { window_of set.now at < length one.now }
-    requires other_window { window_of set.now at < length other.now }
-    requires end { n ≤ (property_at set.now at).length.high }
-    ensures { IfOk result (λ b. b ≡ covers_apart (meaning_of set.now) set.now at n one.now other.now) }
-{
-    let property = property_at(set, at);
-    for cover in property.covers.as_slice() {
-        let from = cover.from as usize;
-        let end = cover_end(cover.to, n) as usize;
-        let apart = any_apart(alloc, set, cover.output, from, end, one, other)?;
-        if apart {
-            return Ok(true);
-        }
-    }
-    Ok(false)
-}
-
-// Whether it starts and ends at n in both traces, and covers such an output.
-fn ends_undetermined(
-    alloc: Global,
-    set: &Sound,
-    at: u32,
-    n: u8,
-    one: &[Rows<u64>],
-    other: &[Rows<u64>],
-) -> Result<bool, AllocError>
-    requires one { IsTrace set.now one.now }
-    requires other { IsTrace set.now other.now }
-    requires position { IsPosition set.now at }
-    requires window { window_of set.now at < length one.now }
-    requires other_window { window_of set.now at < length other.now }
-    requires end { n ≤ (property_at set.now at).length.high }
-    ensures { IfOk result (λ b. b ≡ violates_determine (meaning_of set.now) set.now at n one.now other.now) }
-{
-    let pairs = pairs_to(alloc, set, at, n, one, other)?;
-    let apart = any_covered_apart(alloc, set, at, n, one, other)?;
-    Ok(pairs && apart)
-}
-
-// `determine P`, where P ends at n.
-fn violates_determine(
-    alloc: Global,
-    set: &Sound,
-    at: u32,
-    n: u8,
-    one: &[Rows<u64>],
-    other: &[Rows<u64>],
-) -> Result<bool, AllocError>
-    requires { IsPosition set.now at }
-    ensures { IfOk result (λ b. IsTrue b ↔ Undetermines (meaning_of set.now) set.now at n one.now other.now) }
-{
-    let property = property_at(set, at);
-    if n > property.length.high {
-        return Ok(false);
-    }
-    let end = window(set, at);
-    if !are_sized(set, end, one, other) {
-        return Ok(false);
-    }
-    let apart = ends_undetermined(alloc, set, at, n, one, other)?;
-    Ok(apart)
-}
-
-fn violates(
-    alloc: Global,
-    set: &Sound,
-    line: Line,
-    n: u8,
-    one: &[Rows<u64>],
-    other: &[Rows<u64>],
-) -> Result<bool, AllocError>
-    requires { NamesProperties set.now line }
-    ensures { IfOk result (λ b. IsTrue b ↔ AreViolating (meaning_of set.now) set.now line n one.now other.now) }
-{
-    match line {
-        Line::Base(_) | Line::Step(_) | Line::Reset | Line::Operation(_) => Ok(false),
-        Line::End(at) => violates_end(alloc, set, at, one),
-        Line::Split(at) => violates_split(alloc, set, at, n, one),
-        Line::SameEnd(at) => violates_same_end(alloc, set, at, one, other),
-        Line::Choose(at, next) => violates_choose(alloc, set, at, next, n, one, other),
-        Line::Hand(at, next) => violates_hand(alloc, set, at, next, n, one, other),
-        Line::Determine(at) => violates_determine(alloc, set, at, n, one, other),
-    }
-}
-
 fn is_position(set: &Sound, at: u32) -> bool
     ensures { IsTrue result ↔ IsPosition set.now at }
 {
     at as usize <= set.set().operations.len()
 }
 
-fn names_properties(set: &Sound, line: Line) -> bool
-    ensures { IsTrue result ↔ NamesProperties set.now line }
+fn names_properties(set: &Sound, line: SetLine) -> bool
+    ensures { IsTrue result ↔ NamesProperties set.now (line_of line) }
 {
     match line {
-        Line::Base(_) | Line::Step(_) | Line::Reset | Line::Operation(_) => true,
-        Line::End(at) | Line::Split(at) | Line::SameEnd(at) | Line::Determine(at) => {
+        SetLine::End(at) | SetLine::Split(at) | SetLine::SameEnd(at) | SetLine::Determine(at) => {
             is_position(set, at)
         }
-        Line::Choose(at, next) | Line::Hand(at, next) => {
+        SetLine::Choose(at, next) | SetLine::Hand(at, next) => {
             is_position(set, at) && is_position(set, next)
         }
     }
 }
 
-/// Whether windows violate a line of a set; where the line speaks of an end of its property, that is n cycles after its start. No windows
-/// violate a line on a design, nor one that names a property which isn't there; a line on one window reads the first. Refused for want of
-/// memory alone.
-pub fn is_violated(
-    alloc: Global,
-    set: &Sound,
-    line: Line,
-    n: u8,
-    one: &[Rows<u64>],
-    other: &[Rows<u64>],
-) -> Result<bool, AllocError>
-    ensures { IfOk result (λ b. IsTrue b ↔ (NamesProperties set.now line × AreViolating (meaning_of set.now) set.now line n one.now other.now)) }
-{
-    if !names_properties(set, line) {
-        return Ok(false);
+impl Windows<'_> {
+    // Whether both are sized so, with the same inputs.
+    fn are_sized(&self, end: usize) -> bool
+        requires { end ≤ 1000 }
+        ensures { IsTrue result ↔ AreSized self.now.set.now end self.now.one.now self.now.other.now }
+    {
+        if !is_sized(self.set, end, self.one) {
+            return false;
+        }
+        if !is_sized(self.set, end, self.other) {
+            return false;
+        }
+        all_agree(self.set.set().names.as_slice(), self.one, self.other)
     }
-    let violated = violates(alloc, set, line, n, one, other)?;
-    Ok(violated)
+
+    // Whether the property at a position starts in the first row of both traces, and hands over the same.
+    fn pairs(&self, alloc: Global, at: u32) -> Result<bool, AllocError>
+        requires one { IsTrace self.now.set.now self.now.one.now }
+        requires other { IsTrace self.now.set.now self.now.other.now }
+        requires position { IsPosition self.now.set.now at }
+        requires window { window_of self.now.set.now at < length self.now.one.now }
+        requires other_window { window_of self.now.set.now at < length self.now.other.now }
+        ensures { IfOk result (λ b. b ≡ pairs (meaning_of self.now.set.now) self.now.set.now at self.now.one.now self.now.other.now) }
+    {
+        let first = opens(alloc, self.set, at, self.one)?;
+        let second = opens(alloc, self.set, at, self.other)?;
+        let hands = same_hands(alloc, self.set, at, self.one, self.other)?;
+        Ok(first && second && hands)
+    }
+
+    // Whether it does so, and ends at n in both.
+    fn pairs_to(&self, alloc: Global, at: u32, n: u8) -> Result<bool, AllocError>
+        requires one { IsTrace self.now.set.now self.now.one.now }
+        requires other { IsTrace self.now.set.now self.now.other.now }
+        requires position { IsPosition self.now.set.now at }
+        requires window { window_of self.now.set.now at < length self.now.one.now }
+        requires other_window { window_of self.now.set.now at < length self.now.other.now }
+        ensures { IfOk result (λ b. b ≡ pairs_to (meaning_of self.now.set.now) self.now.set.now at n self.now.one.now self.now.other.now) }
+    {
+        let pairs = self.pairs(alloc, at)?;
+        let first = end_of(alloc, self.set, at, self.one)?;
+        let second = end_of(alloc, self.set, at, self.other)?;
+        Ok(pairs && is_number(first, n) && is_number(second, n))
+    }
+
+    fn end_apart(&self, alloc: Global, at: u32) -> Result<bool, AllocError>
+        requires one { IsTrace self.now.set.now self.now.one.now }
+        requires other { IsTrace self.now.set.now self.now.other.now }
+        requires position { IsPosition self.now.set.now at }
+        requires window { window_of self.now.set.now at < length self.now.one.now }
+        requires other_window { window_of self.now.set.now at < length self.now.other.now }
+        ensures { IfOk result (λ b. b ≡ ends_apart (meaning_of self.now.set.now) self.now.set.now at self.now.one.now self.now.other.now) }
+    {
+        let pairs = self.pairs(alloc, at)?;
+        let first = end_of(alloc, self.set, at, self.one)?;
+        let second = end_of(alloc, self.set, at, self.other)?;
+        Ok(pairs && !is_same(first, second))
+    }
+
+    // Whether a successor of the property at a position, which starts and ends at n, isn't assumed there in the second trace alone.
+    fn is_chosen_once(&self, alloc: Global, at: u32, next: u32, n: u8) -> Result<bool, AllocError>
+        requires one { IsTrace self.now.set.now self.now.one.now }
+        requires other { IsTrace self.now.set.now self.now.other.now }
+        requires position { IsPosition self.now.set.now at }
+        requires next { IsPosition self.now.set.now next }
+        requires size { length self.now.one.now ≡ max (window_of self.now.set.now at) (n + window_of self.now.set.now next) + 1 }
+        requires other_size { length self.now.other.now ≡ max (window_of self.now.set.now at) (n + window_of self.now.set.now next) + 1 }
+        ensures { IfOk result (λ b. b ≡ violates_choose (meaning_of self.now.set.now) self.now.set.now at next n self.now.one.now self.now.other.now) }
+    {
+        let pairs = self.pairs_to(alloc, at, n)?;
+        let chosen = is_assumed(alloc, self.set, next, rows_from(self.one, usize::from(n)))?;
+        let also = is_assumed(alloc, self.set, next, rows_from(self.other, usize::from(n)))?;
+        Ok(pairs && chosen && !also)
+    }
+
+    // Whether both traces go on with a successor that doesn't hand over the same.
+    fn hands_apart(&self, alloc: Global, at: u32, next: u32, n: u8) -> Result<bool, AllocError>
+        requires one { IsTrace self.now.set.now self.now.one.now }
+        requires other { IsTrace self.now.set.now self.now.other.now }
+        requires position { IsPosition self.now.set.now at }
+        requires next { IsPosition self.now.set.now next }
+        requires size { length self.now.one.now ≡ max (window_of self.now.set.now at) (n + window_of self.now.set.now next) + 1 }
+        requires other_size { length self.now.other.now ≡ max (window_of self.now.set.now at) (n + window_of self.now.set.now next) + 1 }
+        ensures { IfOk result (λ b. b ≡ violates_hand (meaning_of self.now.set.now) self.now.set.now at next n self.now.one.now self.now.other.now) }
+    {
+        let pairs = self.pairs_to(alloc, at, n)?;
+        let one = rows_from(self.one, usize::from(n));
+        let other = rows_from(self.other, usize::from(n));
+        let first = starts(alloc, self.set, next, one)?;
+        let second = starts(alloc, self.set, next, other)?;
+        let same = same_hands(alloc, self.set, next, one, other)?;
+        Ok(pairs && first && second && !same)
+    }
+
+    // `same-end P`.
+    fn violates_same_end(&self, alloc: Global, at: u32) -> Result<bool, AllocError>
+        requires { IsPosition self.now.set.now at }
+        ensures { IfOk result (λ b. IsTrue b ↔ ViolatesSameEnd (meaning_of self.now.set.now) self.now.set.now at self.now.one.now self.now.other.now) }
+    {
+        let end = window(self.set, at);
+        if !self.are_sized(end) {
+            return Ok(false);
+        }
+        self.end_apart(alloc, at)
+    }
+
+    // `choose P Q`, where P ends at n.
+    fn violates_choose(&self, alloc: Global, at: u32, next: u32, n: u8) -> Result<bool, AllocError>
+        requires position { IsPosition self.now.set.now at }
+        requires next { IsPosition self.now.set.now next }
+        ensures { IfOk result (λ b. IsTrue b ↔ ViolatesChoose (meaning_of self.now.set.now) self.now.set.now at next n self.now.one.now self.now.other.now) }
+    {
+        let end = edge(self.set, at, next, n);
+        if !self.are_sized(end) {
+            return Ok(false);
+        }
+        self.is_chosen_once(alloc, at, next, n)
+    }
+
+    // `hand P Q`, where P ends at n.
+    fn violates_hand(&self, alloc: Global, at: u32, next: u32, n: u8) -> Result<bool, AllocError>
+        requires position { IsPosition self.now.set.now at }
+        requires next { IsPosition self.now.set.now next }
+        ensures { IfOk result (λ b. IsTrue b ↔ ViolatesHand (meaning_of self.now.set.now) self.now.set.now at next n self.now.one.now self.now.other.now) }
+    {
+        let end = edge(self.set, at, next, n);
+        if !self.are_sized(end) {
+            return Ok(false);
+        }
+        self.hands_apart(alloc, at, next, n)
+    }
+
+    // Whether an output isn't determined in one of the rows from one up to another.
+    fn any_apart(
+        &self,
+        alloc: Global,
+        output: u32,
+        from: usize,
+        to: usize,
+    ) -> Result<bool, AllocError>
+        requires one { IsTrace self.now.set.now self.now.one.now }
+        requires other { IsTrace self.now.set.now self.now.other.now }
+        requires within { to ≤ length self.now.one.now }
+        requires other_within { to ≤ length self.now.other.now }
+        ensures { IfOk result (λ b. b ≡ any_from from (to - from) (λ at. not (determined (meaning_of self.now.set.now) self.now.set.now output (drop at self.now.one.now) (drop at self.now.other.now)))) }
+    {
+        for at in from..to {
+            let first = rows_from(self.one, at);
+            let second = rows_from(self.other, at);
+            let determined = determined(alloc, self.set, output, first, second)?;
+            if !determined {
+                return Ok(true);
+            }
+        }
+        Ok(false)
+    }
+
+    // Whether the property at a position, which ends at n, covers an output at an offset where it isn't determined.
+    fn any_covered_apart(&self, alloc: Global, at: u32, n: u8) -> Result<bool, AllocError>
+        requires one { IsTrace self.now.set.now self.now.one.now }
+        requires other { IsTrace self.now.set.now self.now.other.now }
+        requires position { IsPosition self.now.set.now at }
+        requires window { window_of self.now.set.now at < length self.now.one.now }
+        requires other_window { window_of self.now.set.now at < length self.now.other.now }
+        requires end { n ≤ (property_at self.now.set.now at).length.high }
+        ensures { IfOk result (λ b. b ≡ covers_apart (meaning_of self.now.set.now) self.now.set.now at n self.now.one.now self.now.other.now) }
+    {
+        let property = property_at(self.set, at);
+        for cover in property.covers.as_slice() {
+            let from = cover.from as usize;
+            let end = cover_end(cover.to, n) as usize;
+            let apart = self.any_apart(alloc, cover.output, from, end)?;
+            if apart {
+                return Ok(true);
+            }
+        }
+        Ok(false)
+    }
+
+    // Whether it starts and ends at n in both traces, and covers such an output.
+    fn ends_undetermined(&self, alloc: Global, at: u32, n: u8) -> Result<bool, AllocError>
+        requires one { IsTrace self.now.set.now self.now.one.now }
+        requires other { IsTrace self.now.set.now self.now.other.now }
+        requires position { IsPosition self.now.set.now at }
+        requires window { window_of self.now.set.now at < length self.now.one.now }
+        requires other_window { window_of self.now.set.now at < length self.now.other.now }
+        requires end { n ≤ (property_at self.now.set.now at).length.high }
+        ensures { IfOk result (λ b. b ≡ violates_determine (meaning_of self.now.set.now) self.now.set.now at n self.now.one.now self.now.other.now) }
+    {
+        let pairs = self.pairs_to(alloc, at, n)?;
+        let apart = self.any_covered_apart(alloc, at, n)?;
+        Ok(pairs && apart)
+    }
+
+    // `determine P`, where P ends at n.
+    fn violates_determine(&self, alloc: Global, at: u32, n: u8) -> Result<bool, AllocError>
+        requires { IsPosition self.now.set.now at }
+        ensures { IfOk result (λ b. IsTrue b ↔ Undetermines (meaning_of self.now.set.now) self.now.set.now at n self.now.one.now self.now.other.now) }
+    {
+        let property = property_at(self.set, at);
+        if n > property.length.high {
+            return Ok(false);
+        }
+        let end = window(self.set, at);
+        if !self.are_sized(end) {
+            return Ok(false);
+        }
+        self.ends_undetermined(alloc, at, n)
+    }
+
+    // Whether they violate a line whose properties are there.
+    fn violate_known(&self, alloc: Global, line: SetLine, n: u8) -> Result<bool, AllocError>
+        requires { NamesProperties self.now.set.now (line_of line) }
+        ensures { IfOk result (λ b. IsTrue b ↔ AreViolating (meaning_of self.now.set.now) self.now.set.now (line_of line) n self.now.one.now self.now.other.now) }
+    {
+        match line {
+            SetLine::End(at) => violates_end(alloc, self.set, at, self.one),
+            SetLine::Split(at) => violates_split(alloc, self.set, at, n, self.one),
+            SetLine::SameEnd(at) => self.violates_same_end(alloc, at),
+            SetLine::Choose(at, next) => self.violates_choose(alloc, at, next, n),
+            SetLine::Hand(at, next) => self.violates_hand(alloc, at, next, n),
+            SetLine::Determine(at) => self.violates_determine(alloc, at, n),
+        }
+    }
+
+    /// Whether the windows violate a line of the set; where the line speaks of an end of its property, that is n cycles after its start. No windows
+    /// violate a line that names a property which isn't there; a line on one window reads the first. Refused for want of memory alone.
+    pub fn violate(&self, alloc: Global, line: SetLine, n: u8) -> Result<bool, AllocError>
+        ensures { IfOk result (λ b. IsTrue b ↔ (NamesProperties self.now.set.now (line_of line) × AreViolating (meaning_of self.now.set.now) self.now.set.now (line_of line) n self.now.one.now self.now.other.now)) }
+    {
+        if !names_properties(self.set, line) {
+            return Ok(false);
+        }
+        self.violate_known(alloc, line, n)
+    }
 }

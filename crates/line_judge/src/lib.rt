@@ -7,5 +7,5 @@ mod property;
 mod trace;
 
 pub use formula::{all_hold, holds, rows_from};
-pub use judge::{is_constrained, is_violated};
+pub use judge::{Windows, is_constrained};
 pub use property::{end_of, is_assumed, is_committed, meets_constraints, property_at};

@@ -14,7 +14,7 @@ ghost use Rattle.twin_tests.specs.Reading.{HasStructure, ReadsWindow};
 
 use crate::formula::{all_hold, formula_value, holds, rows_from};
 use set_sound::{Sound, largest};
-use set_tree::{Property, Rows};
+use set_tree::{Length, Property, Rows};
 use std::alloc::{AllocError, Global};
 use vlog_tree::Expr;
 
@@ -88,8 +88,7 @@ pub fn is_assumed(
         return Ok(true);
     }
     let property = property_at(set, at);
-    let assumed = all_hold(alloc, set, property.assume.as_slice(), rows)?;
-    Ok(assumed)
+    all_hold(alloc, set, property.assume.as_slice(), rows)
 }
 
 /// Whether what it commits holds there, in rows that reach its window. Refused for want of memory alone.
@@ -105,8 +104,7 @@ pub fn is_committed(
     ensures { IfOk result (λ b. b ≡ committed (meaning_of set.now) set.now at rows.now) }
 {
     let property = property_at(set, at);
-    let committed = all_hold(alloc, set, property.commit.as_slice(), rows)?;
-    Ok(committed)
+    all_hold(alloc, set, property.commit.as_slice(), rows)
 }
 
 /// Whether it is assumed and committed there.
@@ -121,22 +119,21 @@ pub fn starts(alloc: Global, set: &Sound, at: u32, rows: &[Rows<u64>]) -> Result
     Ok(assumed && committed)
 }
 
-// The first of the offsets from `low` to `high` at which a formula holds.
+// The first of the offsets that a length allows at which a formula holds.
 fn first_offset(
     alloc: Global,
     set: &Sound,
     formula: &Expr,
-    low: u8,
-    high: u8,
+    span: &Length,
     rows: &[Rows<u64>],
 ) -> Result<Option<u8>, AllocError>
     requires trace { IsTrace set.now rows.now }
     requires readable { IsReadable set.now 1 formula.now }
-    requires within { high < length rows.now }
-    requires most { high ≤ 64 }
-    ensures { IfOk result (λ n. n ≡ first_offset (meaning_of set.now) formula.now rows.now low (suc high - low)) }
+    requires within { span.now.high < length rows.now }
+    requires most { span.now.high ≤ 64 }
+    ensures { IfOk result (λ n. n ≡ first_offset (meaning_of set.now) formula.now rows.now span.now.low (suc span.now.high - span.now.low)) }
 {
-    for offset in low..high + 1 {
+    for offset in span.low..span.high + 1 {
         let later = rows_from(rows, usize::from(offset));
         let holds = holds(alloc, set, formula, later)?;
         if holds {
@@ -162,10 +159,7 @@ pub fn end_of(
     let length = &property.length;
     match &length.until {
         None => Ok(Some(length.low)),
-        Some(formula) => {
-            let end = first_offset(alloc, set, formula, length.low, length.high, rows)?;
-            Ok(end)
-        }
+        Some(formula) => first_offset(alloc, set, formula, length, rows),
     }
 }
 

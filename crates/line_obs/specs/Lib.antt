@@ -1,1 +1,2 @@
 pub mod Obligations
+pub mod Kinds

@@ -2,5 +2,7 @@
 #![tactic(auto)]
 
 mod obs;
+mod telling;
 
 pub use obs::{ob_of_line, obs_of_all, obs_of_design};
+pub use telling::{Kind, kind_of};

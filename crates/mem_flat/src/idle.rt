@@ -14,6 +14,7 @@ ghost use Rattle.mem_flat.specs.Held.{idle_of};
 
 use crate::signals::words;
 use elab_drive::{Piece, add_left_names, pieces_of};
+use flat_move::both;
 use flat_scopes::Names;
 use outside::Text;
 use sqlite_items::Items;
@@ -56,15 +57,14 @@ fn assigned_in(alloc: Global, blocks: &[Always]) -> Result<Names<'_>, AllocError
 fn keeper(alloc: Global, name: &Text) -> Result<Always, AllocError>
     ensures { IfOk result (λ r. r ≡ keeper name.now) }
 {
-    let left = Lval::Name(Text::copy(alloc, name.bytes())?);
-    let right = Name {
-        text: Text::copy(alloc, name.bytes())?,
-        offset: 0,
-    };
+    let (left, text) = both(
+        Text::copy(alloc, name.bytes()),
+        Text::copy(alloc, name.bytes()),
+    )?;
     Ok(Always {
         clocked: true,
         names: None,
-        body: Stmt::Nonblocking(left, Expr::Name(right)),
+        body: Stmt::Nonblocking(Lval::Name(left), Expr::Name(Name { text, offset: 0 })),
     })
 }
 

@@ -4,6 +4,7 @@ ghost use Rattle.std.specs.Prelude.{◌≡◌, ◌++◌, ◌&&◌, OnOk, IfOk, I
 ghost use Rattle.std.specs.List.{flat_map};
 ghost use Rattle.vlog_runs.specs.Places.{Name, Among};
 ghost use Rattle.vlog_runs.specs.Contents.{is_among};
+ghost use Rattle.elab_drive.specs.Names.{chosen_names};
 ghost use Rattle.elab_faults.specs.Stands.{Names as IsNamed};
 ghost use Rattle.flat_scopes.specs.Borrowed.{name_meant};
 ghost use Rattle.mem_laws.specs.Uses.{lefts_of};
@@ -16,7 +17,7 @@ use elab_drive::{Form, add_left_names, block_names};
 use flat_scopes::Names;
 use outside::Text;
 use std::alloc::{AllocError, Global};
-use vlog_runs::{Flat, Signal};
+use vlog_runs::{Always, Flat, Signal};
 use vlog_tree::Assign;
 
 fn signed_names(alloc: Global, signals: &[Signal]) -> Result<Vec<&Text>, AllocError>
@@ -50,15 +51,26 @@ fn add_names<'a>(all: &mut Vec<&'a Text>, names: &[&'a Text]) -> Result<(), Allo
     Ok(())
 }
 
+fn add_block_names<'a>(
+    all: &mut Vec<&'a Text>,
+    alloc: Global,
+    blocks: &'a [Always],
+    clocked: bool,
+    form: Form,
+) -> Result<(), AllocError>
+    ensures { OnOk result (map name_meant all.new.items ≡ map name_meant all.old.items ++ flat_map (chosen_names clocked form) blocks.now) }
+{
+    let names = block_names(alloc, blocks, clocked, form)?;
+    add_names(all, &names)
+}
+
 // All names that texts assign.
 fn assigned_names(alloc: Global, flat: &Flat) -> Result<Names<'_>, AllocError>
     ensures { IfOk result (λ r. r ≡ assigned_names flat.now) }
 {
     let mut all = assign_names(alloc, flat.assigns.as_slice())?;
-    let clocked = block_names(alloc, flat.blocks.as_slice(), true, Form::Any)?;
-    add_names(&mut all, &clocked)?;
-    let others = block_names(alloc, flat.blocks.as_slice(), false, Form::Any)?;
-    add_names(&mut all, &others)?;
+    add_block_names(&mut all, alloc, flat.blocks.as_slice(), true, Form::Any)?;
+    add_block_names(&mut all, alloc, flat.blocks.as_slice(), false, Form::Any)?;
     Names::of(alloc, all)
 }
 
@@ -67,12 +79,27 @@ fn other_names(alloc: Global, flat: &Flat) -> Result<Vec<&Text>, AllocError>
     ensures { IfOk result (λ r. map name_meant r.items ≡ other_names flat.now) }
 {
     let mut all = assign_names(alloc, flat.assigns.as_slice())?;
-    let blocking = block_names(alloc, flat.blocks.as_slice(), true, Form::Blocking)?;
-    add_names(&mut all, &blocking)?;
-    let unclocked = block_names(alloc, flat.blocks.as_slice(), false, Form::Blocking)?;
-    add_names(&mut all, &unclocked)?;
-    let nonblocking = block_names(alloc, flat.blocks.as_slice(), false, Form::Nonblocking)?;
-    add_names(&mut all, &nonblocking)?;
+    add_block_names(
+        &mut all,
+        alloc,
+        flat.blocks.as_slice(),
+        true,
+        Form::Blocking,
+    )?;
+    add_block_names(
+        &mut all,
+        alloc,
+        flat.blocks.as_slice(),
+        false,
+        Form::Blocking,
+    )?;
+    add_block_names(
+        &mut all,
+        alloc,
+        flat.blocks.as_slice(),
+        false,
+        Form::Nonblocking,
+    )?;
     Ok(all)
 }
 

@@ -24,9 +24,9 @@ use Rattle.elab_drive.proofs.Bits.{set_ones}
 use Rattle.flow_laws.specs.Laws.{BitsStay, AreFit}
 use Rattle.elab_step.specs.Solving.{assigned_by}
 use Rattle.elab_step.specs.Asked.{CanElaborate}
-use Rattle.elab_step.proofs.Solving.{bool_cases}
+use Rattle.elab_step.proofs.Solving.{bool_cases, among_or}
 use Rattle.elab_step.proofs.Fitting.{less_or, among_names, run_fits}
-use Rattle.elab_step.proofs.Cycles.{among_or, drives_assigned, own_holder, holds_itself}
+use Rattle.elab_step.proofs.Cycles.{drives_assigned, own_holder, holds_itself}
 use Rattle.elab_step.proofs.Elaborating.{IsText, vectors}
 use Rattle.elab_step.proofs.Texts.{text_is}
 use Rattle.module_judge.specs.Values.{AreValues, held}

@@ -1,11 +1,11 @@
 // A note for each kind of line: windows of the set below that violate it, and what is said of them.
 use check_stages::set_of;
-use fault_places::shown;
 use outside::Text;
 use replay::{Shown, Trace};
 use set_tree::{Line, Rows, Set};
 use std::alloc::{AllocError, Global};
 use std::test::Fail;
+use text_places::shown;
 use trace_notes::{SetFile, trace_note};
 
 const SET: &str = "block top; clock clk; reset rst high 1;

@@ -1,11 +1,12 @@
 // Places and sentences of refusals: each row changes one of two texts that fit.
 use check_faults::CheckFault;
 use check_stages::bound_of;
-use fault_places::{Files, Texts, explained, shown, usage, version};
+use fault_places::{Files, Texts, explained, usage, version};
 use outside::Text;
 use std::alloc::{AllocError, Global};
 use std::process::Abort;
 use std::test::Fail;
+use text_places::shown;
 
 const MODULES: &str = "module leaf(input clk, input rst, input d, output reg q);
   always @(posedge clk) if (rst) q <= 1'b0; else q <= d;

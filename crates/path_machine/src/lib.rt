@@ -9,8 +9,6 @@ mod path;
 mod rows;
 mod run;
 mod stimulus;
-#[cfg(test)]
-mod tests;
 mod texts;
 mod words;
 

@@ -11,7 +11,7 @@ pub struct Aside {
 }
 
 /// Whether each literal of the clause but those of this variable is false.
-fn needs(clause: &[Lit], var: u64, values: &[bool]) -> bool {
+fn needs(clause: &[Lit], var: u32, values: &[bool]) -> bool {
     for lit in clause {
         let value = values.get(lit.var as usize).copied().unwrap_or(false);
         if lit.var != var && value != lit.negative {

@@ -10,10 +10,10 @@ pub enum Class {
     /// Nothing.
     Root,
     /// It has this value. The clause `unit` says so.
-    Fixed { value: bool, unit: u64 },
+    Fixed { value: bool, unit: u32 },
     /// It is equal to a literal of a variable before it. The clause `there` says that it implies the literal, `back` that the
     /// literal implies it.
-    Equal { to: Lit, there: u64, back: u64 },
+    Equal { to: Lit, there: u32, back: u32 },
 }
 
 /// What a literal comes to.
@@ -39,24 +39,24 @@ pub fn turned(lit: Lit, negated: bool) -> Lit {
 
 impl Classes {
     /// Nothing is known of so many variables.
-    pub fn new(alloc: Global, vars: u64) -> Result<Classes, AllocError> {
+    pub fn new(alloc: Global, vars: u32) -> Result<Classes, AllocError> {
         Ok(Classes {
             all: vec![in alloc; Class::Root; vars as usize]?,
         })
     }
 
     /// What is known of a variable.
-    pub fn of(&self, var: u64) -> Class {
+    pub fn of(&self, var: u32) -> Class {
         self.all.get(var as usize).copied().unwrap_or(Class::Root)
     }
 
     /// Whether nothing is known of a variable.
-    pub fn is_root(&self, var: u64) -> bool {
+    pub fn is_root(&self, var: u32) -> bool {
         matches!(self.of(var), Class::Root)
     }
 
     /// Makes this known of a variable.
-    pub fn set(&mut self, var: u64, class: Class) {
+    pub fn set(&mut self, var: u32, class: Class) {
         if let Some(place) = self.all.get_mut(var as usize) {
             *place = class;
         }
@@ -72,7 +72,7 @@ impl Classes {
     }
 
     /// Adds the numbers of the clauses that say what is known of a variable.
-    pub fn add_links(&self, var: u64, numbers: &mut Vec<u64>) -> Result<(), AllocError> {
+    pub fn add_links(&self, var: u32, numbers: &mut Vec<u32>) -> Result<(), AllocError> {
         match self.of(var) {
             Class::Root => {}
             Class::Fixed { unit, .. } => numbers.push(unit)?,

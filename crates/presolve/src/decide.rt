@@ -22,7 +22,7 @@ fn refuted(
 ) -> Result<Option<End>, AllocError>
     ensures { IfOk result (λ r. IfSome r (Decides cnf.now budget)) }
 {
-    let steps = trimmed(alloc, cnf.clauses.len() as u64, steps)?;
+    let steps = trimmed(alloc, cnf.clauses.len(), steps)?;
     let mut marks = Marks::new(alloc, cnf.vars)?;
     if accept(cnf, steps.as_slice(), &mut marks) {
         Ok(Some(End::Unsat(steps)))
@@ -61,8 +61,8 @@ fn by_smaller(
     let (classes, mut steps) = found;
     match cdcl::solve(alloc, &small.cnf, budget)? {
         End::Unsat(more) => {
-            let inputs = cnf.clauses.len() as u64;
-            if small.add_steps(alloc, inputs, &mut steps, more.as_slice())? {
+            let inputs = cnf.clauses.len();
+            if small.add_steps(alloc, inputs, &mut steps, more)? {
                 refuted(alloc, cnf, budget, steps)
             } else {
                 Ok(None)

@@ -1,13 +1,13 @@
 //! Steps over the input clauses. A technique hands over what it found as a clause, with the clauses from which that may follow;
 //! the hints are found here, by unit propagation. So no technique writes hints, and a wrong one costs its own work alone.
 
-use clause_check::{Clause, Cnf, Lit, Look, Step};
+use clause_check::{Clause, Cnf, Lit, Look, Step, in_32_bits};
 use std::alloc::{AllocError, Global};
 
 /// A clause that unit propagation used: what it forced, or none where it is false.
 #[derive(Clone, Copy)]
 struct Used {
-    number: u64,
+    number: u32,
     forced: Option<Lit>,
 }
 
@@ -47,20 +47,18 @@ fn look(clause: &[Lit], values: &[Option<bool>]) -> Look {
 }
 
 /// Gives the variable this value, or none.
-fn set(values: &mut [Option<bool>], var: u64, value: Option<bool>) {
+fn set(values: &mut [Option<bool>], var: u32, value: Option<bool>) {
     if let Some(place) = values.get_mut(var as usize) {
         *place = value;
     }
 }
 
 /// The clause of this number: input clauses come first, and after them those of the steps.
-fn find_clause<'a>(cnf: &'a Cnf, steps: &'a [Step], number: u64) -> Option<&'a [Lit]> {
-    match number.checked_sub(cnf.clauses.len() as u64) {
-        None => match cnf.clauses.get(number as usize) {
-            Some(clause) => Some(clause.lits()),
-            None => None,
-        },
-        Some(place) => match steps.get(place as usize) {
+fn find_clause<'a>(cnf: &'a Cnf, steps: &'a [Step], number: u32) -> Option<&'a [Lit]> {
+    let number = number as usize;
+    match number.checked_sub(cnf.clauses.len()) {
+        None => cnf.clauses.get(number),
+        Some(place) => match steps.get(place) {
             Some(step) => Some(step.clause.lits()),
             None => None,
         },
@@ -84,7 +82,7 @@ fn with(alloc: Global, lits: &[Lit], lit: Lit) -> Result<Vec<Lit>, AllocError> {
 }
 
 /// The clause with each choice of signs for these variables, those that differ in the last sign alone side by side.
-fn cases_of(alloc: Global, clause: &[Lit], splits: &[u64]) -> Result<Vec<Vec<Lit>>, AllocError> {
+fn cases_of(alloc: Global, clause: &[Lit], splits: &[u32]) -> Result<Vec<Vec<Lit>>, AllocError> {
     let mut cases = vec![in alloc; clause.to_vec(alloc)?]?;
     for var in splits {
         let mut longer = Vec::new(alloc);
@@ -130,7 +128,7 @@ impl<'a> Derivation<'a> {
     }
 
     /// What the values make of the clause of this number.
-    fn look_at(&self, number: u64) -> Look {
+    fn look_at(&self, number: u32) -> Look {
         match find_clause(self.cnf, self.steps.as_slice(), number) {
             Some(clause) => look(clause, self.values.as_slice()),
             None => Look::Open,
@@ -138,7 +136,7 @@ impl<'a> Derivation<'a> {
     }
 
     /// Makes true what these clauses force, until one of them is false. The answer is whether one is.
-    fn propagate(&mut self, numbers: &[u64], trail: &mut Vec<Used>) -> Result<bool, AllocError> {
+    fn propagate(&mut self, numbers: &[u32], trail: &mut Vec<Used>) -> Result<bool, AllocError> {
         for _ in numbers {
             let before = trail.len();
             for number in numbers {
@@ -169,15 +167,15 @@ impl<'a> Derivation<'a> {
     }
 
     /// Says of each variable of the clause of this number whether it is needed.
-    fn mark(&mut self, number: u64, is_needed: bool) {
+    fn mark(&mut self, number: u32, is_needed: bool) {
         if let Some(clause) = find_clause(self.cnf, self.steps.as_slice(), number) {
             mark_all(self.needed.as_mut_slice(), clause, is_needed);
         }
     }
 
     /// The clauses on the trail without which the last one would not be false.
-    fn needed_of(&mut self, alloc: Global, trail: &[Used]) -> Result<Vec<u64>, AllocError> {
-        let mut hints: Vec<u64> = Vec::new(alloc);
+    fn needed_of(&mut self, alloc: Global, trail: &[Used]) -> Result<Vec<u32>, AllocError> {
+        let mut hints: Vec<u32> = Vec::new(alloc);
         for used in trail.iter().rev() {
             let needed = match used.forced {
                 None => true,
@@ -200,8 +198,8 @@ impl<'a> Derivation<'a> {
         &mut self,
         alloc: Global,
         clause: &[Lit],
-        numbers: &[u64],
-    ) -> Result<Option<Vec<u64>>, AllocError> {
+        numbers: &[u32],
+    ) -> Result<Option<Vec<u32>>, AllocError> {
         for lit in clause {
             set(self.values.as_mut_slice(), lit.var, Some(lit.negative));
         }
@@ -227,10 +225,10 @@ impl<'a> Derivation<'a> {
         &mut self,
         alloc: Global,
         lits: Vec<Lit>,
-        hints: Vec<u64>,
-    ) -> Result<Option<u64>, AllocError> {
-        let inputs = self.cnf.clauses.len() as u64;
-        let number = inputs.saturating_add(self.steps.len() as u64);
+        hints: Vec<u32>,
+    ) -> Result<Option<u32>, AllocError> {
+        let inputs = self.cnf.clauses.len();
+        let number = in_32_bits(inputs.saturating_add(self.steps.len()))?;
         match Clause::of(alloc, lits)? {
             Some(clause) => {
                 self.steps.push(Step { clause, hints })?;
@@ -245,9 +243,9 @@ impl<'a> Derivation<'a> {
         &mut self,
         alloc: Global,
         clause: &[Lit],
-        splits: &[u64],
-        cases: Vec<u64>,
-    ) -> Result<Option<u64>, AllocError> {
+        splits: &[u32],
+        cases: Vec<u32>,
+    ) -> Result<Option<u32>, AllocError> {
         let mut numbers = cases;
         for level in (0..splits.len()).rev() {
             let mut joined = Vec::new(alloc);
@@ -269,9 +267,9 @@ impl<'a> Derivation<'a> {
         &mut self,
         alloc: Global,
         clause: &[Lit],
-        splits: &[u64],
-        numbers: &[u64],
-    ) -> Result<Option<u64>, AllocError> {
+        splits: &[u32],
+        numbers: &[u32],
+    ) -> Result<Option<u32>, AllocError> {
         let mut found = Vec::new(alloc);
         for lits in cases_of(alloc, clause, splits)? {
             match self.hints(alloc, lits.as_slice(), numbers)? {
@@ -279,7 +277,7 @@ impl<'a> Derivation<'a> {
                 None => return Ok(None),
             }
         }
-        let mut cases: Vec<u64> = Vec::new(alloc);
+        let mut cases: Vec<u32> = Vec::new(alloc);
         for (lits, hints) in found {
             match self.add(alloc, lits, hints)? {
                 Some(number) => cases.push(number)?,
@@ -295,9 +293,9 @@ impl<'a> Derivation<'a> {
         &mut self,
         alloc: Global,
         clause: &[Lit],
-        splits: &[u64],
-        numbers: &[u64],
-    ) -> Result<Option<u64>, AllocError> {
+        splits: &[u32],
+        numbers: &[u32],
+    ) -> Result<Option<u32>, AllocError> {
         for depth in 0..splits.len() + 1 {
             if let Some(number) = self.derive_by_cases(alloc, clause, &splits[..depth], numbers)? {
                 return Ok(Some(number));

@@ -83,21 +83,18 @@ impl<'a> Facts<'a> {
     }
 
     /// Whether nothing is known of the variable.
-    pub fn is_root(&self, var: u64) -> bool {
+    pub fn is_root(&self, var: u32) -> bool {
         self.classes.is_root(var)
     }
 
     /// The literals of the input clause of this number.
-    pub fn lits(&self, number: u64) -> &'a [Lit] {
-        match self.cnf().clauses.get(number as usize) {
-            Some(clause) => clause.lits(),
-            None => &[],
-        }
+    pub fn lits(&self, number: u32) -> &'a [Lit] {
+        self.cnf().clauses.get(number as usize).unwrap_or(&[])
     }
 
     /// These numbers of input clauses, each behind those of the clauses that say what is known of its variables.
-    fn with_links(&self, alloc: Global, sources: &[u64]) -> Result<Vec<u64>, AllocError> {
-        let mut numbers: Vec<u64> = Vec::new(alloc);
+    fn with_links(&self, alloc: Global, sources: &[u32]) -> Result<Vec<u32>, AllocError> {
+        let mut numbers: Vec<u32> = Vec::new(alloc);
         for source in sources {
             for lit in self.lits(*source) {
                 self.classes.add_links(lit.var, &mut numbers)?;
@@ -113,8 +110,8 @@ impl<'a> Facts<'a> {
         &mut self,
         alloc: Global,
         clause: &[Lit],
-        number: u64,
-    ) -> Result<Option<u64>, AllocError> {
+        number: u32,
+    ) -> Result<Option<u32>, AllocError> {
         let numbers = self.with_links(alloc, &[number])?;
         self.derivation
             .derive(alloc, clause, &[], numbers.as_slice())
@@ -125,8 +122,8 @@ impl<'a> Facts<'a> {
         &mut self,
         alloc: Global,
         lits: &[Lit],
-        hints: [u64; 2],
-    ) -> Result<Option<u64>, AllocError> {
+        hints: [u32; 2],
+    ) -> Result<Option<u32>, AllocError> {
         let hints = hints.to_vec(alloc)?;
         let number = self.derivation.add(alloc, lits.to_vec(alloc)?, hints)?;
         if lits.is_empty() && number.is_some() {
@@ -140,8 +137,8 @@ impl<'a> Facts<'a> {
         &mut self,
         alloc: Global,
         lit: Lit,
-        splits: &[u64],
-        numbers: &[u64],
+        splits: &[u32],
+        numbers: &[u32],
     ) -> Result<bool, AllocError> {
         let Some(unit) = self.derivation.derive(alloc, &[lit], splits, numbers)? else {
             return Ok(false);
@@ -156,10 +153,10 @@ impl<'a> Facts<'a> {
     fn set_equal(
         &mut self,
         alloc: Global,
-        var: u64,
+        var: u32,
         to: Lit,
-        splits: &[u64],
-        numbers: &[u64],
+        splits: &[u32],
+        numbers: &[u32],
     ) -> Result<bool, AllocError> {
         let on = Lit {
             var,
@@ -182,8 +179,8 @@ impl<'a> Facts<'a> {
         &mut self,
         alloc: Global,
         lit: Lit,
-        splits: &[u64],
-        sources: &[u64],
+        splits: &[u32],
+        sources: &[u32],
     ) -> Result<(), AllocError> {
         let numbers = self.with_links(alloc, sources)?;
         if self.set_true(alloc, lit, splits, numbers.as_slice())? {
@@ -196,10 +193,10 @@ impl<'a> Facts<'a> {
     pub fn merge(
         &mut self,
         alloc: Global,
-        var: u64,
+        var: u32,
         to: Lit,
-        splits: &[u64],
-        sources: &[u64],
+        splits: &[u32],
+        sources: &[u32],
     ) -> Result<(), AllocError> {
         let numbers = self.with_links(alloc, sources)?;
         if self.set_equal(alloc, var, to, splits, numbers.as_slice())? {
@@ -209,14 +206,14 @@ impl<'a> Facts<'a> {
     }
 
     /// Says of the variable what is known of the variable that it is equal to. The answer is whether there may be more to say.
-    fn follow(&mut self, alloc: Global, var: u64) -> Result<bool, AllocError> {
+    fn follow(&mut self, alloc: Global, var: u32) -> Result<bool, AllocError> {
         let Class::Equal { to, .. } = self.classes.of(var) else {
             return Ok(false);
         };
         if self.classes.is_root(to.var) {
             return Ok(false);
         }
-        let mut numbers: Vec<u64> = Vec::new(alloc);
+        let mut numbers: Vec<u32> = Vec::new(alloc);
         self.classes.add_links(var, &mut numbers)?;
         self.classes.add_links(to.var, &mut numbers)?;
         let numbers = numbers.as_slice();
@@ -231,7 +228,7 @@ impl<'a> Facts<'a> {
     }
 
     /// Makes what is known of the variable a value, or the literal of a root.
-    pub fn settle(&mut self, alloc: Global, var: u64) -> Result<(), AllocError> {
+    pub fn settle(&mut self, alloc: Global, var: u32) -> Result<(), AllocError> {
         for _ in 0..var {
             if !self.follow(alloc, var)? {
                 return Ok(());
@@ -263,7 +260,7 @@ impl<'a> Facts<'a> {
     }
 
     /// What the facts leave of the input clause of this number.
-    pub fn rest(&mut self, alloc: Global, number: u64) -> Result<Rest, AllocError> {
+    pub fn rest(&mut self, alloc: Global, number: u32) -> Result<Rest, AllocError> {
         let clause = self.lits(number);
         let mut lits: Vec<Lit> = Vec::new(alloc);
         let is_open = self.keep_rest(alloc, clause, &mut lits)?;
@@ -281,7 +278,7 @@ impl<'a> Facts<'a> {
 
     /// What the facts leave of the input clause of this number, once they have what it says by itself: a clause with one literal
     /// is a fact, and one with none ends the search.
-    pub fn rest_of(&mut self, alloc: Global, number: u64) -> Result<Rest, AllocError> {
+    pub fn rest_of(&mut self, alloc: Global, number: u32) -> Result<Rest, AllocError> {
         let rest = self.rest(alloc, number)?;
         let Rest::Lits(lits) = &rest else {
             return Ok(rest);

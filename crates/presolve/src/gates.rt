@@ -12,7 +12,7 @@ pub const INPUTS: usize = 3;
 /// A clause over variables of which nothing is known, and the number of the clause of which this is left.
 #[derive(Drop)]
 pub struct Part {
-    pub number: u64,
+    pub number: u32,
     pub lits: Vec<Lit>,
 }
 
@@ -20,7 +20,7 @@ pub struct Part {
 /// rows that differ only in inputs that aren't there are equal.
 #[derive(PartialEq, Eq, Hash, Drop)]
 pub struct Gate {
-    pub inputs: Vec<u64>,
+    pub inputs: Vec<u32>,
     pub rows: [bool; 8],
 }
 
@@ -49,7 +49,7 @@ fn other_row(row: usize, place: usize) -> usize {
 
 /// Adds the clause's variables but this one to the inputs, in rising order and each once. The answer is whether they are few
 /// enough for a gate.
-pub fn add_inputs(inputs: &mut Vec<u64>, lits: &[Lit], out: u64) -> Result<bool, AllocError> {
+pub fn add_inputs(inputs: &mut Vec<u32>, lits: &[Lit], out: u32) -> Result<bool, AllocError> {
     for lit in lits {
         if lit.var == out || inputs.contains(&lit.var) {
             continue;
@@ -65,7 +65,7 @@ pub fn add_inputs(inputs: &mut Vec<u64>, lits: &[Lit], out: u64) -> Result<bool,
 
 impl Part {
     /// The value that the clause gives to the variable in a row of these inputs, where it gives one.
-    fn forces(&self, out: u64, inputs: &[u64], row: usize) -> Option<bool> {
+    fn forces(&self, out: u32, inputs: &[u32], row: usize) -> Option<bool> {
         let mut value = None;
         for lit in &self.lits {
             if lit.var == out {
@@ -81,7 +81,7 @@ impl Part {
     }
 
     /// Whether each variable of the clause but this one is an input.
-    pub fn is_within(&self, out: u64, inputs: &[u64]) -> bool {
+    pub fn is_within(&self, out: u32, inputs: &[u32]) -> bool {
         self.lits
             .iter()
             .all(|l| l.var == out || inputs.contains(&l.var))
@@ -89,7 +89,7 @@ impl Part {
 }
 
 /// The value that the clauses give to the variable in a row of these inputs, where they give one.
-fn forced(parts: &[Part], out: u64, inputs: &[u64], row: usize) -> Option<bool> {
+fn forced(parts: &[Part], out: u32, inputs: &[u32], row: usize) -> Option<bool> {
     for part in parts {
         if let Some(value) = part.forces(out, inputs, row) {
             return Some(value);
@@ -102,8 +102,8 @@ fn forced(parts: &[Part], out: u64, inputs: &[u64], row: usize) -> Option<bool> 
 pub fn gate_of(
     alloc: Global,
     parts: &[Part],
-    out: u64,
-    inputs: &[u64],
+    out: u32,
+    inputs: &[u32],
 ) -> Result<Option<Gate>, AllocError> {
     let mut rows = [false; 8];
     for (row, value) in rows.iter_mut().enumerate() {

@@ -12,8 +12,6 @@ mod reduce;
 mod resolve;
 mod smaller;
 mod sweep;
-#[cfg(test)]
-mod tests;
 mod trim;
 
 pub use decide::solve;

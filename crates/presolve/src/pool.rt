@@ -12,7 +12,7 @@ pub const LOOKS: u64 = 40_000_000;
 #[derive(Drop)]
 pub struct Kept {
     pub lits: Vec<Lit>,
-    pub number: u64,
+    pub number: u32,
 }
 
 /// A clause whose variables rise, with a bit for each of its variables: the variable modulo 64.
@@ -45,12 +45,8 @@ pub struct Pool {
 
 /// Where the literal's list stands.
 fn code(lit: Lit) -> usize {
-    let even = (lit.var as usize).saturating_mul(2);
-    if lit.negative {
-        even.saturating_add(1)
-    } else {
-        even
-    }
+    let even = 2 * lit.var as usize;
+    if lit.negative { even + 1 } else { even }
 }
 
 /// A bit for each variable of the clause.
@@ -87,7 +83,7 @@ fn compare(short: &[Lit], long: &[Lit]) -> Fit {
 
 impl Pool {
     /// No clauses, over so many variables.
-    pub fn new(alloc: Global, vars: u64) -> Result<Pool, AllocError> {
+    pub fn new(alloc: Global, vars: u32) -> Result<Pool, AllocError> {
         let mut places = Vec::new(alloc);
         for _ in 0..vars {
             places.push(Vec::new(alloc))?;
@@ -168,8 +164,8 @@ impl Pool {
     }
 
     /// Of the variables of the clause at a place the one that the fewest clauses have.
-    pub fn rarest(&self, place: usize) -> Option<u64> {
-        let mut found: Option<(usize, u64)> = None;
+    pub fn rarest(&self, place: usize) -> Option<u32> {
+        let mut found: Option<(usize, u32)> = None;
         for lit in &self.get(place)?.lits {
             let uses = self.uses(*lit).saturating_add(self.uses(lit.negated()));
             match found {
@@ -199,7 +195,7 @@ impl Pool {
     }
 
     /// At most how many pairs of clauses have a resolvent on the variable.
-    pub fn pairs(&self, var: u64) -> usize {
+    pub fn pairs(&self, var: u32) -> usize {
         let with = self.uses(Lit {
             var,
             negative: false,
@@ -212,7 +208,7 @@ impl Pool {
     }
 
     /// How many literals the resolvent of the clauses at two places has; none where it has a literal and its negation.
-    pub fn resolvent_len(&mut self, first: usize, last: usize, var: u64) -> Option<usize> {
+    pub fn resolvent_len(&mut self, first: usize, last: usize, var: u32) -> Option<usize> {
         let first = self.get(first)?.lits.as_slice();
         let last = self.get(last)?.lits.as_slice();
         let looks = first.len().saturating_add(last.len());

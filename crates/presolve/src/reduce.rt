@@ -59,7 +59,7 @@ impl<'a> Reduction<'a> {
     }
 
     /// Adds a clause that these two imply, the first by forcing a literal. The answer is whether it is added.
-    fn add(&mut self, alloc: Global, lits: Vec<Lit>, hints: [u64; 2]) -> Result<bool, AllocError> {
+    fn add(&mut self, alloc: Global, lits: Vec<Lit>, hints: [u32; 2]) -> Result<bool, AllocError> {
         match self.facts.add_step(alloc, lits.as_slice(), hints)? {
             Some(number) => {
                 let place = self.pool.add(Kept { lits, number })?;
@@ -76,7 +76,7 @@ impl<'a> Reduction<'a> {
         alloc: Global,
         by: usize,
         place: usize,
-        var: u64,
+        var: u32,
     ) -> Result<(), AllocError> {
         let (Some(first), Some(last)) = (self.pool.get(by), self.pool.get(place)) else {
             return Ok(());
@@ -139,7 +139,7 @@ impl<'a> Reduction<'a> {
     fn pairs(
         &mut self,
         alloc: Global,
-        var: u64,
+        var: u32,
         firsts: &[usize],
         lasts: &[usize],
     ) -> Result<Option<Vec<(usize, usize)>>, AllocError> {
@@ -170,7 +170,7 @@ impl<'a> Reduction<'a> {
         alloc: Global,
         first: usize,
         last: usize,
-        var: u64,
+        var: u32,
     ) -> Result<bool, AllocError> {
         let (Some(first), Some(last)) = (self.pool.get(first), self.pool.get(last)) else {
             return Ok(false);
@@ -209,7 +209,7 @@ impl<'a> Reduction<'a> {
 
     /// Puts the resolvents on the variable in the place of the clauses that have it, where they are no more. The answer is whether
     /// they are.
-    fn eliminate(&mut self, alloc: Global, var: u64) -> Result<bool, AllocError> {
+    fn eliminate(&mut self, alloc: Global, var: u32) -> Result<bool, AllocError> {
         let lit = Lit {
             var,
             negative: false,
@@ -234,7 +234,7 @@ impl<'a> Reduction<'a> {
 
     /// Eliminates variables, those first that the fewest pairs of clauses have. The answer is whether one was.
     fn eliminate_all(&mut self, alloc: Global) -> Result<bool, AllocError> {
-        let mut order: Vec<(usize, u64)> = Vec::new(alloc);
+        let mut order: Vec<(usize, u32)> = Vec::new(alloc);
         for var in 0..self.facts.cnf().vars {
             order.push((self.pool.pairs(var), var))?;
         }

@@ -4,12 +4,12 @@ use clause_check::Lit;
 use std::alloc::{AllocError, Global};
 
 /// The literals but those of this variable.
-pub fn without(alloc: Global, lits: &[Lit], var: u64) -> Result<Vec<Lit>, AllocError> {
+pub fn without(alloc: Global, lits: &[Lit], var: u32) -> Result<Vec<Lit>, AllocError> {
     lits.iter().copied().filter(|l| l.var != var).collect(alloc)
 }
 
 /// How many literals the resolvent of two clauses on a variable has; none where it has a literal and its negation.
-pub fn resolvent_len(first: &[Lit], last: &[Lit], var: u64) -> Option<usize> {
+pub fn resolvent_len(first: &[Lit], last: &[Lit], var: u32) -> Option<usize> {
     let mut len = first.len().saturating_sub(1);
     for lit in last {
         if lit.var == var {
@@ -32,7 +32,7 @@ pub fn resolvent(
     alloc: Global,
     first: &[Lit],
     last: &[Lit],
-    var: u64,
+    var: u32,
 ) -> Result<Vec<Lit>, AllocError> {
     let mut lits = without(alloc, first, var)?;
     for lit in last {

@@ -6,7 +6,7 @@ use crate::classes::{Class, Classes};
 use crate::facts::{Facts, Rest};
 use crate::pool::Kept;
 use crate::reduce::Reduced;
-use clause_check::{Clause, Cnf, Lit, Step};
+use clause_check::{Clause, Clauses, Cnf, Lit, Step, in_32_bits};
 use std::alloc::{AllocError, Global};
 use std::collections::HashSet;
 
@@ -15,16 +15,16 @@ use std::collections::HashSet;
 pub struct Smaller {
     pub cnf: Cnf,
     // for each of its variables the input formula's
-    vars: Vec<u64>,
+    vars: Vec<u32>,
     // for each of its clauses the number of the same clause among the input clauses and the steps
-    numbers: Vec<u64>,
+    numbers: Vec<u32>,
     // what other variables get their values from, the last one first
     asides: Vec<Aside>,
 }
 
 /// The variables and signs of a clause, in rising order.
-fn sorted(alloc: Global, lits: &[Lit]) -> Result<Vec<(u64, bool)>, AllocError> {
-    let mut pairs: Vec<(u64, bool)> = lits.iter().map(|l| (l.var, l.negative)).collect(alloc)?;
+fn sorted(alloc: Global, lits: &[Lit]) -> Result<Vec<(u32, bool)>, AllocError> {
+    let mut pairs: Vec<(u32, bool)> = lits.iter().map(|l| (l.var, l.negative)).collect(alloc)?;
     pairs.sort()?;
     Ok(pairs)
 }
@@ -33,9 +33,9 @@ fn sorted(alloc: Global, lits: &[Lit]) -> Result<Vec<(u64, bool)>, AllocError> {
 fn number_of(
     alloc: Global,
     facts: &mut Facts,
-    number: u64,
+    number: u32,
     lits: &[Lit],
-) -> Result<Option<u64>, AllocError> {
+) -> Result<Option<u32>, AllocError> {
     let clause = facts.lits(number);
     if clause == lits {
         Ok(Some(number))
@@ -48,9 +48,9 @@ fn number_of(
 pub fn kept_clauses(
     alloc: Global,
     facts: &mut Facts,
-    open: &[u64],
+    open: &[u32],
 ) -> Result<Option<Vec<Kept>>, AllocError> {
-    let mut seen: HashSet<Vec<(u64, bool)>> = HashSet::new(alloc);
+    let mut seen: HashSet<Vec<(u32, bool)>> = HashSet::new(alloc);
     let mut found: Vec<Kept> = Vec::new(alloc);
     for number in open {
         if let Rest::Lits(lits) = facts.rest(alloc, *number)? {
@@ -66,7 +66,7 @@ pub fn kept_clauses(
 }
 
 /// The variables of these clauses in rising order.
-fn vars_of(alloc: Global, left: &[Kept], vars: u64) -> Result<Vec<u64>, AllocError> {
+fn vars_of(alloc: Global, left: &[Kept], vars: u32) -> Result<Vec<u32>, AllocError> {
     let mut used = vec![in alloc; false; vars as usize]?;
     for clause in left {
         for lit in &clause.lits {
@@ -75,29 +75,29 @@ fn vars_of(alloc: Global, left: &[Kept], vars: u64) -> Result<Vec<u64>, AllocErr
             }
         }
     }
-    let mut found: Vec<u64> = Vec::new(alloc);
-    for (var, is_used) in used.iter().enumerate() {
-        if *is_used {
-            found.push(var as u64)?;
+    let mut found: Vec<u32> = Vec::new(alloc);
+    for var in 0..vars {
+        if used.get(var as usize).copied().unwrap_or(false) {
+            found.push(var)?;
         }
     }
     Ok(found)
 }
 
 /// For each of so many variables its place among these, or 0.
-fn places_of(alloc: Global, found: &[u64], vars: u64) -> Result<Vec<u64>, AllocError> {
+fn places_of(alloc: Global, found: &[u32], vars: u32) -> Result<Vec<u32>, AllocError> {
     let mut places = vec![in alloc; 0; vars as usize]?;
     for (place, var) in found.iter().enumerate() {
         if let Some(slot) = places.get_mut(*var as usize) {
-            *slot = place as u64;
+            *slot = in_32_bits(place)?;
         }
     }
     Ok(places)
 }
 
 /// The clause with each variable replaced by the one at its place.
-fn renamed(alloc: Global, lits: &[Lit], names: &[u64]) -> Result<Option<Clause>, AllocError> {
-    let mut clause: Vec<Lit> = Vec::new(alloc);
+fn renamed(alloc: Global, lits: &[Lit], names: &[u32]) -> Result<Option<Clause>, AllocError> {
+    let mut clause: Vec<Lit> = Vec::with_capacity(alloc, lits.len())?;
     for lit in lits {
         let Some(var) = names.get(lit.var as usize) else {
             return Ok(None);
@@ -111,23 +111,23 @@ fn renamed(alloc: Global, lits: &[Lit], names: &[u64]) -> Result<Option<Clause>,
 }
 
 /// The formula of the clauses that are left, where the input formula has so many variables.
-pub fn shrink(alloc: Global, vars: u64, reduced: Reduced) -> Result<Option<Smaller>, AllocError> {
+pub fn shrink(alloc: Global, vars: u32, reduced: Reduced) -> Result<Option<Smaller>, AllocError> {
     let Reduced {
         clauses: left,
         asides,
     } = reduced;
     let found = vars_of(alloc, left.as_slice(), vars)?;
     let places = places_of(alloc, found.as_slice(), vars)?;
-    let mut clauses: Vec<Clause> = Vec::new(alloc);
-    let mut numbers: Vec<u64> = Vec::new(alloc);
+    let mut clauses = Clauses::new(alloc)?;
+    let mut numbers: Vec<u32> = Vec::new(alloc);
     for clause in &left {
         let Some(short) = renamed(alloc, clause.lits.as_slice(), places.as_slice())? else {
             return Ok(None);
         };
-        clauses.push(short)?;
+        clauses.push(short.lits())?;
         numbers.push(clause.number)?;
     }
-    match Cnf::of(found.len() as u64, clauses) {
+    match Cnf::of(in_32_bits(found.len())?, clauses) {
         Some(cnf) => Ok(Some(Smaller {
             cnf,
             vars: found,
@@ -140,12 +140,13 @@ pub fn shrink(alloc: Global, vars: u64, reduced: Reduced) -> Result<Option<Small
 
 impl Smaller {
     /// The number of the smaller formula's clause or step of this number, where its steps come after so many clauses.
-    fn number(&self, number: u64, clauses: u64) -> u64 {
-        match self.numbers.get(number as usize) {
-            Some(same) => *same,
+    fn number(&self, number: u32, clauses: usize) -> Result<u32, AllocError> {
+        let number = number as usize;
+        match self.numbers.get(number) {
+            Some(same) => Ok(*same),
             None => {
-                let place = number.saturating_sub(self.numbers.len() as u64);
-                clauses.saturating_add(place)
+                let place = number.saturating_sub(self.numbers.len());
+                in_32_bits(clauses.saturating_add(place))
             }
         }
     }
@@ -154,20 +155,20 @@ impl Smaller {
     pub fn add_steps(
         &self,
         alloc: Global,
-        inputs: u64,
+        inputs: usize,
         steps: &mut Vec<Step>,
-        more: &[Step],
+        more: Vec<Step>,
     ) -> Result<bool, AllocError> {
-        let clauses = inputs.saturating_add(steps.len() as u64);
-        for step in more {
+        let clauses = inputs.saturating_add(steps.len());
+        for mut step in more {
             let Some(clause) = renamed(alloc, step.clause.lits(), self.vars.as_slice())? else {
                 return Ok(false);
             };
-            let mut hints: Vec<u64> = Vec::new(alloc);
-            for hint in &step.hints {
-                hints.push(self.number(*hint, clauses))?;
+            step.clause = clause;
+            for hint in step.hints.iter_mut() {
+                *hint = self.number(*hint, clauses)?;
             }
-            steps.push(Step { clause, hints })?;
+            steps.push(step)?;
         }
         Ok(true)
     }
@@ -177,7 +178,7 @@ impl Smaller {
         &self,
         alloc: Global,
         classes: &Classes,
-        vars: u64,
+        vars: u32,
         values: &[bool],
     ) -> Result<Vec<bool>, AllocError> {
         let mut roots = vec![in alloc; false; vars as usize]?;

@@ -5,7 +5,7 @@
 use crate::classes::turned;
 use crate::facts::{Facts, Rest};
 use crate::gates::{Gate, INPUTS, Part, add_inputs, gate_of};
-use clause_check::{Cnf, Lit};
+use clause_check::{Cnf, Lit, in_32_bits};
 use std::alloc::{AllocError, Global};
 use std::collections::HashMap;
 
@@ -16,13 +16,13 @@ const ROUNDS: u64 = 16;
 const PARTS: usize = 16;
 
 /// An open clause: the last of its variables, and its number.
-type Place = (u64, u64);
+type Place = (u32, u32);
 
 /// A variable that is a gate: the literal that is equal to the table, and the clauses that say so.
 #[derive(Drop)]
 struct Output {
     lit: Lit,
-    sources: Vec<u64>,
+    sources: Vec<u32>,
 }
 
 /// Sweeps over a formula.
@@ -35,7 +35,7 @@ struct Sweep<'a> {
 }
 
 /// The inputs of these parts together, where they are few enough for a gate.
-fn inputs_of(alloc: Global, parts: &[Part], out: u64) -> Result<Option<Vec<u64>>, AllocError> {
+fn inputs_of(alloc: Global, parts: &[Part], out: u32) -> Result<Option<Vec<u32>>, AllocError> {
     let mut inputs = Vec::new(alloc);
     for part in parts {
         if !add_inputs(&mut inputs, part.lits.as_slice(), out)? {
@@ -48,8 +48,8 @@ fn inputs_of(alloc: Global, parts: &[Part], out: u64) -> Result<Option<Vec<u64>>
 /// The sets of inputs over which the variable may be a gate: those of each two clauses that stand side by side, and then of each
 /// one. So what defines a variable, which comes first, is read before what says that it is equal to another one or its negation:
 /// if it is a gate that was seen before, a clause becomes false where the two don't fit.
-fn choices(alloc: Global, parts: &[Part], out: u64) -> Result<Vec<Vec<u64>>, AllocError> {
-    let mut found: Vec<Vec<u64>> = Vec::new(alloc);
+fn choices(alloc: Global, parts: &[Part], out: u32) -> Result<Vec<Vec<u32>>, AllocError> {
+    let mut found: Vec<Vec<u32>> = Vec::new(alloc);
     for size in [2, 1] {
         for group in parts.windows(size) {
             if let Some(inputs) = inputs_of(alloc, group, out)? {
@@ -63,7 +63,7 @@ fn choices(alloc: Global, parts: &[Part], out: u64) -> Result<Vec<Vec<u64>>, All
 }
 
 /// The last variable of a clause.
-fn last_var(lits: &[Lit]) -> u64 {
+fn last_var(lits: &[Lit]) -> u32 {
     lits.iter().map(|l| l.var).max().unwrap_or(0)
 }
 
@@ -71,9 +71,9 @@ fn last_var(lits: &[Lit]) -> u64 {
 fn sources_of(
     alloc: Global,
     parts: &[Part],
-    out: u64,
-    inputs: &[u64],
-) -> Result<Vec<u64>, AllocError> {
+    out: u32,
+    inputs: &[u32],
+) -> Result<Vec<u32>, AllocError> {
     let mut sources = Vec::new(alloc);
     for part in parts {
         if part.is_within(out, inputs) {
@@ -87,7 +87,7 @@ impl<'a> Sweep<'a> {
     /// Nothing is known, and each clause is open.
     fn new(alloc: Global, cnf: &'a Cnf) -> Result<Sweep<'a>, AllocError> {
         let mut open: Vec<Place> = Vec::new(alloc);
-        for number in 0..cnf.clauses.len() as u64 {
+        for number in 0..in_32_bits(cnf.clauses.len())? {
             open.push((0, number))?;
         }
         Ok(Sweep {
@@ -114,7 +114,7 @@ impl<'a> Sweep<'a> {
     }
 
     /// The clauses of this variable that are short enough for a gate, of the open ones from this place on.
-    fn parts(&mut self, alloc: Global, out: u64, group: &[Place]) -> Result<Vec<Part>, AllocError> {
+    fn parts(&mut self, alloc: Global, out: u32, group: &[Place]) -> Result<Vec<Part>, AllocError> {
         let mut parts: Vec<Part> = Vec::new(alloc);
         for (_, number) in group {
             if let Rest::Lits(lits) = self.facts.rest_of(alloc, *number)? {
@@ -134,9 +134,9 @@ impl<'a> Sweep<'a> {
     fn share(
         &mut self,
         alloc: Global,
-        out: u64,
+        out: u32,
         gate: Gate,
-        sources: Vec<u64>,
+        sources: Vec<u32>,
     ) -> Result<(), AllocError> {
         let negative = gate.value(0);
         let gate = if negative { gate.negated() } else { gate };
@@ -162,8 +162,8 @@ impl<'a> Sweep<'a> {
     fn use_gate(
         &mut self,
         alloc: Global,
-        out: u64,
-        inputs: &[u64],
+        out: u32,
+        inputs: &[u32],
         parts: &[Part],
     ) -> Result<(), AllocError> {
         let Some(gate) = gate_of(alloc, parts, out, inputs)? else {
@@ -190,7 +190,7 @@ impl<'a> Sweep<'a> {
     }
 
     /// Reads the open clauses whose last variable is this one.
-    fn visit(&mut self, alloc: Global, out: u64, group: &[Place]) -> Result<(), AllocError> {
+    fn visit(&mut self, alloc: Global, out: u32, group: &[Place]) -> Result<(), AllocError> {
         let parts = self.parts(alloc, out, group)?;
         for inputs in choices(alloc, parts.as_slice(), out)? {
             if self.facts.is_root(out) {
@@ -238,7 +238,7 @@ impl<'a> Sweep<'a> {
 }
 
 /// What sweeps over the formula find, and the numbers of the clauses that are left open.
-pub fn swept<'a>(alloc: Global, cnf: &'a Cnf) -> Result<(Facts<'a>, Vec<u64>), AllocError> {
+pub fn swept<'a>(alloc: Global, cnf: &'a Cnf) -> Result<(Facts<'a>, Vec<u32>), AllocError> {
     let mut sweep = Sweep::new(alloc, cnf)?;
     sweep.run(alloc)?;
     let Sweep {

@@ -1,6 +1,7 @@
 pub mod Asking
 pub mod Faults
 pub mod Single
+mod Lookups
 mod Ordered
 pub mod Placed
 mod Proving

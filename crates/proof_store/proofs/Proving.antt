@@ -3,7 +3,6 @@ use Rattle.std.proofs.Common.{◌≡◌, ℕ, zero, suc, ◌-◌, ◌<◌, List,
 use Rattle.std.specs.Prelude.{IfSome, IsSomeAnd, IsTrue, true, false, ◌↔◌, Vec, option_map, slice_get, slice_index_or}
 use Rattle.std.specs.List.{AllZip}
 use Rattle.std.specs.declared.alloc.Global.{Global}
-use Rattle.std.specs.FinMap.{get}
 use Rattle.std.proofs.lemmas.Option.{same_Some}
 use Rattle.outside.specs.Tables.{Tables}
 use Rattle.word_dag.specs.Nodes.{Parts}
@@ -21,9 +20,9 @@ use Rattle.job_pool.specs.declared.evidence.Evidence.{Evidence}
 use Rattle.job_pool.specs.declared.evidence.Evidence.TheVariants as e
 use Rattle.job_pool.specs.Shown.{IsShown}
 use Rattle.proof_store.specs.Goals.{IsDecided, from_keeper}
-use Rattle.proof_store.specs.Kept.{IsBuilt, IsKept, IsProof, key_of}
-use Rattle.proof_store.specs.Places.{Finds, IsPlaced, Tells}
-use Rattle.proof_store.specs.Rows.{FindsIn}
+use Rattle.proof_store.specs.Kept.{IsBuilt, IsProof}
+use Rattle.proof_store.specs.Lookups.{IsLookedUp}
+use Rattle.proof_store.specs.Places.{Finds, IsPlaced, Tells, TellsKept}
 use Rattle.proof_store.specs.declared.goal.Decided.{Decided}
 use Rattle.proof_store.specs.declared.goal.Goal.{Goal}
 use Rattle.proof_store.specs.declared.goal.Source.{Source}
@@ -32,7 +31,7 @@ use Rattle.proof_store.specs.declared.placing.Found.{Found}
 use Rattle.proof_store.specs.declared.placing.Place.TheVariants.{Done, Open}
 
 -- what refutes a formula refutes each one with the same variables and clauses
-same_refutes : (f g : Cnf) (steps : List Step) → f.vars ≡ g.vars → f.clauses.items ≡ g.clauses.items → IsRefutation f steps → IsRefutation g steps
+pub same_refutes : (f g : Cnf) (steps : List Step) → f.vars ≡ g.vars → f.clauses ≡ g.clauses → IsRefutation f steps → IsRefutation g steps
 same_refutes f g steps vars clauses h = record {
   derivation = λ i d lt. let s = h.derivation i d lt in record {
     in_range = subst (λ (v : ℕ). IsInRange v (slice_index_or steps i d).clause) vars s.in_range;
@@ -102,8 +101,8 @@ alike_refutes cnf xs ys same h = let z = alike_from_contents xs ys same in recor
       let both = alike_at i xs ys d z lt in
       let step = h.derivation i d both.0 in record {
         in_range = subst (λ (c : List Lit). IsInRange cnf.vars c) both.1.clause step.in_range;
-        implied = implied_by (clauses_of cnf.clauses.items (take i xs)) (clauses_of cnf.clauses.items (take i ys)) (get_or xs i d) (get_or ys i d)
-            (ap (λ (cs : List (List Lit)). cnf.clauses.items ++ cs) (alike_clauses i xs ys z)) both.1 step.implied;
+        implied = implied_by (clauses_of cnf.clauses (take i xs)) (clauses_of cnf.clauses (take i ys)) (get_or xs i d) (get_or ys i d)
+            (ap (λ (cs : List (List Lit)). cnf.clauses ++ cs) (alike_clauses i xs ys z)) both.1 step.implied;
       };
   last = alike_last xs ys z h.last;
 }
@@ -112,31 +111,6 @@ alike_refutes cnf xs ys same h = let z = alike_from_contents xs ys same in recor
     implied_by cs ds x y clauses alike implied =
         subst (λ (es : List (List Lit)). IsImplied es y) clauses
         (subst (λ (hs : List ℕ). Refutes cs (map negated y.clause) hs) alike.hints (subst (λ (c : List Lit). Refutes cs (map negated c) x.hints.items) alike.clause implied))
-
--- the found steps are a proof that is kept
-kept_there : (t : Tables) (ob : Parts) (cnf : Cnf) (bits : List (List ℕ)) (key : List ℕ) (steps : Vec Step Global) → IsBuilt ob cnf bits → key ≡ key_of ob → FindsIn t key cnf (Some steps) → IsKept t ob
-kept_there t ob cnf bits key steps built is finds = record {
-  bytes = finds.0;
-  steps = steps.items;
-  row = ap (get t.proofs) (sym is) ∙ finds.1;
-  reads = finds.2.0;
-  proof = record { formula = cnf; vars = built.vars; clauses = built.clauses; refutes = finds.2.1 };
-}
-
-not_there : (t : Tables) (ob : Parts) (cnf : Cnf) (bits : List (List ℕ)) (key : List ℕ) → IsBuilt ob cnf bits → key ≡ key_of ob → FindsIn t key cnf None → IsKept t ob → ⊥
-not_there t ob cnf bits key built is finds kept =
-    finds kept.bytes (ap (get t.proofs) is ∙ kept.row) kept.steps kept.reads
-    (same_refutes kept.proof.formula cnf kept.steps (kept.proof.vars ∙ sym built.vars) (kept.proof.clauses ∙ sym built.clauses) kept.proof.refutes)
-
-pub told_there : (tables : Option Tables) (ob : Parts) (cnf : Cnf) (bits : List (List ℕ)) (key : List ℕ) (steps : Vec Step Global) → IsBuilt ob cnf bits → key ≡ key_of ob
-    → IfSome tables (λ t. FindsIn t key cnf (Some steps)) → IfSome tables (λ t. IsTrue true ↔ IsKept t ob)
-told_there None ob cnf bits key steps built is finds = tt
-told_there (Some t) ob cnf bits key steps built is finds = (λ _. kept_there t ob cnf bits key steps built is finds, λ _. refl)
-
-pub told_not_there : (tables : Option Tables) (ob : Parts) (cnf : Cnf) (bits : List (List ℕ)) (key : List ℕ) → IsBuilt ob cnf bits → key ≡ key_of ob
-    → IfSome tables (λ t. FindsIn t key cnf None) → IfSome tables (λ t. IsTrue false ↔ IsKept t ob)
-told_not_there None ob cnf bits key built is finds = tt
-told_not_there (Some t) ob cnf bits key built is finds = (λ off. absurd (cc), λ kept. absurd (not_there t ob cnf bits key built is finds kept))
 
 -- steps that refute the obligation's clauses are evidence, whatever the budget
 pub derivation_shown : (budget : ℕ) (ob : Parts) (cnf : Cnf) (bits : List (List ℕ)) (steps : Vec Step Global) → IsBuilt ob cnf bits → IsRefutation cnf steps.items → IsShown budget ob (e.Derivation steps)
@@ -168,38 +142,35 @@ module _ {L : Type 0} where
       subst (λ (g : Goal L). IsProof g.ob steps.items) (sym decided.goal_is)
       (record { formula = shown.formula; vars = shown.vars; clauses = shown.clauses; refutes = shown.shown })
 
--- no steps are read where none are
-pub nothing_read : (read : Option (Vec Step Global)) → ((steps : Vec Step Global) → read ≡ Some steps → ⊥) → read ≡ None
-nothing_read None no_steps = refl
-nothing_read (Some steps) no_steps = absurd (no_steps steps refl)
-
 -- a kept proof of an obligation is found
-pub kept_found : (tables : Option Tables) (ob : Parts) (cnf : Cnf) (bits : List (List ℕ)) (read : Option (Vec Step Global)) (steps : Vec Step Global) (found : Found) → IsBuilt ob cnf bits → read ≡ Some steps
-    → IfSome tables (λ t. FindsIn t (key_of ob) cnf read) → IfSome read (λ s. IsRefutation cnf s.items) → found.evidence ≡ e.Derivation steps → found.source ≡ Kept → Finds tables ob (Some found)
-kept_found tables ob cnf bits read steps found built is finds refutes evidence source = record {
-  shown = λ budget. subst (IsShown budget ob) (sym evidence) (derivation_shown budget ob cnf bits steps built (subst (λ (f : Option (Vec Step Global)). IfSome f (λ s. IsRefutation cnf s.items)) is refutes));
-  kept = subst (λ (s : Source). IfSome tables (λ t. IsTrue (from_keeper s) ↔ IsKept t ob)) (sym source)
-      (told_there tables ob cnf bits (key_of ob) steps built refl (subst (λ (f : Option (Vec Step Global)). IfSome tables (λ t. FindsIn t (key_of ob) cnf f)) is finds));
-  unsolved = λ same. let clash : Kept ≡ Solved = sym source ∙ same in absurd (cc);
-}
+pub kept_found : (tables : Option Tables) (ob : Parts) (kept : Option (Vec Step Global)) (steps : Vec Step Global) (found : Found) → IsLookedUp tables ob kept → kept ≡ Some steps → found.evidence ≡ e.Derivation steps → found.source ≡ Kept
+    → Finds tables ob (Some found)
+kept_found tables ob kept steps found looked is evidence source =
+    let here : IsLookedUp tables ob (Some steps) = subst (IsLookedUp tables ob) is looked in record {
+      shown = λ budget. subst (IsShown budget ob) (sym evidence) (here.shown budget);
+      kept = subst (λ (s : Source). TellsKept tables ob (from_keeper s)) (sym source) here.kept;
+      unsolved = λ same. let clash : Kept ≡ Solved = sym source ∙ same in absurd (cc);
+    }
 
 -- where none is kept, what helpers claim is found, or nothing
-pub helped_found : (tables : Option Tables) (ob : Parts) (cnf : Cnf) (bits : List (List ℕ)) (read : Option (Vec Step Global)) (found : Found) → IsBuilt ob cnf bits → read ≡ None
-    → IfSome tables (λ t. FindsIn t (key_of ob) cnf read) → ((budget : ℕ) → IsShown budget ob found.evidence) → found.source ≡ Helped → Finds tables ob (Some found)
-helped_found tables ob cnf bits read found built is finds shown source = record {
-  shown = shown;
-  kept = subst (λ (s : Source). IfSome tables (λ t. IsTrue (from_keeper s) ↔ IsKept t ob)) (sym source)
-      (told_not_there tables ob cnf bits (key_of ob) built refl (subst (λ (f : Option (Vec Step Global)). IfSome tables (λ t. FindsIn t (key_of ob) cnf f)) is finds));
-  unsolved = λ same. let clash : Helped ≡ Solved = sym source ∙ same in absurd (cc);
-}
+pub helped_found : (tables : Option Tables) (ob : Parts) (kept : Option (Vec Step Global)) (found : Found) → IsLookedUp tables ob kept → kept ≡ None → ((budget : ℕ) → IsShown budget ob found.evidence) → found.source ≡ Helped
+    → Finds tables ob (Some found)
+helped_found tables ob kept found looked is shown source =
+    let here : IsLookedUp tables ob None = subst (IsLookedUp tables ob) is looked in record {
+      shown = shown;
+      kept = subst (λ (s : Source). TellsKept tables ob (from_keeper s)) (sym source) here.kept;
+      unsolved = λ same. let clash : Helped ≡ Solved = sym source ∙ same in absurd (cc);
+    }
 
-pub none_found : (tables : Option Tables) (ob : Parts) (cnf : Cnf) (bits : List (List ℕ)) (read : Option (Vec Step Global)) → IsBuilt ob cnf bits → read ≡ None
-    → IfSome tables (λ t. FindsIn t (key_of ob) cnf read) → Finds tables ob None
-none_found tables ob cnf bits read built is finds = record {
-  shown = tt;
-  kept = told_not_there tables ob cnf bits (key_of ob) built refl (subst (λ (f : Option (Vec Step Global)). IfSome tables (λ t. FindsIn t (key_of ob) cnf f)) is finds);
-  unsolved = tt;
-}
+pub none_found : (tables : Option Tables) (ob : Parts) (kept : Option (Vec Step Global)) → IsLookedUp tables ob kept → kept ≡ None → Finds tables ob None
+none_found tables ob kept looked is =
+    let here : IsLookedUp tables ob None = subst (IsLookedUp tables ob) is looked in
+    record { shown = tt; kept = here.kept; unsolved = tt }
+
+-- no steps are kept where none are found
+pub nothing_kept : (kept : Option (Vec Step Global)) → ((steps : Vec Step Global) → kept ≡ Some steps → ⊥) → kept ≡ None
+nothing_kept None no_steps = refl
+nothing_kept (Some steps) no_steps = absurd (no_steps steps refl)
 
 module _ {L : Type 0} where
   -- the place of a goal of which something is found, and of one of which nothing is

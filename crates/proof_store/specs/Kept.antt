@@ -19,14 +19,14 @@ key_of ob = ob_text ob.nodes ob.root
 -- the formula has the obligation's variables and clauses
 pub record IsBuilt (ob : Parts) (cnf : Cnf) (bits : List (List ℕ)) : Type 0 where
   pub vars : cnf.vars ≡ length (netlist ob.nodes)
-  pub clauses : cnf.clauses.items ≡ ob_clauses ob.nodes ob.root
+  pub clauses : cnf.clauses ≡ ob_clauses ob.nodes ob.root
   pub carries : Carries ob.nodes ob.root cnf bits
 
 -- the steps derive the empty clause from the clauses of the obligation
 pub record IsProof (ob : Parts) (steps : List Step) : Type 0 where
   pub formula : Cnf
   pub vars : formula.vars ≡ length (netlist ob.nodes)
-  pub clauses : formula.clauses.items ≡ ob_clauses ob.nodes ob.root
+  pub clauses : formula.clauses ≡ ob_clauses ob.nodes ob.root
   pub refutes : IsRefutation formula steps
 
 -- the row under the obligation's text is a record of a proof of it

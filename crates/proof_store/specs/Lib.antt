@@ -3,6 +3,7 @@ pub mod Goals
 pub mod Provers
 pub mod Counts
 pub mod Kept
+pub mod Lookups
 pub mod Moves
 pub mod Places
 pub mod Rows

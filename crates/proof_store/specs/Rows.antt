@@ -1,8 +1,6 @@
 -- Rows of a keeper, as they are read and made.
 use Rattle.std.specs.Prelude.{◌≡◌, ℕ, List, Option, Some, None, Vec, All}
 use Rattle.std.specs.declared.alloc.Global.{Global}
-use Rattle.std.specs.FinMap.{get}
-use Rattle.outside.specs.Tables.{Tables}
 use Rattle.clause_check.specs.declared.formula.Cnf.{Cnf}
 use Rattle.clause_check.specs.declared.formula.Step.{Step}
 use Rattle.clause_check.specs.Derivations.{IsRefutation}
@@ -17,11 +15,6 @@ use Rattle.proof_store.specs.declared.keeping.Row.{Row}
 abbrev pub IsAccepted : Cnf → List ℕ → Option (Vec Step Global) → Type 0
 IsAccepted cnf bytes (Some steps) = IsRecord bytes steps.items × IsRefutation cnf steps.items
 IsAccepted cnf bytes None = (steps : List Step) → IsRecord bytes steps → IsRefutation cnf steps → ⊥
-
--- what is found in the row under this key
-abbrev pub FindsIn : Tables → List ℕ → Cnf → Option (Vec Step Global) → Type 0
-FindsIn t key cnf (Some steps) = (bytes : List ℕ) × (get t.proofs key ≡ Some bytes) × IsAccepted cnf bytes (Some steps)
-FindsIn t key cnf None = (bytes : List ℕ) → get t.proofs key ≡ Some bytes → IsAccepted cnf bytes None
 
 -- the row of a derivation that may be kept, and none for anything else
 abbrev pub IsRowOf : Ended → Option Row → Type 0

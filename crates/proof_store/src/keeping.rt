@@ -1,8 +1,7 @@
 //! Proofs that a keeper holds under the texts of obligations.
 ghost use Rattle.std.specs.Prelude.{◌≡◌, ◌↔◌, Err, IfOk, IfSome, IsTrue, OnErr, OnOk, All, map};
-ghost use Rattle.clause_check.specs.Derivations.{IsRefutation};
 ghost use Rattle.proof_store.specs.Kept.{IsKept};
-ghost use Rattle.proof_store.specs.Rows.{FindsIn, HasProofs, IsAccepted, IsRowOf};
+ghost use Rattle.proof_store.specs.Rows.{HasProofs, IsAccepted, IsRowOf};
 ghost use Rattle.proof_store.specs.Goals.{ended, is_kept};
 ghost use Rattle.proof_store.specs.Provers.{Rises};
 ghost use Rattle.proof_store.specs.Stored.{AddsProofs, MayKeep, Puts, StoresNew, Told, ended_ob};
@@ -19,8 +18,12 @@ use word_dag::text;
 /// The most bytes that a key or the bytes of a kept proof may have.
 const LONGEST: usize = 16_777_216;
 
-// The steps of these bytes, where they are a record of a derivation of the empty clause from the formula.
-fn accepted(alloc: Global, cnf: &Cnf, bytes: &[u8]) -> Result<Option<Vec<Step>>, AllocError>
+/// The steps of these bytes, where they are a record of a derivation of the empty clause from the formula.
+pub(crate) fn accepted(
+    alloc: Global,
+    cnf: &Cnf,
+    bytes: &[u8],
+) -> Result<Option<Vec<Step>>, AllocError>
     ensures { IfOk result (IsAccepted cnf.now bytes.now) }
 {
     let Some(steps) = read_steps(alloc, bytes)? else {
@@ -32,24 +35,6 @@ fn accepted(alloc: Global, cnf: &Cnf, bytes: &[u8]) -> Result<Option<Vec<Step>>,
     } else {
         Ok(None)
     }
-}
-
-/// The steps of the row under a key, where it is a record of a derivation of the empty clause from the formula.
-pub(crate) fn kept_steps<K: Keeper>(
-    alloc: Global,
-    keeper: &mut K,
-    key: &[u8],
-    cnf: &Cnf,
-) -> Result<Option<Vec<Step>>, StoreFault>
-    ensures found { IfOk result (λ found. IfSome found (λ steps. IsRefutation cnf.now steps.items)) }
-    ensures finds { IfOk result (λ found. IfSome (K.tables keeper.old) (λ t. FindsIn t key.now cnf.now found)) }
-    ensures same { K.tables keeper.new ≡ K.tables keeper.old }
-    ensures faults { Rises (result ≡ Err StoreFault.Keeper) (K.faults keeper.old) (K.faults keeper.new) }
-{
-    let Some(bytes) = keeper.proof(alloc, key)? else {
-        return Ok(None);
-    };
-    Ok(accepted(alloc, cnf, bytes.as_slice())?)
 }
 
 /// What is put for a proof.

@@ -1,7 +1,8 @@
-//! Goals settled by a prover: proofs that are kept count where they pass the check again, helpers may claim what isn't kept, the
-//! rest is solved by workers, and new proofs are kept. Kept rows of version 1 can be moved to version 2.
+//! Goals settled by a prover: proofs that are kept count where they pass the check again, which workers do side by side, helpers
+//! may claim what isn't kept, the rest is solved by workers, and new proofs are kept. Kept rows of version 1 can be moved to version 2.
 #![tactic(auto)]
 
+mod checking;
 mod fault;
 mod goal;
 mod keeping;
@@ -10,8 +11,6 @@ mod placing;
 mod prover;
 mod settings;
 mod settling;
-#[cfg(test)]
-mod tests;
 
 pub use fault::StoreFault;
 pub use goal::{Decided, Goal, Source};

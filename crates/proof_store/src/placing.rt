@@ -1,28 +1,26 @@
 //! How goals stand before any is solved.
-ghost use Rattle.std.specs.Prelude.{◌≡◌, ◌<◌, ℕ, true, Err, IfOk, IfSome, map, sum_by, length, filter};
+ghost use Rattle.std.specs.Prelude.{◌≡◌, ◌^◌, ◌<◌, ℕ, true, Err, IfOk, IfSome, map, sum_by, length, filter};
 ghost use Rattle.std.specs.List.{AllZip};
 ghost use Rattle.std.specs.Vec.Iter.{into_iter_items, into_iter_len};
-ghost use Rattle.clause_check.specs.Derivations.{IsRefutation};
 ghost use Rattle.job_pool.specs.Shown.{IsShown};
-ghost use Rattle.proof_store.specs.Counts.{FirstRose};
-ghost use Rattle.proof_store.specs.Kept.{IsBuilt, key_of};
+ghost use Rattle.proof_store.specs.Counts.{FirstRose, NoneFalls};
+ghost use Rattle.proof_store.specs.Lookups.{AreLookedUp, IsLookedUp};
 ghost use Rattle.proof_store.specs.Places.{Finds, IsPlaced, Takes, Tells, asked_about, asked_for, filled, is_open, open_of, opened};
 ghost use Rattle.proof_store.specs.Provers.{IsSame, Proceeds, Rises, asked_by, counts, kept_by};
-ghost use Rattle.proof_store.specs.Rows.{FindsIn};
 
+use crate::checking::{Lookup, checked_all, look_up_all};
 use crate::fault::StoreFault;
 use crate::goal::{Decided, Goal, Source};
-use crate::keeping::kept_steps;
 use crate::prover::Prover;
-use clause_check::{Cnf, Step};
-use cnf_build::{Built, build};
+use clause_check::Step;
+use cnf_build::build;
 use helper_box::{Claim, Helper, offer_all};
-use job_pool::Evidence;
+use job_pool::{Crew, Evidence};
 use outside::{Gate, Keeper};
 use std::alloc::{AllocError, Global};
 use std::thread::Threads;
 use std::vec::IntoIter;
-use word_dag::{Ob, text};
+use word_dag::Ob;
 
 /// What is found of an obligation without solving.
 #[derive(Drop)]
@@ -58,33 +56,20 @@ fn evidence_of(claim: Claim) -> Option<Evidence>
     }
 }
 
-// The steps that are kept for an obligation, of which these are the clauses.
-fn kept_proof<K: Keeper>(
-    alloc: Global,
-    ob: &Ob,
-    keeper: &mut K,
-    cnf: &Cnf,
-) -> Result<Option<Vec<Step>>, StoreFault>
-    ensures found { IfOk result (λ found. IfSome found (λ steps. IsRefutation cnf.now steps.items)) }
-    ensures finds { IfOk result (λ found. IfSome (K.tables keeper.old) (λ t. FindsIn t (key_of ob.now) cnf.now found)) }
-    ensures same { K.tables keeper.new ≡ K.tables keeper.old }
-    ensures faults { Rises (result ≡ Err StoreFault.Keeper) (K.faults keeper.old) (K.faults keeper.new) }
-{
-    let key = text(alloc, ob)?;
-    kept_steps(alloc, keeper, key.as_slice(), cnf)
-}
-
-// Asks the helpers about an obligation, of which these are the clauses.
+// Asks the helpers about an obligation. Where there is none, its clauses aren't built.
 fn offered<H: Helper>(
     alloc: Global,
     ob: &Ob,
-    built: &Built,
     helpers: &mut Vec<H>,
 ) -> Result<Option<Evidence>, AllocError>
-    requires { IsBuilt ob.now built.now.cnf built.now.bits.items }
     ensures shown { IfOk result (λ found. IfSome found (λ evidence. (budget : ℕ) → IsShown budget ob.now evidence)) }
-    ensures asked { FirstRose 1 (map H.asked helpers.old.items) (map H.asked helpers.new.items) }
+    ensures first { IfOk result (λ _. FirstRose 1 (map H.asked helpers.old.items) (map H.asked helpers.new.items)) }
+    ensures asked { NoneFalls (map H.asked helpers.old.items) (map H.asked helpers.new.items) }
 {
+    if helpers.is_empty() {
+        return Ok(None);
+    }
+    let built = build(alloc, ob)?;
     let claim = offer_all(helpers, alloc, ob, &built.cnf)?;
     Ok(evidence_of(claim))
 }
@@ -98,23 +83,50 @@ impl<'a, 'k, 'h, R: Threads + Sync, K: Keeper, H: Helper, G: Gate + Sync> Prover
     H,
     G,
 > {
-    // Asks the keeper for a proof of an obligation, and the helpers where there is none.
-    fn find(&mut self, ob: &Ob) -> Result<Option<Found>, StoreFault>
+    // As many workers as there are rows to check, at least one and no more than the settings say.
+    fn checkers(&self, lookups: &[Lookup<'_>]) -> Crew<'a, R> {
+        let rows = lookups.iter().filter(|lookup| lookup.row.is_some()).count();
+        let workers = u32::try_from(rows)
+            .unwrap_or(u32::MAX)
+            .clamp(1, self.settings.workers);
+        Crew {
+            rt: self.rt,
+            alloc: self.alloc,
+            workers,
+        }
+    }
+
+    // The proofs of goals that are kept, in order: the keeper is asked for one row after another, and then workers check them side by side.
+    fn look_up<L: Drop>(&mut self, goals: &[Goal<L>]) -> Result<Vec<Option<Vec<Step>>>, StoreFault>
+        requires jobs { length goals.now < 2 ^ 32 }
+        ensures found { IfOk result (λ found. AreLookedUp (kept_by K.tables self.old) goals.now found.items) }
+        ensures tables { kept_by K.tables self.new ≡ kept_by K.tables self.old }
+        ensures faults { Rises (result ≡ Err StoreFault.Keeper) (K.faults self.old.keeper.now) (K.faults self.new.keeper.now) }
+        ensures asked { asked_by H.asked self.new ≡ asked_by H.asked self.old }
+        ensures same { IsSame self.old self.new }
+    {
+        let lookups = look_up_all(self.alloc, self.keeper, goals)?;
+        let crew = self.checkers(lookups.as_slice());
+        Ok(checked_all(&crew, lookups.as_slice())?)
+    }
+
+    // What is found of an obligation without solving: these steps of a kept proof, or where there are none what the helpers claim.
+    fn find(&mut self, ob: &Ob, kept: Option<Vec<Step>>) -> Result<Option<Found>, AllocError>
+        requires looked { IsLookedUp (kept_by K.tables self.old) ob.now kept }
         ensures finds { IfOk result (Finds (kept_by K.tables self.old) ob.now) }
         ensures tables { kept_by K.tables self.new ≡ kept_by K.tables self.old }
-        ensures proceeds { Proceeds (result ≡ Err StoreFault.Keeper) (counts K.faults H.asked self.old) (counts K.faults H.asked self.new) }
+        ensures proceeds { Proceeds ⊥ (counts K.faults H.asked self.old) (counts K.faults H.asked self.new) }
         ensures first { IfOk result (λ found. FirstRose (asked_about found) (asked_by H.asked self.old) (asked_by H.asked self.new)) }
         ensures same { IsSame self.old self.new }
     {
-        let built = build(self.alloc, ob)?;
-        if let Some(steps) = kept_proof(self.alloc, ob, self.keeper, &built.cnf)? {
+        if let Some(steps) = kept {
             let evidence = Evidence::Derivation(steps);
             return Ok(Some(Found {
                 evidence,
                 source: Source::Kept,
             }));
         }
-        match offered(self.alloc, ob, &built, self.helpers)? {
+        match offered(self.alloc, ob, self.helpers)? {
             Some(evidence) => Ok(Some(Found {
                 evidence,
                 source: Source::Helped,
@@ -123,16 +135,22 @@ impl<'a, 'k, 'h, R: Threads + Sync, K: Keeper, H: Helper, G: Gate + Sync> Prover
         }
     }
 
-    // The place of a goal. The obligation of an open one goes to the end of those that are open.
-    fn place<L: Drop>(&mut self, goal: Goal<L>, rest: &mut Vec<Ob>) -> Result<Place<L>, StoreFault>
+    // The place of a goal, of which these steps are kept. The obligation of an open one goes to the end of those that are open.
+    fn place<L: Drop>(
+        &mut self,
+        goal: Goal<L>,
+        kept: Option<Vec<Step>>,
+        rest: &mut Vec<Ob>,
+    ) -> Result<Place<L>, AllocError>
+        requires looked { IsLookedUp (kept_by K.tables self.old) goal.ob kept }
         ensures placed { IfOk result (IsPlaced (kept_by K.tables self.old) goal) }
         ensures rest { IfOk result (λ place. rest.new.items ≡ opened place goal.ob rest.old.items) }
         ensures tables { kept_by K.tables self.new ≡ kept_by K.tables self.old }
-        ensures proceeds { Proceeds (result ≡ Err StoreFault.Keeper) (counts K.faults H.asked self.old) (counts K.faults H.asked self.new) }
+        ensures proceeds { Proceeds ⊥ (counts K.faults H.asked self.old) (counts K.faults H.asked self.new) }
         ensures first { IfOk result (λ place. FirstRose (asked_for place) (asked_by H.asked self.old) (asked_by H.asked self.new)) }
         ensures same { IsSame self.old self.new }
     {
-        match self.find(&goal.ob)? {
+        match self.find(&goal.ob, kept)? {
             Some(Found { evidence, source }) => Ok(Place::Done(Decided {
                 goal,
                 evidence,
@@ -146,11 +164,35 @@ impl<'a, 'k, 'h, R: Threads + Sync, K: Keeper, H: Helper, G: Gate + Sync> Prover
         }
     }
 
+    // The places of goals, of which these steps are kept, in order.
+    fn place_each<L: Drop>(
+        &mut self,
+        goals: Vec<Goal<L>>,
+        kept: Vec<Option<Vec<Step>>>,
+    ) -> Result<Placed<L>, AllocError>
+        requires looked { AreLookedUp (kept_by K.tables self.old) goals.items kept.items }
+        ensures placed { IfOk result (λ p. AllZip (IsPlaced (kept_by K.tables self.old)) goals.items p.places.items) }
+        ensures rest { IfOk result (λ p. p.rest.items ≡ open_of goals.items p.places.items) }
+        ensures tables { kept_by K.tables self.new ≡ kept_by K.tables self.old }
+        ensures proceeds { Proceeds ⊥ (counts K.faults H.asked self.old) (counts K.faults H.asked self.new) }
+        ensures first { IfOk result (λ p. FirstRose (sum_by asked_for p.places.items) (asked_by H.asked self.old) (asked_by H.asked self.new)) }
+        ensures same { IsSame self.old self.new }
+    {
+        let mut places = Vec::new(self.alloc);
+        let mut rest = Vec::new(self.alloc);
+        for (goal, steps) in goals.into_iter().zip(kept) {
+            let place = self.place(goal, steps, &mut rest)?;
+            places.push(place)?;
+        }
+        Ok(Placed { places, rest })
+    }
+
     /// The places of goals, in order.
     pub(crate) fn place_all<L: Drop>(
         &mut self,
         goals: Vec<Goal<L>>,
     ) -> Result<Placed<L>, StoreFault>
+        requires jobs { length goals.items < 2 ^ 32 }
         ensures placed { IfOk result (λ p. AllZip (IsPlaced (kept_by K.tables self.old)) goals.items p.places.items) }
         ensures rest { IfOk result (λ p. p.rest.items ≡ open_of goals.items p.places.items) }
         ensures tables { kept_by K.tables self.new ≡ kept_by K.tables self.old }
@@ -158,13 +200,8 @@ impl<'a, 'k, 'h, R: Threads + Sync, K: Keeper, H: Helper, G: Gate + Sync> Prover
         ensures first { IfOk result (λ p. FirstRose (sum_by asked_for p.places.items) (asked_by H.asked self.old) (asked_by H.asked self.new)) }
         ensures same { IsSame self.old self.new }
     {
-        let mut places = Vec::new(self.alloc);
-        let mut rest = Vec::new(self.alloc);
-        for goal in goals {
-            let place = self.place(goal, &mut rest)?;
-            places.push(place)?;
-        }
-        Ok(Placed { places, rest })
+        let kept = self.look_up(goals.as_slice())?;
+        Ok(self.place_each(goals, kept)?)
     }
 }
 

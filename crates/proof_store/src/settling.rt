@@ -14,9 +14,8 @@ use crate::goal::{Decided, Goal, Source};
 use crate::keeping::put_new;
 use crate::placing::filled;
 use crate::prover::Prover;
-use crate::settings::Settings;
 use helper_box::Helper;
-use job_pool::{Ran, run_jobs};
+use job_pool::{Crew, Evidence, Ran, run_jobs};
 use outside::{Gate, Keeper};
 use std::alloc::AllocError;
 use std::thread::Threads;
@@ -32,7 +31,7 @@ pub struct Settled<L> {
     pub helped: u64,
     /// How many were handed to the workers.
     pub solved: u64,
-    /// The numbers that the workers drew, in ascending order.
+    /// The numbers that the workers who solved drew, in ascending order.
     pub draws: Vec<u64>,
 }
 
@@ -73,7 +72,7 @@ impl<'a, 'k, 'h, R: Threads + Sync, K: Keeper, H: Helper, G: Gate + Sync> Prover
     G,
 > {
     // The open obligations, decided by workers. Where there is none, no worker is started.
-    fn decide_open(&self, rest: &[Ob]) -> Result<Ran, AllocError>
+    fn decide_open(&self, rest: &[Ob]) -> Result<Ran<Evidence>, AllocError>
         requires { length rest.now < 2 ^ 32 }
         ensures ends { IfOk result (λ ran. AllZip (IsShown self.now.settings.budget) rest.now ran.ends.items) }
         ensures draws { IfOk result (λ ran. ran.draws.items ≡ draws_of (length rest.now) self.now.settings.workers) }
@@ -84,21 +83,22 @@ impl<'a, 'k, 'h, R: Threads + Sync, K: Keeper, H: Helper, G: Gate + Sync> Prover
                 draws: Vec::new(self.alloc),
             });
         }
-        let Settings {
-            budget,
-            workers,
-            ..
-        } = self.settings;
-        run_jobs(self.rt, self.alloc, rest, budget, workers, self.gate)
+        let crew = Crew {
+            rt: self.rt,
+            alloc: self.alloc,
+            workers: self.settings.workers,
+        };
+        run_jobs(&crew, rest, self.settings.budget, self.gate)
     }
 
     /// Settles goals: each with what shows how it ended, in their order.
     ///
-    /// The keeper is asked for the row under each obligation's text. It counts as kept where it is a record of a derivation of the empty clause
-    /// from the obligation's clauses; a row that isn't one is no fault. What isn't kept is offered to the helpers, and of their claims only those
-    /// that pass count. The rest is decided by workers, each obligation within the budget of steps; where nothing is left, none is started. A budget
-    /// of `3 ^ v` steps, v being the number of variables of an obligation's clauses, decides it. Then the new proofs are put under the obligations'
-    /// texts, where a record can be made of them and neither it nor the text has more than 16,777,216 bytes.
+    /// The keeper is asked for the row under each obligation's text, in order; then workers check the rows side by side. A row counts as kept where
+    /// it is a record of a derivation of the empty clause from the obligation's clauses; a row that isn't one is no fault. What isn't kept is offered
+    /// to the helpers, in order, and of their claims only those that pass count. The rest is decided by workers, each obligation within the budget of
+    /// steps; where nothing is left, none is started. A budget of `3 ^ v` steps, v being the number of variables of an obligation's clauses, decides
+    /// it. Then the new proofs are put under the obligations' texts, where a record can be made of them and neither it nor the text has more than
+    /// 16,777,216 bytes.
     ///
     /// It is refused with `Keeper` only where the keeper's count of faults rose in this call, or stands at its last value, and with `Memory` for want
     /// of memory alone. Then each row of the proofs that differs from before is a proof of one of these obligations under its text.

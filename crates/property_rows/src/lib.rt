@@ -1,4 +1,4 @@
-//! Rows of sets: their texts and structure, the lines that windows violate and that are refuted, and texts that are made.
+//! Rows of words and of sets: their texts and structure, the lines that windows violate and that are refuted, and texts that are made.
 #![tactic(auto)]
 
 #[cfg(test)]
@@ -13,3 +13,5 @@ mod pieces;
 mod sets;
 #[cfg(test)]
 mod windows;
+#[cfg(test)]
+mod words;

@@ -1,6 +1,6 @@
 // Whether windows violate a line of a set's text, or rows break a line of a design, shown as a word.
 use crate::pieces::{PIPE, PIPED, WAITED, WAITER};
-use line_judge::{is_constrained, is_violated};
+use line_judge::{Windows as Pair, is_constrained};
 use outside::Text;
 use segment_judge::is_broken;
 use set_read::read_set;
@@ -9,11 +9,19 @@ use set_tree::{Line, Rows};
 use std::alloc::{AllocError, Global};
 use std::process::Abort;
 use std::test::Fail;
+use twin_tests::SetLine;
+
+// A line, by what is asked to violate it: windows, or the rows of a segment.
+#[derive(Clone, Copy)]
+enum Judged {
+    Set(SetLine),
+    Design(Line),
+}
 
 // A line, the end of its property where the line speaks of one, and the windows that may violate it: a row of values in the order of the
 // set's names for each cycle. A line on a design has the first window alone, the rows of a segment.
 struct Windows<'a> {
-    line: Line,
+    line: Judged,
     end: u8,
     one: &'a [&'a [u64]],
     other: &'a [&'a [u64]],
@@ -52,11 +60,18 @@ fn judged_rows(
     one: &[Rows<u64>],
     other: &[Rows<u64>],
 ) -> Result<&'static str, AllocError> {
-    if is_violated(alloc, set, windows.line, windows.end, one, other)? {
-        return Ok("violated");
-    }
-    if is_broken(alloc, set, windows.line, one)? {
-        return Ok("broken");
+    match windows.line {
+        Judged::Set(line) => {
+            let pair = Pair { set, one, other };
+            if pair.violate(alloc, line, windows.end)? {
+                return Ok("violated");
+            }
+        }
+        Judged::Design(line) => {
+            if is_broken(alloc, set, line, one)? {
+                return Ok("broken");
+            }
+        }
     }
     if is_constrained(alloc, set, one)? {
         Ok("kept")
@@ -133,13 +148,13 @@ const FLAWS: &[Flaw] = &[
         want: "kept",
         windows: &[
             Windows {
-                line: Line::Split(0),
+                line: Judged::Set(SetLine::Split(0)),
                 end: 0,
                 one: &[&[0, 0], &[0, 0]],
                 other: &[],
             },
             Windows {
-                line: Line::Split(1),
+                line: Judged::Set(SetLine::Split(1)),
                 end: 1,
                 one: &[&[1, 3], &[0, 0], &[0, 0]],
                 other: &[],
@@ -154,13 +169,13 @@ const FLAWS: &[Flaw] = &[
         want: "kept",
         windows: &[
             Windows {
-                line: Line::Hand(2, 1),
+                line: Judged::Set(SetLine::Hand(2, 1)),
                 end: 1,
                 one: &[&[0, 0], &[1, 0], &[0, 1]],
                 other: &[&[0, 1], &[1, 1], &[0, 2]],
             },
             Windows {
-                line: Line::Determine(2),
+                line: Judged::Set(SetLine::Determine(2)),
                 end: 1,
                 one: &[&[0, 0], &[0, 0]],
                 other: &[&[0, 1], &[0, 1]],
@@ -175,37 +190,37 @@ const FLAWS: &[Flaw] = &[
         want: "kept",
         windows: &[
             Windows {
-                line: Line::Choose(0, 1),
+                line: Judged::Set(SetLine::Choose(0, 1)),
                 end: 0,
                 one: &[&[0, 1], &[0, 1]],
                 other: &[&[0, 0], &[0, 0]],
             },
             Windows {
-                line: Line::Choose(0, 2),
+                line: Judged::Set(SetLine::Choose(0, 2)),
                 end: 0,
                 one: &[&[0, 0], &[0, 0]],
                 other: &[&[0, 1], &[1, 1]],
             },
             Windows {
-                line: Line::Choose(1, 1),
+                line: Judged::Set(SetLine::Choose(1, 1)),
                 end: 1,
                 one: &[&[0, 1], &[1, 1], &[0, 1]],
                 other: &[&[0, 1], &[1, 0], &[1, 0]],
             },
             Windows {
-                line: Line::Choose(1, 2),
+                line: Judged::Set(SetLine::Choose(1, 2)),
                 end: 1,
                 one: &[&[0, 1], &[1, 0], &[1, 0]],
                 other: &[&[0, 1], &[1, 1], &[0, 1]],
             },
             Windows {
-                line: Line::Choose(2, 1),
+                line: Judged::Set(SetLine::Choose(2, 1)),
                 end: 1,
                 one: &[&[1, 0], &[1, 1], &[0, 1]],
                 other: &[&[1, 0], &[1, 0], &[1, 0]],
             },
             Windows {
-                line: Line::Choose(2, 2),
+                line: Judged::Set(SetLine::Choose(2, 2)),
                 end: 1,
                 one: &[&[1, 0], &[1, 0], &[1, 0]],
                 other: &[&[1, 0], &[1, 1], &[0, 1]],
@@ -220,13 +235,13 @@ const FLAWS: &[Flaw] = &[
         want: "kept",
         windows: &[
             Windows {
-                line: Line::Determine(0),
+                line: Judged::Set(SetLine::Determine(0)),
                 end: 0,
                 one: &[&[0, 0, 0, 7]],
                 other: &[&[0, 0, 0, 6]],
             },
             Windows {
-                line: Line::Determine(1),
+                line: Judged::Set(SetLine::Determine(1)),
                 end: 1,
                 one: &[&[0, 0, 0, 0], &[0, 0, 0, 7]],
                 other: &[&[0, 0, 0, 0], &[0, 0, 0, 6]],
@@ -240,7 +255,7 @@ const FLAWS: &[Flaw] = &[
         tail: WAITED,
         want: "unconstrained",
         windows: &[Windows {
-            line: Line::End(2),
+            line: Judged::Set(SetLine::End(2)),
             end: 0,
             one: &[&[1, 0, 0], &[0, 0, 1], &[0, 0, 1], &[0, 0, 1], &[0, 0, 1]],
             other: &[],
@@ -281,7 +296,7 @@ const BREAKS: &[Flaw] = &[
         tail: TICKED,
         want: "kept",
         windows: &[Windows {
-            line: Line::Base(0),
+            line: Judged::Design(Line::Base(0)),
             end: 0,
             one: &[&[0]],
             other: &[],
@@ -294,7 +309,7 @@ const BREAKS: &[Flaw] = &[
         tail: TICKED,
         want: "kept",
         windows: &[Windows {
-            line: Line::Step(0),
+            line: Judged::Design(Line::Step(0)),
             end: 0,
             one: &[&[1], &[2]],
             other: &[],
@@ -307,7 +322,7 @@ const BREAKS: &[Flaw] = &[
         tail: RESET,
         want: "kept",
         windows: &[Windows {
-            line: Line::Reset,
+            line: Judged::Design(Line::Reset),
             end: 0,
             one: &[&[0]],
             other: &[],
@@ -320,7 +335,7 @@ const BREAKS: &[Flaw] = &[
         tail: ADDED,
         want: "kept",
         windows: &[Windows {
-            line: Line::Operation(1),
+            line: Judged::Design(Line::Operation(1)),
             end: 0,
             one: &[&[1, 3], &[0, 0]],
             other: &[],
@@ -333,7 +348,7 @@ const BREAKS: &[Flaw] = &[
         tail: TICKED,
         want: "kept",
         windows: &[Windows {
-            line: Line::Operation(1),
+            line: Judged::Design(Line::Operation(1)),
             end: 0,
             one: &[&[3], &[0]],
             other: &[],
@@ -346,7 +361,7 @@ const BREAKS: &[Flaw] = &[
         tail: WIDE,
         want: "unconstrained",
         windows: &[Windows {
-            line: Line::Operation(1),
+            line: Judged::Design(Line::Operation(1)),
             end: 0,
             one: &[&[1, 3], &[0, 0]],
             other: &[],

@@ -11,6 +11,7 @@ ghost use Rattle.segment_laws.specs.Lines.{IsOf};
 ghost use Rattle.segment_laws.specs.Tests.{rows_from};
 ghost use Rattle.twin_tests.specs.Framing.{SpeaksOf};
 ghost use Rattle.unroll.specs.Copies.{IsPlaceOf};
+ghost use Rattle.unroll.specs.Named.{line_of};
 ghost use Rattle.replay.specs.Segments.{ShowsNamed, ShowsSegment, last_cycle, named_start, resets_of};
 ghost use Rattle.replay.specs.Values.{AreOf};
 
@@ -23,48 +24,35 @@ use crate::window::cut;
 use binding::Bound;
 use outside::Text;
 use set_sound::Sound;
-use set_tree::{Line, Rows};
+use set_tree::Rows;
 use std::alloc::{AllocError, Global};
-use unroll::{Moment, cycle_of, places_of};
+use unroll::{DesignLine, Moment, cycle_of, places_of};
 use word_core::Word;
 use word_dag::Ob;
 use word_design::Register;
 
 // How many reset cycles stand before the cycles of a line.
-fn resets_of(set: &Sound, line: Line) -> u8
-    ensures resets { result ≡ resets_of set.now line }
+fn resets_of(set: &Sound, line: DesignLine) -> u8
+    ensures resets { result ≡ resets_of set.now (line_of line) }
     ensures small { result ≤ 64 }
 {
     match line {
-        Line::Base(_) | Line::Reset => set.set().cycles,
-        Line::Step(_)
-        | Line::Operation(_)
-        | Line::End(_)
-        | Line::Split(_)
-        | Line::SameEnd(_)
-        | Line::Choose(..)
-        | Line::Hand(..)
-        | Line::Determine(_) => 0,
+        DesignLine::Base(_) | DesignLine::Reset => set.set().cycles,
+        DesignLine::Step(_) | DesignLine::Operation(_) => 0,
     }
 }
 
 // The number of a line's last cycle.
-fn last_cycle(set: &Sound, line: Line) -> u8
-    requires { SpeaksOf set.now line }
-    ensures last { result ≡ last_cycle set.now line }
+fn last_cycle(set: &Sound, line: DesignLine) -> u8
+    requires { SpeaksOf set.now (line_of line) }
+    ensures last { result ≡ last_cycle set.now (line_of line) }
     ensures small { result ≤ 64 }
 {
     match line {
-        Line::Step(_) => 1,
-        Line::Reset => window_of(set, 0),
-        Line::Operation(p) => window_of(set, p),
-        Line::Base(_)
-        | Line::End(_)
-        | Line::Split(_)
-        | Line::SameEnd(_)
-        | Line::Choose(..)
-        | Line::Hand(..)
-        | Line::Determine(_) => 0,
+        DesignLine::Base(_) => 0,
+        DesignLine::Step(_) => 1,
+        DesignLine::Reset => window_of(set, 0),
+        DesignLine::Operation(p) => window_of(set, p),
     }
 }
 
@@ -184,15 +172,15 @@ pub fn shown_segment(
 pub fn replay(
     alloc: Global,
     bound: &Bound,
-    line: Line,
+    line: DesignLine,
     ob: &Ob,
     values: &[u64],
 ) -> Result<Shown, AllocError>
-    requires of_line { IsOf bound.now.design (meaning_of bound.now.set) bound.now.set line ob.now.nodes ob.now.root }
-    requires speaks { SpeaksOf bound.now.set line }
+    requires of_line { IsOf bound.now.design (meaning_of bound.now.set) bound.now.set (line_of line) ob.now.nodes ob.now.root }
+    requires speaks { SpeaksOf bound.now.set (line_of line) }
     requires words { HasOneWordEach ob.now.nodes }
     requires root { (root_value values.now ob.now.nodes ob.now.root).value ≡ 1 }
-    ensures { IfOk result (ShowsSegment bound.now.design (meaning_of bound.now.set) bound.now.set line (naming_from ob.now.nodes values.now)) }
+    ensures { IfOk result (ShowsSegment bound.now.design (meaning_of bound.now.set) bound.now.set (line_of line) (naming_from ob.now.nodes values.now)) }
 {
     let design = bound.design();
     // the nodes of a design fit

@@ -12,6 +12,7 @@ ghost use Rattle.word_names.specs.Names.{HasOneWordEach, naming_from};
 ghost use Rattle.line_laws.specs.Laws.{property_of};
 ghost use Rattle.line_laws.specs.Lines.{IsOf, edge_end, split_end};
 ghost use Rattle.twin_tests.specs.Framing.{SpeaksOf};
+ghost use Rattle.twin_tests.specs.Ordering.{line_of};
 ghost use Rattle.line_judge.specs.Judging.{AreViolating};
 ghost use Rattle.replay.specs.Values.{AreOf};
 ghost use Rattle.replay.specs.Windows.{AreNamedWindows, HasSecond, ShowsNamedWindows, ShowsWindows, ViolatesAt, compares, declared_names, line_end, second_rows};
@@ -19,29 +20,13 @@ ghost use Rattle.replay.specs.Windows.{AreNamedWindows, HasSecond, ShowsNamedWin
 use crate::shown::{Shown, Trace};
 use crate::values::{Values, values_of};
 use crate::window::rows_of;
-use line_judge::is_violated;
+use line_judge::Windows;
 use outside::Text;
 use set_sound::Sound;
-use set_tree::{Line, Name, Property, Rows, Set};
+use set_tree::{Name, Property, Rows, Set};
 use std::alloc::{AllocError, Global};
-use twin_tests::property_of;
+use twin_tests::{SetLine, property_of};
 use word_dag::Ob;
-
-// The position of the property that a line speaks of.
-fn position_of(line: Line) -> u32
-    ensures { result ≡ property_of line }
-{
-    match line {
-        Line::Base(_) | Line::Step(_) | Line::Reset => 0,
-        Line::Operation(p)
-        | Line::End(p)
-        | Line::Split(p)
-        | Line::SameEnd(p)
-        | Line::Choose(p, _)
-        | Line::Hand(p, _)
-        | Line::Determine(p) => p,
-    }
-}
 
 /// The window of a property.
 pub fn window_of(set: &Sound, at: u32) -> u8
@@ -88,32 +73,27 @@ fn edge_end(set: &Sound, from: u32, to: u32, n: u8) -> u8
 }
 
 // The last row of the windows of a line where its property ends at `n`.
-fn line_end(set: &Sound, line: Line, n: u8) -> u8
-    requires speaks { SpeaksOf set.now line }
+fn line_end(set: &Sound, line: SetLine, n: u8) -> u8
+    requires speaks { SpeaksOf set.now (line_of line) }
     requires end { n ≤ 64 }
-    ensures last { result ≡ line_end set.now line n }
+    ensures last { result ≡ line_end set.now (line_of line) n }
     ensures small { result ≤ 128 }
 {
     match line {
-        Line::Base(_) | Line::Step(_) | Line::Reset | Line::Operation(_) => 0,
-        Line::End(p) | Line::SameEnd(p) | Line::Determine(p) => window_of(set, p),
-        Line::Split(p) => split_end(set, p, n),
-        Line::Choose(p, q) | Line::Hand(p, q) => edge_end(set, p, q, n),
+        SetLine::End(p) | SetLine::SameEnd(p) | SetLine::Determine(p) => window_of(set, p),
+        SetLine::Split(p) => split_end(set, p, n),
+        SetLine::Choose(p, q) | SetLine::Hand(p, q) => edge_end(set, p, q, n),
     }
 }
 
 // Whether a line compares two windows.
-fn compares(line: Line) -> bool
-    ensures { result ≡ compares line }
+fn compares(line: SetLine) -> bool
+    ensures { result ≡ compares (line_of line) }
 {
     match line {
-        Line::Base(_)
-        | Line::Step(_)
-        | Line::Reset
-        | Line::Operation(_)
-        | Line::End(_)
-        | Line::Split(_) => false,
-        Line::SameEnd(_) | Line::Choose(..) | Line::Hand(..) | Line::Determine(_) => true,
+        SetLine::End(_) | SetLine::Split(_) => false,
+        SetLine::SameEnd(_) | SetLine::Choose(..) | SetLine::Hand(..) | SetLine::Determine(_) =>
+            true,
     }
 }
 
@@ -143,12 +123,12 @@ pub fn trace_of(alloc: Global, set: &Set, rows: Rows<Rows<u64>>) -> Result<Trace
 fn second_of(
     alloc: Global,
     set: &Set,
-    line: Line,
+    line: SetLine,
     rows: Rows<Rows<u64>>,
 ) -> Result<Option<Trace>, AllocError>
-    ensures second { IfOk result (HasSecond set.now (compares line)) }
-    ensures rows { (n : ℕ) (first : List Row) → AreViolating (meaning_of set.now) set.now line n first rows → IfOk result (λ second. AreViolating (meaning_of set.now) set.now line n first (second_rows second)) }
-    ensures same { compares line ≡ true → IfOk result (λ second. second_rows second ≡ rows) }
+    ensures second { IfOk result (HasSecond set.now (compares (line_of line))) }
+    ensures rows { (n : ℕ) (first : List Row) → AreViolating (meaning_of set.now) set.now (line_of line) n first rows → IfOk result (λ second. AreViolating (meaning_of set.now) set.now (line_of line) n first (second_rows second)) }
+    ensures same { compares (line_of line) ≡ true → IfOk result (λ second. second_rows second ≡ rows) }
 {
     if !compares(line) {
         return Ok(None);
@@ -162,20 +142,25 @@ fn shown_at(
     alloc: Global,
     set: &Sound,
     values: &Values<'_>,
-    line: Line,
+    line: SetLine,
     n: u8,
 ) -> Result<Option<Shown>, AllocError>
-    requires speaks { SpeaksOf set.now line }
+    requires speaks { SpeaksOf set.now (line_of line) }
     requires end { n ≤ 64 }
-    ensures shown { IfOk result (λ found. IfSome found (ShowsWindows set.now line)) }
-    ensures named { IfOk result (λ found. (e : Naming) → AreOf e values.now → IfSome found (AreNamedWindows set.now line e n)) }
-    ensures none { IfOk result (λ found. (e : Naming) → AreOf e values.now → found ≡ None → ViolatesAt set.now line e n → ⊥) }
+    ensures shown { IfOk result (λ found. IfSome found (ShowsWindows set.now (line_of line))) }
+    ensures named { IfOk result (λ found. (e : Naming) → AreOf e values.now → IfSome found (AreNamedWindows set.now (line_of line) e n)) }
+    ensures none { IfOk result (λ found. (e : Naming) → AreOf e values.now → found ≡ None → ViolatesAt set.now (line_of line) e n → ⊥) }
 {
     let names = set.set().names.as_slice();
     let count = line_end(set, line, n) + 1;
     let first = rows_of(alloc, values, names, 0, count)?;
     let second = rows_of(alloc, values, names, 1, count)?;
-    let violated = is_violated(alloc, set, line, n, first.as_slice(), second.as_slice())?;
+    let windows = Windows {
+        set,
+        one: first.as_slice(),
+        other: second.as_slice(),
+    };
+    let violated = windows.violate(alloc, line, n)?;
     if !violated {
         return Ok(None);
     }
@@ -195,19 +180,19 @@ fn shown_at(
 pub fn twin_trace(
     alloc: Global,
     sound: &Sound,
-    line: Line,
+    line: SetLine,
     ob: &Ob,
     values: &[u64],
 ) -> Result<Shown, AllocError>
-    requires of_line { IsOf (meaning_of sound.now) sound.now line ob.now.nodes ob.now.root }
-    requires speaks { SpeaksOf sound.now line }
+    requires of_line { IsOf (meaning_of sound.now) sound.now (line_of line) ob.now.nodes ob.now.root }
+    requires speaks { SpeaksOf sound.now (line_of line) }
     requires words { HasOneWordEach ob.now.nodes }
     requires root { (root_value values.now ob.now.nodes ob.now.root).value ≡ 1 }
-    ensures shows { IfOk result (ShowsWindows sound.now line) }
-    ensures named { IfOk result (ShowsNamedWindows sound.now line (naming_from ob.now.nodes values.now)) }
+    ensures shows { IfOk result (ShowsWindows sound.now (line_of line)) }
+    ensures named { IfOk result (ShowsNamedWindows sound.now (line_of line) (naming_from ob.now.nodes values.now)) }
 {
     let words = values_of(alloc, ob.nodes(), values)?;
-    let length = &property_of(sound.set(), position_of(line) as usize).length;
+    let length = &property_of(sound.set(), line.property() as usize).length;
     for n in length.low..length.high + 1 {
         if let Some(shown) = shown_at(alloc, sound, &words, line, n)? {
             return Ok(shown);

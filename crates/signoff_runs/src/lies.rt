@@ -28,7 +28,7 @@ pub struct Liar {
     pub offers: u64,
 }
 
-fn refutation(alloc: Global, hints: Vec<u64>) -> Result<Claim, AllocError> {
+fn refutation(alloc: Global, hints: Vec<u32>) -> Result<Claim, AllocError> {
     let mut steps: Vec<Step> = Vec::new(alloc);
     if let Some(clause) = Clause::of(alloc, Vec::new(alloc))? {
         steps.push(Step { clause, hints })?;
@@ -73,7 +73,7 @@ fn claim(alloc: Global, lie: Lie, ob: &Ob) -> Result<Claim, AllocError> {
         Lie::NoHints => refutation(alloc, Vec::new(alloc)),
         Lie::FarHint => {
             let mut hints = Vec::new(alloc);
-            hints.push(u64::MAX)?;
+            hints.push(u32::MAX)?;
             refutation(alloc, hints)
         }
         Lie::NoValues => Ok(Claim::Values(Vec::new(alloc))),

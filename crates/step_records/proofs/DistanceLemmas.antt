@@ -8,7 +8,7 @@ use Rattle.step_records.specs.Varint.{varint}
 use Rattle.step_records.specs.Layout.{distance, distances, distances_after}
 
 abbrev pub Below : ℕ → Type 0
-Below h = h < 2 ^ 62
+Below h = h < 2 ^ 32
 
 pub down : (before h : ℕ) → h < before → distance before h ≡ 2 * (before - h) + 1
 down before h lower = grind (arith, nat_tests)
@@ -61,7 +61,7 @@ only_first first later (h ∷ hs) e =
     let tail : distances_after h hs ≡ later = cc in
     (hs, ap (λ n. n ∷ hs) head, ap (λ n. distances_after n hs) (sym head) ∙ tail)
 
-pub hints_first : (numbers later : List ℕ) (first : ℕ) → numbers ≡ first ∷ later → first < 2 ^ 62 → HintsSoFar numbers later (first ∷ []) first
+pub hints_first : (numbers later : List ℕ) (first : ℕ) → numbers ≡ first ∷ later → first < 2 ^ 32 → HintsSoFar numbers later (first ∷ []) first
 hints_first numbers later first e below = record {
   below = All-cons Below first [] below (All-nil Below);
   last = below;
@@ -77,7 +77,7 @@ only_more before n h rest hints hs (k ∷ ks) is e told =
     let same = distance_same before k h (head ∙ sym is) in
     (ks, e ∙ (ap (λ m. hints ++ (m ∷ ks)) same ∙ sym (append_assoc hints (h ∷ []) ks)), ap (λ m. distances_after m ks) (sym same) ∙ tail)
 
-pub hints_more : (numbers left rest hints : List ℕ) (before n h : ℕ) → HintsSoFar numbers left hints before → left ≡ n ∷ rest → h < 2 ^ 62 → distance before h ≡ n → HintsSoFar numbers rest (hints ++ h ∷ []) h
+pub hints_more : (numbers left rest hints : List ℕ) (before n h : ℕ) → HintsSoFar numbers left hints before → left ≡ n ∷ rest → h < 2 ^ 32 → distance before h ≡ n → HintsSoFar numbers rest (hints ++ h ∷ []) h
 hints_more numbers left rest hints before n h so_far e below is = record {
   below = All-push Below hints h so_far.below below;
   last = below;
@@ -87,14 +87,14 @@ hints_more numbers left rest hints before n h so_far e below is = record {
       only_more before n h rest hints hs o.0 is o.1 (o.2 ∙ e);
 }
 
-no_hint : (before n : ℕ) (rest hints hs tail : List ℕ) → ((h : ℕ) → h < 2 ^ 62 → distance before h ≡ n → ⊥) → All Below hs → hs ≡ hints ++ tail → distances_after before tail ≡ n ∷ rest → ⊥
+no_hint : (before n : ℕ) (rest hints hs tail : List ℕ) → ((h : ℕ) → h < 2 ^ 32 → distance before h ≡ n → ⊥) → All Below hs → hs ≡ hints ++ tail → distances_after before tail ≡ n ∷ rest → ⊥
 no_hint before n rest hints hs [] none below e told = cc
 no_hint before n rest hints hs (k ∷ ks) none below e told =
     let head : distance before k ≡ n = cc in
     let h = All-same Below (hints ++ k ∷ ks) hs (sym e) below (length hints) k (omega (arith, length-append hints (k ∷ ks))) in
     none k (rw (get_or_at hints k ks k (length hints) refl) at h) head
 
-pub hints_stuck : (numbers left rest hints : List ℕ) (before n : ℕ) → HintsSoFar numbers left hints before → left ≡ n ∷ rest → ((h : ℕ) → h < 2 ^ 62 → distance before h ≡ n → ⊥) → (hs : List ℕ) → All Below hs → distances hs ≡ numbers → ⊥
+pub hints_stuck : (numbers left rest hints : List ℕ) (before n : ℕ) → HintsSoFar numbers left hints before → left ≡ n ∷ rest → ((h : ℕ) → h < 2 ^ 32 → distance before h ≡ n → ⊥) → (hs : List ℕ) → All Below hs → distances hs ≡ numbers → ⊥
 hints_stuck numbers left rest hints before n so_far e none hs below told =
     let o = so_far.only hs told in
     no_hint before n rest hints hs o.0 none below o.1 (o.2 ∙ e)

@@ -1,7 +1,7 @@
 use Rattle.std.proofs.Common.{◌≡◌, ◌<◌, ◌^◌, ℕ, List, [], ◌∷◌, length, ap, refl, inl, inr, arith}
 use Rattle.std.specs.List.{All}
 use Rattle.std.proofs.lemmas.Bool.{cases_lt}
-use Rattle.std.proofs.lemmas.List.Elements.{All-nil, All-cons, All-head, All-tail}
+use Rattle.std.proofs.lemmas.List.Elements.{All-nil, All-cons, All-head, All-tail, All-weaker}
 use Rattle.step_records.specs.declared.version.Version.{Version}
 use Rattle.step_records.specs.declared.version.Version.TheVariants.{First, Second}
 use Rattle.step_records.specs.Front.{Lacks, Starts}
@@ -38,27 +38,29 @@ pub length_distances : (hs : List ℕ) → length (distances hs) ≡ length hs
 length_distances [] = refl
 length_distances (h ∷ hs) = let e = length_after h hs in omega arith
 
+length_numbers : (version : Version) (hints : List ℕ) → length (hint_numbers version hints) ≡ length hints
+length_numbers First hints = refl
+length_numbers Second hints = length_distances hints
+
+numbers_same : (version : Version) (hs ks : List ℕ) → hint_numbers version hs ≡ hint_numbers version ks → hs ≡ ks
+numbers_same First hs ks e = e
+numbers_same Second hs ks e = distances_same hs ks e
+
 numbers_fit : (version : Version) (hints : List ℕ) → FitsHints version hints → FitsNumbers version (hint_numbers version hints)
-numbers_fit First hints fits = fits
+numbers_fit First hints fits = record { count = fits.count; each = All-weaker Below Word (λ h low. omega arith) hints fits.each }
 numbers_fit Second hints fits = record { count = let few = fits.count in omega (arith, length_distances hints); each = words hints fits.each }
 
 pub hints_none : (version : Version) (bytes : List ℕ) → Lacks (FitsNumbers version) (list_bytes version) bytes → Lacks (FitsHints version) (hints_bytes version) bytes
 hints_none version bytes none = by_none (FitsNumbers version) (list_bytes version) (hint_numbers version) (FitsHints version) (numbers_fit version) bytes none
 
-pub hints_plain : (version : Version) (bytes numbers rest : List ℕ) → version ≡ First → Starts (FitsNumbers version) (list_bytes version) bytes numbers rest → Starts (FitsHints version) (hints_bytes version) bytes numbers rest
-hints_plain First bytes numbers rest e starts = by_one (FitsNumbers First) (list_bytes First) (hint_numbers First) (FitsHints First) (numbers_fit First) bytes numbers numbers rest starts refl starts.fits (λ others fits same. same)
-hints_plain Second bytes numbers rest e starts = cc
+pub hints_odd : (version : Version) (bytes numbers rest : List ℕ) → Starts (FitsNumbers version) (list_bytes version) bytes numbers rest
+    → ((hs : List ℕ) → All (λ h. h < 2 ^ 32) hs → hint_numbers version hs ≡ numbers → ⊥) → Lacks (FitsHints version) (hints_bytes version) bytes
+hints_odd version bytes numbers rest starts odd =
+    by_odd (FitsNumbers version) (list_bytes version) (hint_numbers version) (FitsHints version) (numbers_fit version) bytes numbers rest starts (λ hs fits told. odd hs fits.each told)
 
-pub hints_odd : (version : Version) (bytes numbers rest : List ℕ) → version ≡ Second → Starts (FitsNumbers version) (list_bytes version) bytes numbers rest
-    → ((hs : List ℕ) → All (λ h. h < 2 ^ 62) hs → distances hs ≡ numbers → ⊥) → Lacks (FitsHints version) (hints_bytes version) bytes
-hints_odd First bytes numbers rest e starts odd = cc
-hints_odd Second bytes numbers rest e starts odd =
-    by_odd (FitsNumbers Second) (list_bytes Second) (hint_numbers Second) (FitsHints Second) (numbers_fit Second) bytes numbers rest starts (λ hs fits told. odd hs fits.each told)
-
-pub hints_told : (version : Version) (bytes numbers rest hints : List ℕ) → version ≡ Second → Starts (FitsNumbers version) (list_bytes version) bytes numbers rest
-    → All (λ h. h < 2 ^ 62) hints → distances hints ≡ numbers → Starts (FitsHints version) (hints_bytes version) bytes hints rest
-hints_told First bytes numbers rest hints e starts below told = cc
-hints_told Second bytes numbers rest hints e starts below told =
-    by_one (FitsNumbers Second) (list_bytes Second) (hint_numbers Second) (FitsHints Second) (numbers_fit Second) bytes numbers hints rest starts told
-    (record { count = let few = starts.fits.count in omega (arith, ap length told, length_distances hints); each = below })
-    (λ others fits same. distances_same others hints same)
+pub hints_told : (version : Version) (bytes numbers rest hints : List ℕ) → Starts (FitsNumbers version) (list_bytes version) bytes numbers rest
+    → All (λ h. h < 2 ^ 32) hints → hint_numbers version hints ≡ numbers → Starts (FitsHints version) (hints_bytes version) bytes hints rest
+hints_told version bytes numbers rest hints starts below told =
+    by_one (FitsNumbers version) (list_bytes version) (hint_numbers version) (FitsHints version) (numbers_fit version) bytes numbers hints rest starts told
+    (record { count = let few = starts.fits.count in omega (arith, ap length told, length_numbers version hints); each = below })
+    (λ others fits same. numbers_same version others hints same)

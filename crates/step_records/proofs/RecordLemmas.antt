@@ -17,7 +17,7 @@ use Rattle.step_records.proofs.HintLemmas.{length_distances}
 stands : (version : Version) (steps : List Step) → FitsVersion version steps → HasClauses steps → CanStandAll version (contents steps)
 stands version steps fits distinct = record {
   count = let few = fits.count in omega (arith, length-map steps content);
-  each = All-map (CanStand version) content steps (λ k d inside. let h = fits.each k d inside in ((h.0, distinct k d inside), h.1));
+  each = All-map (CanStand version) content steps (λ k d inside. let h = fits.each k d inside in let p = distinct k d inside in ((record { count = h.0; each = p.vars }, p.distinct), record { count = h.1; each = p.hints }));
 }
 
 all_back : (P : List Lit × List ℕ → Type 0) (steps : List Step) → All P (contents steps) → All (λ s. P (content s)) steps
@@ -26,11 +26,11 @@ all_back P steps all k d inside = subst P (get_or-map content steps k d (content
 fits_back : (version : Version) (steps : List Step) → CanStandAll version (contents steps) → FitsVersion version steps
 fits_back version steps all = record {
   count = let few = all.count in omega (arith, length-map steps content);
-  each = λ k d inside. let h = all_back (CanStand version) steps all.each k d inside in (h.0.0, h.1);
+  each = λ k d inside. let h = all_back (CanStand version) steps all.each k d inside in (h.0.0.count, h.1.count);
 }
 
 distinct_back : (version : Version) (steps : List Step) → CanStandAll version (contents steps) → HasClauses steps
-distinct_back version steps all k d inside = let h = all_back (CanStand version) steps all.each k d inside in h.0.1
+distinct_back version steps all k d inside = let h = all_back (CanStand version) steps all.each k d inside in record { distinct = h.0.1; vars = h.0.0.each; hints = h.1.each }
 
 as_record : (version : Version) (bytes : List ℕ) (steps : List Step) → CanStandAll version (contents steps) → bytes ≡ mark version ++ steps_bytes version (contents steps) → IsRecord bytes steps
 as_record First bytes steps all is = (distinct_back First steps all, inl (fits_back First steps all, is))

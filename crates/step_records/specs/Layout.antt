@@ -70,15 +70,6 @@ abbrev pub count_limit : Version → ℕ
 count_limit First = 2 ^ 32
 count_limit Second = 2 ^ 64
 
--- variables and hints stay below these
-abbrev pub var_limit : Version → ℕ
-var_limit First = 2 ^ 63
-var_limit Second = 2 ^ 62
-
-abbrev pub hint_limit : Version → ℕ
-hint_limit First = 2 ^ 64
-hint_limit Second = 2 ^ 62
-
 -- a list with fewer elements than the limit, each of which fits
 pub record FitsList {X : Type 0} (limit : ℕ) (Fit : X → Type 0) (xs : List X) : Type 0 where
   pub count : length xs < limit
@@ -87,14 +78,16 @@ pub record FitsList {X : Type 0} (limit : ℕ) (Fit : X → Type 0) (xs : List X
 abbrev pub FitsNumbers : Version → List ℕ → Type 0
 FitsNumbers version numbers = FitsList (count_limit version) (λ n. n < 2 ^ 64) numbers
 
+-- lists of variables and of hints, which have 32 bits
 abbrev pub FitsLits : Version → List Lit → Type 0
-FitsLits version lits = FitsList (count_limit version) (λ l. l.var < var_limit version) lits
+FitsLits version lits = FitsList (count_limit version) (λ l. l.var < 2 ^ 32) lits
 
 abbrev pub FitsHints : Version → List ℕ → Type 0
-FitsHints version hints = FitsList (count_limit version) (λ h. h < hint_limit version) hints
+FitsHints version hints = FitsList (count_limit version) (λ h. h < 2 ^ 32) hints
 
+-- few enough literals and hints
 abbrev pub FitsStep : Version → List Lit × List ℕ → Type 0
-FitsStep version step = FitsLits version step.0 × FitsHints version step.1
+FitsStep version step = (length step.0 < count_limit version) × (length step.1 < count_limit version)
 
 abbrev pub FitsClause : Version → List Lit → Type 0
 FitsClause version lits = FitsLits version lits × IsClause lits

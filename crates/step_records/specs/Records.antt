@@ -1,4 +1,4 @@
-use Rattle.std.specs.Prelude.{◌≡◌, ℕ, List, ◌++◌, map, All, ◌⊎◌}
+use Rattle.std.specs.Prelude.{◌≡◌, ◌<◌, ◌^◌, ℕ, List, ◌++◌, map, All, ◌⊎◌}
 use Rattle.clause_check.specs.declared.literal.Lit.{Lit}
 use Rattle.clause_check.specs.declared.formula.Step.{Step}
 use Rattle.clause_check.specs.Clauses.{IsClause}
@@ -26,17 +26,22 @@ version_2 steps = record_bytes Second steps
 abbrev pub FitsVersion : Version → List Step → Type 0
 FitsVersion version steps = FitsList (count_limit version) (λ s. FitsStep version (content s)) steps
 
--- each number of steps, of literals and of hints is below 2^32, each variable below 2^63 and each hint below 2^64
+-- each number of steps, of literals and of hints is below 2^32
 abbrev pub FitsVersion1 : List Step → Type 0
 FitsVersion1 steps = FitsVersion First steps
 
--- each variable and each hint is below 2^62, and each number of steps, of literals and of hints below 2^64
+-- each number of steps, of literals and of hints is below 2^64
 abbrev pub Fits : List Step → Type 0
 Fits steps = FitsVersion Second steps
 
--- no clause has a variable twice
+-- no variable stands twice in the clause, and variables and hints have 32 bits
+pub record HasClause (step : Step) : Type 0 where
+  pub distinct : IsClause step.clause
+  pub vars : All (λ l. l.var < 2 ^ 32) step.clause
+  pub hints : All (λ h. h < 2 ^ 32) step.hints.items
+
 abbrev pub HasClauses : List Step → Type 0
-HasClauses steps = All (λ s. IsClause s.clause) steps
+HasClauses steps = All HasClause steps
 
 -- the bytes are a record of these steps, in one of the versions
 abbrev pub IsRecord : List ℕ → List Step → Type 0

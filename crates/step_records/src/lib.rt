@@ -10,7 +10,9 @@
 //! Version 2 goes on with the byte 32, and all its numbers are varints: seven bits a byte from the lowest, with the top bit set in
 //! all bytes but the last. The last byte isn't 0 unless it is the only one, and the value is below 2^64. The first hint of a step
 //! stands as it is, each further one by twice its distance from the one before, and 1 more where it is lower; a distance of 0 is
-//! told by 0. Variables and hints are below 2^62.
+//! told by 0.
+//!
+//! Variables and hints are below 2^32 in both versions.
 //!
 //! The step with the empty clause and the hint 5 is `44 31 00000001 00000000 00000001 0000000000000005` in version 1 and
 //! `44 32 01 00 01 05` in version 2.

@@ -1,4 +1,5 @@
-ghost use Rattle.std.specs.Prelude.{◌≡◌, List, map, MatchOption, IfOk, IfSome, option_map};
+ghost use Rattle.std.specs.Prelude.{◌≡◌, ◌<◌, ◌^◌, List, map, All, MatchOption, IfOk, IfSome, option_map};
+ghost use Rattle.clause_check.specs.declared.literal.Lit.{Lit};
 ghost use Rattle.clause_check.specs.declared.formula.Step.{Step};
 ghost use Rattle.step_records.specs.Front.{Lacks, Starts};
 ghost use Rattle.step_records.specs.Records.{content, contents, IsRecord};
@@ -32,18 +33,22 @@ fn take_numbers(
     Ok(Some((numbers, rest)))
 }
 
-/// The literals of these values.
-fn lits_of(alloc: Global, values: &[u64]) -> Result<Vec<Lit>, AllocError>
-    ensures { IfOk result (λ lits. map lit_value lits.items ≡ values.now) }
+/// The literals of these values; none where a variable isn't below 2^32.
+fn lits_of(alloc: Global, values: &[u64]) -> Result<Option<Vec<Lit>>, AllocError>
+    ensures { IfOk result (λ read. MatchOption read ((ls : List Lit) → All (λ l. l.var < 2 ^ 32) ls → map lit_value ls ≡ values.now → ⊥)
+        (λ lits. All (λ l. l.var < 2 ^ 32) lits.items × (map lit_value lits.items ≡ values.now))) }
 {
     let mut lits = Vec::new(alloc);
     for value in values {
+        let Ok(var) = u32::try_from(value / 2) else {
+            return Ok(None);
+        };
         lits.push(Lit {
-            var: value / 2,
+            var,
             negative: value % 2 == 1,
         })?;
     }
-    Ok(lits)
+    Ok(Some(lits))
 }
 
 /// The literals in front, and the bytes that follow them.
@@ -58,10 +63,9 @@ fn take_lits(
     let Some((values, rest)) = take_numbers(alloc, version, bytes)? else {
         return Ok(None);
     };
-    let lits = lits_of(alloc, values.as_slice())?;
-    if !version.are_vars(lits.as_slice()) {
+    let Some(lits) = lits_of(alloc, values.as_slice())? else {
         return Ok(None);
-    }
+    };
     Ok(Some((lits, rest)))
 }
 
@@ -88,22 +92,17 @@ fn take_hints(
     alloc: Global,
     version: Version,
     bytes: &[u8],
-) -> Result<Option<(Vec<u64>, &[u8])>, AllocError>
+) -> Result<Option<(Vec<u32>, &[u8])>, AllocError>
     ensures { IfOk result (λ read. MatchOption read (Lacks (FitsHints version) (hints_bytes version) bytes.now)
         (λ r. Starts (FitsHints version) (hints_bytes version) bytes.now r.0.items r.1.now)) }
 {
     let Some((numbers, rest)) = take_numbers(alloc, version, bytes)? else {
         return Ok(None);
     };
-    match version {
-        Version::First => Ok(Some((numbers, rest))),
-        Version::Second => {
-            let Some(hints) = hints_of(alloc, numbers.as_slice())? else {
-                return Ok(None);
-            };
-            Ok(Some((hints, rest)))
-        }
-    }
+    let Some(hints) = hints_of(alloc, version, numbers.as_slice())? else {
+        return Ok(None);
+    };
+    Ok(Some((hints, rest)))
 }
 
 /// The step in front, and the bytes that follow it.
@@ -163,8 +162,8 @@ fn take_mark(bytes: &[u8]) -> Option<(Version, &[u8])>
     }
 }
 
-/// The steps of which the bytes are a record, in either version; none exactly where they are no record. The only error is want
-/// of memory.
+/// The steps of which the bytes are a record, in either version; none exactly where they are no record, as where a variable or a
+/// hint is 2^32 or more: there is no such step. The only error is want of memory.
 pub fn read_steps(alloc: Global, bytes: &[u8]) -> Result<Option<Vec<Step>>, AllocError>
     ensures some { IfOk result (λ read. IfSome read (λ steps. IsRecord bytes.now steps.items)) }
     ensures exact { IfOk result (λ read. (steps : List Step) → IsRecord bytes.now steps

@@ -1,9 +1,8 @@
-ghost use Rattle.std.specs.Prelude.{◌≡◌, ◌<◌, ◌≤◌, ◌^◌, ◌++◌, ◌↔◌, ℕ, MatchOption, OnOk, IsTrue, All};
+ghost use Rattle.std.specs.Prelude.{◌≡◌, ◌<◌, ◌≤◌, ◌^◌, ◌++◌, ◌↔◌, ℕ, MatchOption, OnOk, IsTrue};
 ghost use Rattle.step_records.specs.Front.{Lacks, Starts};
-ghost use Rattle.step_records.specs.Layout.{mark, count_bytes, number_bytes, count_limit, var_limit, hint_limit};
+ghost use Rattle.step_records.specs.Layout.{count_bytes, number_bytes, count_limit};
 
 use crate::varint::{push_varint, take_varint};
-use clause_check::Lit;
 use std::alloc::AllocError;
 
 /// How a record is laid out.
@@ -79,24 +78,6 @@ impl Version {
 }
 
 impl Version {
-    /// What variables stay below.
-    fn var_limit(self) -> u64
-        ensures { result ≡ var_limit self }
-    {
-        match self {
-            Version::First => 1 << 63,
-            Version::Second => 1 << 62,
-        }
-    }
-
-    /// Whether each variable is one that can be written.
-    pub fn are_vars(self, lits: &[Lit]) -> bool
-        ensures { IsTrue result ↔ All (λ l. l.var < var_limit self) lits.now }
-    {
-        let limit = self.var_limit();
-        lits.iter().all(|l| l.var < limit)
-    }
-
     /// Whether so many steps, literals or hints can be written.
     pub fn is_count(self, count: usize) -> bool
         ensures { IsTrue result ↔ (count < count_limit self) }
@@ -104,16 +85,6 @@ impl Version {
         match self {
             Version::First => count < 1 << 32,
             Version::Second => true,
-        }
-    }
-
-    /// Whether each hint is one that can be written.
-    pub fn are_hints(self, hints: &[u64]) -> bool
-        ensures { IsTrue result ↔ All (λ h. h < hint_limit self) hints.now }
-    {
-        match self {
-            Version::First => true,
-            Version::Second => hints.iter().all(|h| *h < 1 << 62),
         }
     }
 }

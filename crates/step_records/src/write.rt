@@ -1,8 +1,7 @@
-ghost use Rattle.std.specs.Prelude.{◌≡◌, ◌<◌, ◌^◌, ◌++◌, IfOk, OnOk};
+ghost use Rattle.std.specs.Prelude.{◌≡◌, ◌<◌, ◌^◌, ◌++◌, All, IfOk, OnOk, length};
 ghost use Rattle.std.specs.List.{flat_map};
-ghost use Rattle.clause_check.specs.Clauses.{IsClause};
-ghost use Rattle.step_records.specs.Layout.{mark, number_bytes, lit_value, lits_bytes, hints_bytes, step_bytes, FitsLits, FitsHints, FitsStep};
-ghost use Rattle.step_records.specs.Records.{content, record_bytes, version_1, version_2, FitsVersion, FitsVersion1, Fits, HasClauses, IsRecord};
+ghost use Rattle.step_records.specs.Layout.{mark, number_bytes, lit_value, lits_bytes, hints_bytes, step_bytes, count_limit, FitsStep};
+ghost use Rattle.step_records.specs.Records.{content, record_bytes, version_1, version_2, FitsVersion, FitsVersion1, Fits, HasClause, HasClauses, IsRecord};
 
 use crate::hints::push_distances;
 use crate::version::Version;
@@ -11,17 +10,18 @@ use std::alloc::{AllocError, Global};
 
 /// The value of a literal.
 fn value_of(lit: Lit) -> u64
-    requires { lit.var < 2 ^ 63 }
-    ensures { result ≡ lit_value lit }
+    ensures value { result ≡ lit_value lit }
+    ensures var { lit.var < 2 ^ 32 }
 {
-    let twice = 2 * lit.var;
+    let twice = 2 * u64::from(lit.var);
     if lit.negative { twice + 1 } else { twice }
 }
 
 /// Appends the literals of a clause.
 fn push_lits(out: &mut Vec<u8>, version: Version, lits: &[Lit]) -> Result<(), AllocError>
-    requires { FitsLits version lits.now }
-    ensures { OnOk result (out.new.items ≡ out.old.items ++ lits_bytes version lits.now) }
+    requires { length lits.now < count_limit version }
+    ensures bytes { OnOk result (out.new.items ≡ out.old.items ++ lits_bytes version lits.now) }
+    ensures vars { OnOk result (All (λ l. l.var < 2 ^ 32) lits.now) }
 {
     version.push_count(out, lits.len())?;
     for lit in lits {
@@ -30,20 +30,21 @@ fn push_lits(out: &mut Vec<u8>, version: Version, lits: &[Lit]) -> Result<(), Al
     Ok(())
 }
 
-/// Appends numbers of eight bytes each.
-fn push_words(out: &mut Vec<u8>, numbers: &[u64]) -> Result<(), AllocError>
+/// Appends numbers, in eight bytes each.
+fn push_words(out: &mut Vec<u8>, numbers: &[u32]) -> Result<(), AllocError>
     ensures { OnOk result (out.new.items ≡ out.old.items ++ flat_map (number_bytes Version.First) numbers.now) }
 {
     for number in numbers {
-        Version::First.push_number(out, *number)?;
+        Version::First.push_number(out, u64::from(*number))?;
     }
     Ok(())
 }
 
 /// Appends the hints of a step.
-fn push_hints(out: &mut Vec<u8>, version: Version, hints: &[u64]) -> Result<(), AllocError>
-    requires { FitsHints version hints.now }
-    ensures { OnOk result (out.new.items ≡ out.old.items ++ hints_bytes version hints.now) }
+fn push_hints(out: &mut Vec<u8>, version: Version, hints: &[u32]) -> Result<(), AllocError>
+    requires { length hints.now < count_limit version }
+    ensures bytes { OnOk result (out.new.items ≡ out.old.items ++ hints_bytes version hints.now) }
+    ensures hints { OnOk result (All (λ h. h < 2 ^ 32) hints.now) }
 {
     version.push_count(out, hints.len())?;
     match version {
@@ -56,7 +57,7 @@ fn push_hints(out: &mut Vec<u8>, version: Version, hints: &[u64]) -> Result<(), 
 fn push_step(out: &mut Vec<u8>, version: Version, step: &Step) -> Result<(), AllocError>
     requires { FitsStep version (content step.now) }
     ensures bytes { OnOk result (out.new.items ≡ out.old.items ++ step_bytes version (content step.now)) }
-    ensures distinct { OnOk result (IsClause step.now.clause) }
+    ensures clause { OnOk result (HasClause step.now) }
 {
     push_lits(out, version, step.clause.lits())?;
     push_hints(out, version, step.hints.as_slice())
@@ -79,7 +80,7 @@ fn push_mark(out: &mut Vec<u8>, version: Version) -> Result<(), AllocError>
 fn write_version(alloc: Global, version: Version, steps: &[Step]) -> Result<Vec<u8>, AllocError>
     requires { FitsVersion version steps.now }
     ensures bytes { IfOk result (λ bytes. bytes.items ≡ record_bytes version steps.now) }
-    ensures distinct { OnOk result (HasClauses steps.now) }
+    ensures clauses { OnOk result (HasClauses steps.now) }
 {
     let mut out = Vec::new(alloc);
     push_mark(&mut out, version)?;

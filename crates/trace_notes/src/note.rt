@@ -3,17 +3,33 @@ use crate::design::{add_commitments, add_invariant};
 use crate::scene::{Scene, SetFile};
 use crate::twin::{Edge, add_choice, add_endless, add_ends, add_hands, add_outputs, add_split};
 use crate::window::Window;
-use fault_places::tokens_of;
 use outside::Text;
 use replay::Shown;
 use set_tree::{Line, Rows, Set};
 use std::alloc::{AllocError, Global};
+use text_places::tokens_of;
 
 /// The cycles of the second window; none where there is one window.
 fn second_rows(shown: &Shown) -> &[Rows<u64>] {
     match &shown.second {
         Some(trace) => trace.rows.as_slice(),
         None => &[],
+    }
+}
+
+/// Adds what violates a line.
+fn add_violation(scene: &Scene<'_>, out: &mut Vec<u8>, line: Line) -> Result<(), AllocError> {
+    match line {
+        Line::Base(at) => add_invariant(scene, out, "the run from reset", at, 0),
+        Line::Step(at) => add_invariant(scene, out, "the step from cycle 0", at, 1),
+        Line::Reset => add_commitments(scene, out, 0),
+        Line::Operation(at) => add_commitments(scene, out, at),
+        Line::End(at) => add_endless(scene, out, at),
+        Line::Split(at) => add_split(scene, out, at),
+        Line::SameEnd(at) => add_ends(scene, out, at),
+        Line::Choose(from, to) => add_choice(scene, out, Edge { from, to }),
+        Line::Hand(from, to) => add_hands(scene, out, Edge { from, to }),
+        Line::Determine(at) => add_outputs(scene, out, at),
     }
 }
 
@@ -46,17 +62,6 @@ pub fn trace_note(
         },
     };
     let mut out = Vec::new(alloc);
-    match line {
-        Line::Base(at) => add_invariant(&scene, &mut out, "the run from reset", at, 0)?,
-        Line::Step(at) => add_invariant(&scene, &mut out, "the step from cycle 0", at, 1)?,
-        Line::Reset => add_commitments(&scene, &mut out, 0)?,
-        Line::Operation(at) => add_commitments(&scene, &mut out, at)?,
-        Line::End(at) => add_endless(&scene, &mut out, at)?,
-        Line::Split(at) => add_split(&scene, &mut out, at)?,
-        Line::SameEnd(at) => add_ends(&scene, &mut out, at)?,
-        Line::Choose(from, to) => add_choice(&scene, &mut out, Edge { from, to })?,
-        Line::Hand(from, to) => add_hands(&scene, &mut out, Edge { from, to })?,
-        Line::Determine(at) => add_outputs(&scene, &mut out, at)?,
-    }
+    add_violation(&scene, &mut out, line)?;
     Ok(Text::new(out))
 }

@@ -1,9 +1,9 @@
 // What a counterexample is told from, and how notes are written.
 use crate::span::{Item, Span, span_in};
 use crate::window::Window;
-use fault_places::{add_line, place_of, property_at, property_name, shown};
 use set_tree::{Property, Set};
 use std::alloc::{AllocError, Global};
+use text_places::{add_line, place_of, property_at, property_name, shown};
 use vlog_tree::{Entry, Expr, Token};
 
 /// The longest formula, in bytes, that a sentence quotes.
@@ -100,6 +100,21 @@ impl<'a> Scene<'a> {
     }
 }
 
+/// Adds what a name stands for, at its cycle.
+fn add_entry(
+    alloc: Global,
+    out: &mut Vec<u8>,
+    before: &str,
+    entry: &Entry,
+    cycle: usize,
+) -> Result<(), AllocError> {
+    let name = shown(entry.name.bytes());
+    let at = cycle.saturating_add(entry.offset as usize);
+    let value = entry.value;
+    let one = format!(in alloc; "{before}{name}@{at} = {value}")?;
+    out.extend_from_slice(one.as_bytes())
+}
+
 /// Adds a line with what names stand for, each at its cycle, in the order of the cycles; none where there are no names.
 fn add_entries(
     alloc: Global,
@@ -116,11 +131,7 @@ fn add_entries(
     for offset in 0..last.saturating_add(1) {
         for entry in entries {
             if entry.offset == offset {
-                let name = shown(entry.name.bytes());
-                let at = cycle.saturating_add(offset as usize);
-                let value = entry.value;
-                let one = format!(in alloc; "{before}{name}@{at} = {value}")?;
-                out.extend_from_slice(one.as_bytes())?;
+                add_entry(alloc, out, before, entry, cycle)?;
                 before = ", ";
             }
         }

@@ -1,5 +1,5 @@
 // Where the clauses of a set stand in its text.
-use fault_places::{behind, behind_word, byte_at, first, property_in, stands};
+use text_places::{behind, behind_word, byte_at, first, property_in, stands};
 use vlog_tree::Token;
 
 /// A part of a text: its first byte, and the byte behind it.

@@ -1,9 +1,10 @@
 // Violated lines of a set.
 use crate::scene::Scene;
-use crate::span::Item;
-use fault_places::{declared_name, shown, titled};
+use crate::span::{Item, Span};
 use set_tree::To;
 use std::alloc::{AllocError, Global};
+use text_places::{declared_name, shown, titled};
+use vlog_tree::Expr;
 
 /// The length of a property.
 const LENGTH: Item<'static> = Item {
@@ -45,6 +46,35 @@ pub fn add_endless(scene: &Scene<'_>, out: &mut Vec<u8>, at: u32) -> Result<(), 
     Ok(())
 }
 
+/// The first assumption of the property at a position that doesn't hold at a cycle, and what comes of it; of two windows the one that is alone.
+fn unassumed(
+    scene: &Scene<'_>,
+    at: u32,
+    cycle: usize,
+) -> Result<Option<(usize, &'static str)>, AllocError> {
+    let assumptions = scene.property(at).assume.as_slice();
+    let one = scene.first.first_false(assumptions, cycle)?;
+    let other = scene.second.first_false(assumptions, cycle)?;
+    Ok(match (one, other) {
+        (Some(clause), _) if scene.second.rows.is_empty() => Some((clause, "isn't assumed")),
+        (None, Some(clause)) => Some((clause, "is assumed in the first window alone")),
+        (Some(clause), None) => Some((clause, "is assumed in the second window alone")),
+        _ => None,
+    })
+}
+
+fn unassumed_sentence(
+    scene: &Scene<'_>,
+    at: u32,
+    cycle: usize,
+    (clause, how): (usize, &str),
+    span: Option<Span>,
+) -> Result<String, AllocError> {
+    let title = titled(scene.alloc, scene.set, at)?;
+    let assumption = scene.named("assumption", clause, span)?;
+    format!(in scene.alloc; "{title} {how} at cycle {cycle}: its {assumption} is false")
+}
+
 /// Adds that the property at a position isn't assumed at a cycle, or is in one of two windows alone, by the first assumption that doesn't hold there.
 fn add_unassumed(
     scene: &Scene<'_>,
@@ -52,16 +82,10 @@ fn add_unassumed(
     at: u32,
     cycle: usize,
 ) -> Result<(), AllocError> {
-    let assumptions = scene.property(at).assume.as_slice();
-    let one = scene.first.first_false(assumptions, cycle)?;
-    let other = scene.second.first_false(assumptions, cycle)?;
-    let (clause, how) = match (one, other) {
-        (Some(clause), _) if scene.second.rows.is_empty() => (clause, "isn't assumed"),
-        (None, Some(clause)) => (clause, "is assumed in the first window alone"),
-        (Some(clause), None) => (clause, "is assumed in the second window alone"),
-        _ => return Ok(()),
+    let Some((clause, how)) = unassumed(scene, at, cycle)? else {
+        return Ok(());
     };
-    let Some(formula) = assumptions.get(clause) else {
+    let Some(formula) = scene.property(at).assume.get(clause) else {
         return Ok(());
     };
     let span = scene.span(
@@ -72,13 +96,18 @@ fn add_unassumed(
             number: 0,
         },
     );
-    let title = titled(scene.alloc, scene.set, at)?;
-    let assumption = scene.named("assumption", clause, span)?;
-    let sentence = format!(in scene.alloc;
-        "{title} {how} at cycle {cycle}: its {assumption} is false"
-    )?;
+    let sentence = unassumed_sentence(scene, at, cycle, (clause, how), span)?;
     scene.add_note(out, span, sentence.as_str())?;
     scene.add_values(out, formula, cycle)
+}
+
+/// Adds that the property at a position ends at a cycle at which no successor is assumed.
+fn add_end(scene: &Scene<'_>, out: &mut Vec<u8>, at: u32, end: usize) -> Result<(), AllocError> {
+    let title = titled(scene.alloc, scene.set, at)?;
+    let sentence = format!(in scene.alloc;
+        "{title} ends at cycle {end}, where no successor's assumptions hold"
+    )?;
+    scene.add_note(out, scene.span(at, NEXT), sentence.as_str())
 }
 
 /// Adds that no successor is assumed where the property at a position ends, and why each isn't.
@@ -86,11 +115,7 @@ pub fn add_split(scene: &Scene<'_>, out: &mut Vec<u8>, at: u32) -> Result<(), Al
     let Some(end) = scene.first.end_of(scene.property(at))? else {
         return Ok(());
     };
-    let title = titled(scene.alloc, scene.set, at)?;
-    let sentence = format!(in scene.alloc;
-        "{title} ends at cycle {end}, where no successor's assumptions hold"
-    )?;
-    scene.add_note(out, scene.span(at, NEXT), sentence.as_str())?;
+    add_end(scene, out, at, end)?;
     for next in scene.property(at).next.as_slice() {
         add_unassumed(scene, out, *next, end)?;
     }
@@ -105,17 +130,24 @@ fn ending(alloc: Global, end: Option<usize>) -> Result<String, AllocError> {
     }
 }
 
+fn ends_sentence(
+    scene: &Scene<'_>,
+    at: u32,
+    one: Option<usize>,
+    other: Option<usize>,
+) -> Result<String, AllocError> {
+    let title = titled(scene.alloc, scene.set, at)?;
+    let first = ending(scene.alloc, one)?;
+    let second = ending(scene.alloc, other)?;
+    format!(in scene.alloc; "{title} {first} in the first window, {second} in the second")
+}
+
 /// Adds that the property at a position ends at different cycles.
 pub fn add_ends(scene: &Scene<'_>, out: &mut Vec<u8>, at: u32) -> Result<(), AllocError> {
     let property = scene.property(at);
     let one = scene.first.end_of(property)?;
     let other = scene.second.end_of(property)?;
-    let title = titled(scene.alloc, scene.set, at)?;
-    let first = ending(scene.alloc, one)?;
-    let second = ending(scene.alloc, other)?;
-    let sentence = format!(in scene.alloc;
-        "{title} {first} in the first window, {second} in the second"
-    )?;
+    let sentence = ends_sentence(scene, at, one, other)?;
     scene.add_note(out, scene.span(at, LENGTH), sentence.as_str())?;
     let earlier = one.unwrap_or(usize::MAX).min(other.unwrap_or(usize::MAX));
     match &property.length.until {
@@ -132,66 +164,110 @@ pub fn add_choice(scene: &Scene<'_>, out: &mut Vec<u8>, edge: Edge) -> Result<()
     }
 }
 
+/// A hand-over of the property at a position, by its number, and the cycle at which that property begins.
+#[derive(Clone, Copy)]
+struct HandOver {
+    at: u32,
+    number: usize,
+    cycle: usize,
+}
+
+fn hand_sentence(
+    scene: &Scene<'_>,
+    hand: HandOver,
+    span: Option<Span>,
+    one: u64,
+    other: u64,
+) -> Result<String, AllocError> {
+    let cycle = hand.cycle;
+    let title = titled(scene.alloc, scene.set, hand.at)?;
+    let hand = scene.named("hand-over", hand.number, span)?;
+    format!(in scene.alloc;
+        "the {hand} of {title} at cycle {cycle} is {one} in the first window, {other} in the second"
+    )
+}
+
+/// Adds a hand-over if it differs.
+fn add_hand(
+    scene: &Scene<'_>,
+    out: &mut Vec<u8>,
+    hand: HandOver,
+    formula: &Expr,
+) -> Result<(), AllocError> {
+    let one = scene.first.value_of(formula, hand.cycle)?.unwrap_or(0);
+    let other = scene.second.value_of(formula, hand.cycle)?.unwrap_or(0);
+    if one == other {
+        return Ok(());
+    }
+    let span = scene.span(
+        hand.at,
+        Item {
+            word: b"hand",
+            clause: 0,
+            number: hand.number,
+        },
+    );
+    let sentence = hand_sentence(scene, hand, span, one, other)?;
+    scene.add_note(out, span, sentence.as_str())?;
+    scene.add_values(out, formula, hand.cycle)
+}
+
 /// Adds each hand-over of the second property of an edge that differs.
 pub fn add_hands(scene: &Scene<'_>, out: &mut Vec<u8>, edge: Edge) -> Result<(), AllocError> {
     let Some(cycle) = scene.first.end_of(scene.property(edge.from))? else {
         return Ok(());
     };
-    let title = titled(scene.alloc, scene.set, edge.to)?;
     let hands = scene.property(edge.to).hand.as_slice();
     for number in 0..hands.len() {
-        let formula = &hands[number];
-        let one = scene.first.value_of(formula, cycle)?.unwrap_or(0);
-        let other = scene.second.value_of(formula, cycle)?.unwrap_or(0);
-        if one != other {
-            let span = scene.span(
-                edge.to,
-                Item {
-                    word: b"hand",
-                    clause: 0,
-                    number,
-                },
-            );
-            let hand = scene.named("hand-over", number, span)?;
-            let sentence = format!(in scene.alloc;
-                "the {hand} of {title} at cycle {cycle} is {one} in the first window, {other} in the second"
-            )?;
-            scene.add_note(out, span, sentence.as_str())?;
-            scene.add_values(out, formula, cycle)?;
-        }
+        let hand = HandOver {
+            at: edge.to,
+            number,
+            cycle,
+        };
+        add_hand(scene, out, hand, &hands[number])?;
     }
     Ok(())
 }
 
-/// Why an output isn't determined at a cycle. None: it is.
-fn difference(scene: &Scene<'_>, output: u32, cycle: usize) -> Result<Option<String>, AllocError> {
-    let position = output as usize;
-    let name = shown(declared_name(scene.set, output));
-    if let Some(domain) = scene
+/// Whether an output is claimed at a cycle, in each window.
+fn claims(scene: &Scene<'_>, output: u32, cycle: usize) -> Result<(bool, bool), AllocError> {
+    let Some(domain) = scene
         .set
         .names
-        .get(position)
+        .get(output as usize)
         .and_then(|name| name.domain.as_ref())
-    {
-        let one = scene.first.value_of(domain, cycle)? != Some(0);
-        let other = scene.second.value_of(domain, cycle)? != Some(0);
-        if one != other {
-            let which = if one { "first" } else { "second" };
-            return Ok(Some(format!(in scene.alloc;
-                "output {name} is claimed at cycle {cycle} in the {which} window alone"
-            )?));
-        }
-        if !one {
-            return Ok(None);
-        }
-    }
-    let one = scene.first.value(position, cycle).unwrap_or(0);
-    let other = scene.second.value(position, cycle).unwrap_or(0);
+    else {
+        return Ok((true, true));
+    };
+    let one = scene.first.value_of(domain, cycle)? != Some(0);
+    let other = scene.second.value_of(domain, cycle)? != Some(0);
+    Ok((one, other))
+}
+
+/// How the values of an output differ that is claimed at a cycle. None: they are the same.
+fn unlike(scene: &Scene<'_>, output: u32, cycle: usize) -> Result<Option<String>, AllocError> {
+    let name = shown(declared_name(scene.set, output));
+    let one = scene.first.value(output as usize, cycle).unwrap_or(0);
+    let other = scene.second.value(output as usize, cycle).unwrap_or(0);
     if one == other {
         return Ok(None);
     }
     Ok(Some(format!(in scene.alloc;
         "output {name} is claimed at cycle {cycle} and differs: {one} in the first window, {other} in the second"
+    )?))
+}
+
+/// Why an output isn't determined at a cycle. None: it is.
+fn difference(scene: &Scene<'_>, output: u32, cycle: usize) -> Result<Option<String>, AllocError> {
+    let which = match claims(scene, output, cycle)? {
+        (true, true) => return unlike(scene, output, cycle),
+        (false, false) => return Ok(None),
+        (true, false) => "first",
+        (false, true) => "second",
+    };
+    let name = shown(declared_name(scene.set, output));
+    Ok(Some(format!(in scene.alloc;
+        "output {name} is claimed at cycle {cycle} in the {which} window alone"
     )?))
 }
 

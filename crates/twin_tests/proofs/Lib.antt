@@ -14,3 +14,5 @@ pub mod Walked
 pub mod Alike
 pub mod Read
 pub mod Finding
+pub mod Told
+pub mod Listed

@@ -57,8 +57,3 @@ pub edges_step : (f : ℕ → List Line) (old new next : List Line) (k : ℕ) �
 edges_step f old new next k is made =
     let here : 0 + k ≡ k = omega arith in
     made ∙ (ap (λ (ls : List Line). ls ++ f k) is ∙ (flat_map_more f old (numbers_from 0 k) k ∙ ap (λ (ns : List ℕ). old ++ flat_map f ns) (ap (λ (m : ℕ). numbers_from 0 k ++ m ∷ []) (sym here) ∙ sym (numbers_more 0 k))))
-
--- the kinds one after another
-pub lines_joined : (a b c d e f : List Line) (l m n o p q : List Line) → l ≡ [] ++ a → m ≡ l ++ b → n ≡ m ++ c → o ≡ n ++ d → p ≡ o ++ e → q ≡ p ++ f → q ≡ a ++ (b ++ (c ++ (d ++ (e ++ f))))
-lines_joined a b c d e f l m n o p q la mb nc od pe qf =
-    qf ∙ (ap (λ (z : List Line). z ++ f) pe ∙ (append_assoc o e f ∙ (ap (λ (z : List Line). z ++ (e ++ f)) od ∙ (append_assoc n d (e ++ f) ∙ (ap (λ (z : List Line). z ++ (d ++ (e ++ f))) nc ∙ (append_assoc m c (d ++ (e ++ f)) ∙ (ap (λ (z : List Line). z ++ (c ++ (d ++ (e ++ f)))) mb ∙ (append_assoc l b (c ++ (d ++ (e ++ f))) ∙ ap (λ (z : List Line). z ++ (b ++ (c ++ (d ++ (e ++ f))))) la))))))))

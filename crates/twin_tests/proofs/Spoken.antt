@@ -1,10 +1,10 @@
 -- The lines of a set name properties that are there.
-use Rattle.std.proofs.Common.{◌≡◌, ℕ, zero, suc, ◌+◌, ◌<◌, ◌≤◌, List, [], ◌∷◌, ◌++◌, length, map, take, get_or, refl, sym, ap, ◌∙◌, subst, arith}
+use Rattle.std.proofs.Common.{◌≡◌, ℕ, zero, suc, ◌+◌, ◌<◌, ◌≤◌, List, [], ◌∷◌, ◌++◌, length, map, take, get_or, sym, ap, ◌∙◌, subst, arith}
 use Rattle.std.specs.Prelude.{◌⊎◌}
 use Rattle.std.specs.List.{All, AllZip, flat_map}
-use Rattle.std.proofs.lemmas.List.{get_or_default, take_more}
+use Rattle.std.proofs.lemmas.List.{take_more}
 use Rattle.std.proofs.lemmas.List.Concat.{flat_map-cons}
-use Rattle.std.proofs.lemmas.List.Elements.{All-append, All-cons, All-filter, All-head, All-map, All-nil, All-tail, All-take}
+use Rattle.std.proofs.lemmas.List.Elements.{All-append, All-cons, All-filter, All-head, All-map, All-nil, All-tail}
 use Rattle.std.proofs.lemmas.Slice.Zip.{all_zipped_more}
 use Rattle.set_tree.specs.declared.line.Line.{Line}
 use Rattle.set_tree.specs.declared.line.Line.TheVariants.{Base, Step, Reset, Operation, End, Split, SameEnd, Choose, Hand, Determine}
@@ -57,15 +57,6 @@ lines_speak set s =
     (All-append (SpeaksOf set) (map SameEnd (until_operations set)) chooses (All-map (SpeaksOf set) SameEnd (until_operations set) untils)
     (All-append (SpeaksOf set) (edge_lines set Choose) hands (edges_speak set Choose s (λ p q here there. (here, there)))
     (All-append (SpeaksOf set) (edge_lines set Hand) determines (edges_speak set Hand s (λ p q here there. (here, there))) (All-map (SpeaksOf set) Determine numbers all)))))
-
--- the lines before one speak of properties that are there
-pub first_speak : (set : Set) (lines first : List Line) (number : ℕ) → HasStructure set → lines ≡ set_lines set → first ≡ take number lines → All (SpeaksOf set) first
-first_speak set lines first number s are cut =
-    subst (λ (ls : List Line). All (SpeaksOf set) ls) (sym (cut ∙ ap (λ (ls : List Line). take number ls) are)) (All-take (SpeaksOf set) number (set_lines set) (lines_speak set s))
-
--- what stands at a number is the line of that number
-pub line_is : (set : Set) (lines : List Line) (number : ℕ) (line : Line) → lines ≡ set_lines set → number < length lines → line ≡ get_or lines number line → line ≡ set_line set number
-line_is set lines number line are lt at = at ∙ (get_or_default lines number line Reset lt ∙ ap (λ (ls : List Line). get_or ls number Reset) are)
 
 pub line_speaks : (set : Set) (number : ℕ) → HasStructure set → number < length (set_lines set) → SpeaksOf set (set_line set number)
 line_speaks set number s lt = lines_speak set s number Reset lt

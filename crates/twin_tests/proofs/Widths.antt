@@ -1,16 +1,15 @@
 -- The free words of windows have one length each.
-use Rattle.std.proofs.Common.{◌≡◌, ◌≢◌, ℕ, zero, suc, ◌<◌, List, [], ◌∷◌, length, map, get_or, refl, sym, ap, ◌∙◌, subst, arith, inl, inr}
-use Rattle.std.specs.Prelude.{ℤ, ◌⊎◌, pos}
+use Rattle.std.proofs.Common.{◌≡◌, ◌≢◌, ℕ, zero, suc, ◌<◌, List, [], ◌∷◌, length, map, get_or, refl, sym, ap, ◌∙◌, arith, inl, inr}
+use Rattle.std.specs.Prelude.{ℤ, ◌⊎◌}
 use Rattle.std.specs.List.{AllPairs}
 use Rattle.std.proofs.lemmas.List.{length-map}
 use Rattle.set_tree.specs.declared.set.Name.{Name}
 use Rattle.word_dag.specs.declared.node.Node.{Node}
-use Rattle.word_dag.specs.declared.node.Node.TheVariants.{Free, Const, Two, Not, Slice, Zext, Sext, Mux}
+use Rattle.word_dag.specs.declared.node.Node.TheVariants.{Free}
 use Rattle.word_dag.specs.Adding.{IsAt}
 use Rattle.word_dag.specs.Nodes.{width_of}
 use Rattle.elab_node.specs.Nodes.{AddsFrees}
-use Rattle.line_laws.specs.Windows.{side_of}
-use Rattle.twin_tests.specs.Framing.{IsWindowWord, IsWordOf, free_of}
+use Rattle.twin_tests.specs.Framing.{IsWindowWord, IsWordOf}
 use Rattle.word_names.specs.Names.{HasOneWidthEach}
 
 abbrev text_of : Node → List ℕ

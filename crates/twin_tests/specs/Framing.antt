@@ -1,5 +1,5 @@
 -- Two windows as nodes, and the lines over them.
-use Rattle.std.specs.Prelude.{◌≡◌, ℕ, pos, ◌+◌, ◌<◌, ◌⊎◌, Bool, false, not, List, [], ◌∷◌, length, get_or}
+use Rattle.std.specs.Prelude.{◌≡◌, ℕ, pos, ◌+◌, ◌<◌, ◌⊎◌, Bool, not, List, [], ◌∷◌, length, get_or}
 use Rattle.set_tree.specs.declared.line.Line.{Line}
 use Rattle.set_tree.specs.declared.line.Line.TheVariants.{Base, Step, Reset, Operation, End, Split, SameEnd, Choose, Hand, Determine}
 use Rattle.set_tree.specs.declared.set.Name.{Name}
@@ -14,6 +14,8 @@ use Rattle.line_laws.specs.Tests.{ends_at, meets_constraints, same, violates_cho
 use Rattle.line_laws.specs.Windows.{named_rows, rows_from, side_of}
 use Rattle.twin_tests.specs.declared.frame.Frame.{Frame}
 use Rattle.twin_tests.specs.declared.frame.Frames.{Frames}
+use Rattle.twin_tests.specs.declared.set_line.SetLine.{SetLine}
+use Rattle.twin_tests.specs.declared.set_line.SetLine.TheVariants as s
 use Rattle.twin_tests.specs.Building.{Shows, Tests}
 
 -- the free word of a name at a cycle of one side; inputs have side 0 in both windows
@@ -58,14 +60,10 @@ SpeaksOf set (Hand p q) = IsPosition set p × IsPosition set q
 SpeaksOf set (Determine p) = IsPosition set p
 
 -- what a line says of its property's end at n: that it ends there, that it does so in one window alone, or that the windows violate the line
-abbrev pub end_test : Set → Line → ℕ → Naming → Bool
-end_test set (Base i) n e = false
-end_test set (Step i) n e = false
-end_test set Reset n e = false
-end_test set (Operation p) n e = false
-end_test set (End p) n e = ends_at (meaning_of set) set p n (named_rows set e 0 (window_of set p))
-end_test set (Split p) n e = violates_split (meaning_of set) set p n (named_rows set e 0 (split_end set p n))
-end_test set (SameEnd p) n e = not (same (ends_at (meaning_of set) set p n (named_rows set e 0 (window_of set p))) (ends_at (meaning_of set) set p n (named_rows set e 1 (window_of set p))))
-end_test set (Choose p q) n e = let end = edge_end set p q n in violates_choose (meaning_of set) set p q n (named_rows set e 0 end) (named_rows set e 1 end)
-end_test set (Hand p q) n e = let end = edge_end set p q n in violates_hand (meaning_of set) set p q n (named_rows set e 0 end) (named_rows set e 1 end)
-end_test set (Determine p) n e = violates_determine (meaning_of set) set p n (named_rows set e 0 (window_of set p)) (named_rows set e 1 (window_of set p))
+abbrev pub end_test : Set → SetLine → ℕ → Naming → Bool
+end_test set (s.End p) n e = ends_at (meaning_of set) set p n (named_rows set e 0 (window_of set p))
+end_test set (s.Split p) n e = violates_split (meaning_of set) set p n (named_rows set e 0 (split_end set p n))
+end_test set (s.SameEnd p) n e = not (same (ends_at (meaning_of set) set p n (named_rows set e 0 (window_of set p))) (ends_at (meaning_of set) set p n (named_rows set e 1 (window_of set p))))
+end_test set (s.Choose p q) n e = let end = edge_end set p q n in violates_choose (meaning_of set) set p q n (named_rows set e 0 end) (named_rows set e 1 end)
+end_test set (s.Hand p q) n e = let end = edge_end set p q n in violates_hand (meaning_of set) set p q n (named_rows set e 0 end) (named_rows set e 1 end)
+end_test set (s.Determine p) n e = violates_determine (meaning_of set) set p n (named_rows set e 0 (window_of set p)) (named_rows set e 1 (window_of set p))

@@ -45,8 +45,7 @@ pub fn formula_node(
     )?;
     // the nodes of a dag fit
     let _fit = dag.nodes();
-    let node = value_node(dag, formula, &leaves)?;
-    Ok(node)
+    value_node(dag, formula, &leaves)
 }
 
 /// Whether a formula of a set holds in the first row.
@@ -66,8 +65,7 @@ pub fn test_node(
     ensures node { IfOk result (λ i. (f : Naming → List Row) → Shows set.now.names dag.old rows.now f → Tests dag.new i (λ e. holds (meaning_of set.now) formula.now (f e))) }
 {
     let value = formula_node(alloc, dag, set, rows, formula)?;
-    let node = nonzero(dag, value)?;
-    Ok(node)
+    nonzero(dag, value)
 }
 
 /// Whether each of these formulas of a set holds in the first row.
@@ -101,23 +99,22 @@ pub fn rows_after(rows: &[NodeRow], t: usize) -> &[NodeRow]
     &rows[t..]
 }
 
-/// Whether a formula of a set holds in each of the first rows.
+/// Whether a formula of a set holds wherever its largest offset fits into the rows.
 pub fn throughout_node(
     alloc: Global,
     dag: &mut Dag,
     set: &Set,
     rows: &[NodeRow],
     formula: &Expr,
-    count: usize,
 ) -> Result<u64, AllocError>
     requires widths { All (λ n. IsLength n.width) set.now.names }
     requires readable { IsReadable set.now (largest_offset formula.now + 1) formula.now }
-    requires within { count ≤ length rows.now - largest_offset formula.now }
     requires leaves { AreLeaves set.now.names dag.old rows.now }
     ensures keeps { IfOk result (λ _. Keeps dag.old dag.new) }
     ensures width { IfOk result (λ i. HasWidth dag.new i 1) }
-    ensures node { IfOk result (λ i. (f : Naming → List Row) → Shows set.now.names dag.old rows.now f → Tests dag.new i (λ e. all_below count (λ t. holds (meaning_of set.now) formula.now (drop t (f e))))) }
+    ensures node { IfOk result (λ i. (f : Naming → List Row) → Shows set.now.names dag.old rows.now f → Tests dag.new i (λ e. all_below (length (f e) - largest_offset formula.now) (λ t. holds (meaning_of set.now) formula.now (drop t (f e))))) }
 {
+    let count = rows.len().saturating_sub(largest(formula) as usize);
     let mut all = constant(dag, true)?;
     for t in 0..count {
         let later = rows_after(rows, t);
@@ -142,8 +139,7 @@ pub fn constraints_node(
 {
     let mut all = constant(dag, true)?;
     for rule in set.constraints.as_slice() {
-        let count = rows.len().saturating_sub(largest(&rule.formula) as usize);
-        let one = throughout_node(alloc, dag, set, rows, &rule.formula, count)?;
+        let one = throughout_node(alloc, dag, set, rows, &rule.formula)?;
         all = both(dag, all, one)?;
     }
     Ok(all)

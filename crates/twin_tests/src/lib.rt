@@ -13,6 +13,8 @@ mod obs;
 mod pair;
 mod part;
 mod property;
+mod set_line;
+mod twins;
 mod window;
 mod words;
 
@@ -22,5 +24,6 @@ pub use lines::lines_of;
 pub use obligation::obligation_of;
 pub use obs::{twin_ob, twin_obs};
 pub use property::{assumed_node, property_of};
+pub use set_line::SetLine;
 pub use window::{NodeRow, rows_before};
 pub use words::{both, constant, negated};

@@ -6,174 +6,104 @@ ghost use Rattle.set_tree.specs.Formulas.{meaning_of};
 ghost use Rattle.set_tree.specs.Parts.{IsPosition, property_at};
 ghost use Rattle.twin_tests.specs.Building.{HasWidth, Tests};
 ghost use Rattle.twin_tests.specs.Framing.{AreFrames, SpeaksOf, end_test};
+ghost use Rattle.twin_tests.specs.Ordering.{line_of};
 ghost use Rattle.twin_tests.specs.Reading.{HasStructure};
 ghost use Rattle.word_dag.specs.Adding.{Keeps};
 
-use crate::frame::Frames;
-use crate::pair::{opens_node, pairs_node};
-use crate::part::{choose_node, determine_node, end_node, hand_node, split_node};
 use crate::property::property_of;
+use crate::set_line::SetLine;
+use crate::twins::Twins;
 use crate::words::{both, constant, either, negated, same};
-use set_tree::{Line, Set};
-use std::alloc::{AllocError, Global};
+use std::alloc::AllocError;
 use word_dag::Dag;
 
-// `same-end P` at n: P ends there in one window alone.
-fn end_apart_node(
-    alloc: Global,
-    dag: &mut Dag,
-    set: &Set,
-    p: usize,
-    n: usize,
-    frames: &Frames,
-) -> Result<u64, AllocError>
-    requires structure { HasStructure set.now }
-    requires line { SpeaksOf set.now (Line.SameEnd p) }
-    requires least { (property_at set.now p).length.low ≤ n }
-    requires most { n ≤ (property_at set.now p).length.high }
-    requires frames { AreFrames set.now dag.old frames.now }
-    ensures keeps { IfOk result (λ _. Keeps dag.old dag.new) }
-    ensures width { IfOk result (λ i. HasWidth dag.new i 1) }
-    ensures node { IfOk result (λ i. Tests dag.new i (end_test set.now (Line.SameEnd p) n)) }
-{
-    let first = end_node(alloc, dag, set, p, n, &frames.first)?;
-    let second = end_node(alloc, dag, set, p, n, &frames.second)?;
-    let agree = same(dag, first, second)?;
-    let node = negated(dag, agree)?;
-    Ok(node)
-}
+impl Twins<'_> {
+    // `same-end P` at n: P ends there in one window alone.
+    fn end_apart_node(&self, dag: &mut Dag, p: usize, n: usize) -> Result<u64, AllocError>
+        requires structure { HasStructure self.now.set.now }
+        requires position { IsPosition self.now.set.now p }
+        requires least { (property_at self.now.set.now p).length.low ≤ n }
+        requires most { n ≤ (property_at self.now.set.now p).length.high }
+        requires frames { AreFrames self.now.set.now dag.old self.now.frames }
+        ensures keeps { IfOk result (λ _. Keeps dag.old dag.new) }
+        ensures width { IfOk result (λ i. HasWidth dag.new i 1) }
+        ensures node { IfOk result (λ i. Tests dag.new i (end_test self.now.set.now (SetLine.SameEnd p) n)) }
+    {
+        let first = self.end_node(dag, p, n, &self.frames.first)?;
+        let second = self.end_node(dag, p, n, &self.frames.second)?;
+        let agree = same(dag, first, second)?;
+        negated(dag, agree)
+    }
 
-// What a line says of its property's end at n.
-fn at_end_node(
-    alloc: Global,
-    dag: &mut Dag,
-    set: &Set,
-    line: Line,
-    n: usize,
-    frames: &Frames,
-) -> Result<u64, AllocError>
-    requires structure { HasStructure set.now }
-    requires line { SpeaksOf set.now line }
-    requires least { (property_at set.now (property_of line)).length.low ≤ n }
-    requires most { n ≤ (property_at set.now (property_of line)).length.high }
-    requires frames { AreFrames set.now dag.old frames.now }
-    ensures keeps { IfOk result (λ _. Keeps dag.old dag.new) }
-    ensures width { IfOk result (λ i. HasWidth dag.new i 1) }
-    ensures node { IfOk result (λ i. Tests dag.new i (end_test set.now line n)) }
-{
-    match line {
-        Line::Base(_) | Line::Step(_) | Line::Reset | Line::Operation(_) => {
-            let node = constant(dag, false)?;
-            Ok(node)
-        }
-        Line::End(p) => {
-            let node = end_node(alloc, dag, set, p as usize, n, &frames.first)?;
-            Ok(node)
-        }
-        Line::Split(p) => {
-            let node = split_node(alloc, dag, set, p as usize, n, frames)?;
-            Ok(node)
-        }
-        Line::SameEnd(p) => {
-            let node = end_apart_node(alloc, dag, set, p as usize, n, frames)?;
-            Ok(node)
-        }
-        Line::Choose(p, q) => {
-            let node = choose_node(alloc, dag, set, p as usize, q as usize, n, frames)?;
-            Ok(node)
-        }
-        Line::Hand(p, q) => {
-            let node = hand_node(alloc, dag, set, p as usize, q as usize, n, frames)?;
-            Ok(node)
-        }
-        Line::Determine(p) => {
-            let node = determine_node(alloc, dag, set, p as usize, n, frames)?;
-            Ok(node)
+    // What a line says of its property's end at n.
+    fn at_end_node(&self, dag: &mut Dag, line: SetLine, n: usize) -> Result<u64, AllocError>
+        requires structure { HasStructure self.now.set.now }
+        requires line { SpeaksOf self.now.set.now (line_of line) }
+        requires least { (property_at self.now.set.now (property_of (line_of line))).length.low ≤ n }
+        requires most { n ≤ (property_at self.now.set.now (property_of (line_of line))).length.high }
+        requires frames { AreFrames self.now.set.now dag.old self.now.frames }
+        ensures keeps { IfOk result (λ _. Keeps dag.old dag.new) }
+        ensures width { IfOk result (λ i. HasWidth dag.new i 1) }
+        ensures node { IfOk result (λ i. Tests dag.new i (end_test self.now.set.now line n)) }
+    {
+        match line {
+            SetLine::End(p) => self.end_node(dag, p as usize, n, &self.frames.first),
+            SetLine::Split(p) => self.split_node(dag, p as usize, n),
+            SetLine::SameEnd(p) => self.end_apart_node(dag, p as usize, n),
+            SetLine::Choose(p, q) => self.choose_node(dag, p as usize, q as usize, n),
+            SetLine::Hand(p, q) => self.hand_node(dag, p as usize, q as usize, n),
+            SetLine::Determine(p) => self.determine_node(dag, p as usize, n),
         }
     }
-}
 
-// The property that a line speaks of.
-fn property_at(line: Line) -> usize
-    ensures { result ≡ property_of line }
-{
-    match line {
-        Line::Base(_) | Line::Step(_) | Line::Reset => 0,
-        Line::Operation(p)
-        | Line::End(p)
-        | Line::Split(p)
-        | Line::SameEnd(p)
-        | Line::Choose(p, _)
-        | Line::Hand(p, _)
-        | Line::Determine(p) => p as usize,
+    // What a line says of an end, for some end that its property may have.
+    fn any_end_node(&self, dag: &mut Dag, line: SetLine) -> Result<u64, AllocError>
+        requires structure { HasStructure self.now.set.now }
+        requires line { SpeaksOf self.now.set.now (line_of line) }
+        requires position { IsPosition self.now.set.now (property_of (line_of line)) }
+        requires frames { AreFrames self.now.set.now dag.old self.now.frames }
+        ensures keeps { IfOk result (λ _. Keeps dag.old dag.new) }
+        ensures width { IfOk result (λ i. HasWidth dag.new i 1) }
+        ensures node { IfOk result (λ i. Tests dag.new i (λ e. any_end self.now.set.now (property_of (line_of line)) (λ n. end_test self.now.set.now line n e))) }
+    {
+        let property = property_of(self.set, line.property() as usize);
+        let low = property.length.low as usize;
+        let high = property.length.high as usize;
+        let mut any = constant(dag, false)?;
+        for n in low..high + 1 {
+            let one = self.at_end_node(dag, line, n)?;
+            any = either(dag, any, one)?;
+        }
+        Ok(any)
     }
-}
 
-// What a line says of an end, for some end that its property may have.
-fn any_end_node(
-    alloc: Global,
-    dag: &mut Dag,
-    set: &Set,
-    line: Line,
-    frames: &Frames,
-) -> Result<u64, AllocError>
-    requires structure { HasStructure set.now }
-    requires line { SpeaksOf set.now line }
-    requires position { IsPosition set.now (property_of line) }
-    requires frames { AreFrames set.now dag.old frames.now }
-    ensures keeps { IfOk result (λ _. Keeps dag.old dag.new) }
-    ensures width { IfOk result (λ i. HasWidth dag.new i 1) }
-    ensures node { IfOk result (λ i. Tests dag.new i (λ e. any_end set.now (property_of line) (λ n. end_test set.now line n e))) }
-{
-    let property = property_of(set, property_at(line));
-    let low = property.length.low as usize;
-    let high = property.length.high as usize;
-    let mut any = constant(dag, false)?;
-    for n in low..high + 1 {
-        let one = at_end_node(alloc, dag, set, line, n, frames)?;
-        any = either(dag, any, one)?;
-    }
-    Ok(any)
-}
-
-/// The test of a line: 1 exactly at values whose windows violate the line. Of the lines on a design it is 0.
-pub fn line_node(
-    alloc: Global,
-    dag: &mut Dag,
-    set: &Set,
-    line: Line,
-    frames: &Frames,
-) -> Result<u64, AllocError>
-    requires structure { HasStructure set.now }
-    requires line { SpeaksOf set.now line }
-    requires frames { AreFrames set.now dag.old frames.now }
-    ensures keeps { IfOk result (λ _. Keeps dag.old dag.new) }
-    ensures width { IfOk result (λ i. HasWidth dag.new i 1) }
-    ensures node { IfOk result (λ i. Tests dag.new i (line_test (meaning_of set.now) set.now line)) }
-{
-    match line {
-        Line::Base(_) | Line::Step(_) | Line::Reset | Line::Operation(_) => {
-            let node = constant(dag, false)?;
-            Ok(node)
-        }
-        Line::End(p) => {
-            let end = property_of(set, p as usize).window as usize;
-            let any = any_end_node(alloc, dag, set, line, frames)?;
-            let none = negated(dag, any)?;
-            let opens = opens_node(alloc, dag, set, p as usize, &frames.first, end)?;
-            let node = both(dag, opens, none)?;
-            Ok(node)
-        }
-        Line::SameEnd(p) => {
-            let end = property_of(set, p as usize).window as usize;
-            let any = any_end_node(alloc, dag, set, line, frames)?;
-            let pairs = pairs_node(alloc, dag, set, p as usize, frames, end)?;
-            let node = both(dag, pairs, any)?;
-            Ok(node)
-        }
-        Line::Split(_) | Line::Choose(_, _) | Line::Hand(_, _) | Line::Determine(_) => {
-            let node = any_end_node(alloc, dag, set, line, frames)?;
-            Ok(node)
+    /// The test of a line: 1 exactly at values whose windows violate the line.
+    pub fn line_node(&self, dag: &mut Dag, line: SetLine) -> Result<u64, AllocError>
+        requires structure { HasStructure self.now.set.now }
+        requires line { SpeaksOf self.now.set.now (line_of line) }
+        requires frames { AreFrames self.now.set.now dag.old self.now.frames }
+        ensures keeps { IfOk result (λ _. Keeps dag.old dag.new) }
+        ensures width { IfOk result (λ i. HasWidth dag.new i 1) }
+        ensures node { IfOk result (λ i. Tests dag.new i (line_test (meaning_of self.now.set.now) self.now.set.now (line_of line))) }
+    {
+        match line {
+            SetLine::End(p) => {
+                let end = property_of(self.set, p as usize).window as usize;
+                let any = self.any_end_node(dag, line)?;
+                let none = negated(dag, any)?;
+                let opens = self.opens_node(dag, p as usize, &self.frames.first, end)?;
+                both(dag, opens, none)
+            }
+            SetLine::SameEnd(p) => {
+                let end = property_of(self.set, p as usize).window as usize;
+                let any = self.any_end_node(dag, line)?;
+                let pairs = self.pairs_node(dag, p as usize, end)?;
+                both(dag, pairs, any)
+            }
+            SetLine::Split(_)
+            | SetLine::Choose(_, _)
+            | SetLine::Hand(_, _)
+            | SetLine::Determine(_) => self.any_end_node(dag, line),
         }
     }
 }

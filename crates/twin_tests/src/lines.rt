@@ -3,10 +3,11 @@ ghost use Rattle.std.specs.Prelude.{◌≡◌, ◌+◌, ◌^◌, ◌<◌, ◌++�
 ghost use Rattle.std.specs.List.{filter, flat_map};
 ghost use Rattle.set_tree.specs.Parts.{IsPosition, property_at};
 ghost use Rattle.set_tree.specs.Report.{edge_lines, numbers_from, set_lines, until_operations};
-ghost use Rattle.twin_tests.specs.Ordering.{edge_line, property_line};
+ghost use Rattle.twin_tests.specs.Ordering.{edge_line, line_of, property_line};
 
 use crate::property::property_of;
-use set_tree::{Line, Set};
+use crate::set_line::SetLine;
+use set_tree::Set;
 use std::alloc::{AllocError, Global};
 
 // The kinds of line that speak of one property.
@@ -25,30 +26,30 @@ enum OfEdge {
     Hand,
 }
 
-fn property_line(kind: OfProperty, p: u32) -> Line
-    ensures { result ≡ property_line kind p }
+fn property_line(kind: OfProperty, p: u32) -> SetLine
+    ensures { line_of result ≡ property_line kind p }
 {
     match kind {
-        OfProperty::End => Line::End(p),
-        OfProperty::Split => Line::Split(p),
-        OfProperty::SameEnd => Line::SameEnd(p),
-        OfProperty::Determine => Line::Determine(p),
+        OfProperty::End => SetLine::End(p),
+        OfProperty::Split => SetLine::Split(p),
+        OfProperty::SameEnd => SetLine::SameEnd(p),
+        OfProperty::Determine => SetLine::Determine(p),
     }
 }
 
-fn edge_line(kind: OfEdge, p: u32, q: u32) -> Line
-    ensures { result ≡ edge_line kind p q }
+fn edge_line(kind: OfEdge, p: u32, q: u32) -> SetLine
+    ensures { line_of result ≡ edge_line kind p q }
 {
     match kind {
-        OfEdge::Choose => Line::Choose(p, q),
-        OfEdge::Hand => Line::Hand(p, q),
+        OfEdge::Choose => SetLine::Choose(p, q),
+        OfEdge::Hand => SetLine::Hand(p, q),
     }
 }
 
 // A line for each property.
-fn push_all(lines: &mut Vec<Line>, set: &Set, kind: OfProperty) -> Result<(), AllocError>
+fn push_all(lines: &mut Vec<SetLine>, set: &Set, kind: OfProperty) -> Result<(), AllocError>
     requires { length set.now.operations < 2 ^ 31 }
-    ensures { OnOk result (lines.new.items ≡ lines.old.items ++ map (property_line kind) (numbers_from 0 (suc (length set.now.operations)))) }
+    ensures { OnOk result (map line_of lines.new.items ≡ map line_of lines.old.items ++ map (property_line kind) (numbers_from 0 (suc (length set.now.operations)))) }
 {
     for p in 0..set.operations.as_slice().len() + 1 {
         lines.push(property_line(kind, p as u32))?;
@@ -57,9 +58,9 @@ fn push_all(lines: &mut Vec<Line>, set: &Set, kind: OfProperty) -> Result<(), Al
 }
 
 // A line for each operation that ends where a condition holds.
-fn push_untils(lines: &mut Vec<Line>, set: &Set, kind: OfProperty) -> Result<(), AllocError>
+fn push_untils(lines: &mut Vec<SetLine>, set: &Set, kind: OfProperty) -> Result<(), AllocError>
     requires { length set.now.operations < 2 ^ 31 }
-    ensures { OnOk result (lines.new.items ≡ lines.old.items ++ map (property_line kind) (until_operations set.now)) }
+    ensures { OnOk result (map line_of lines.new.items ≡ map line_of lines.old.items ++ map (property_line kind) (until_operations set.now)) }
 {
     for p in 1..set.operations.as_slice().len() + 1 {
         if property_of(set, p).length.until.is_some() {
@@ -70,8 +71,8 @@ fn push_untils(lines: &mut Vec<Line>, set: &Set, kind: OfProperty) -> Result<(),
 }
 
 // A line for each successor of a property.
-fn push_next(lines: &mut Vec<Line>, kind: OfEdge, p: u32, next: &[u32]) -> Result<(), AllocError>
-    ensures { OnOk result (lines.new.items ≡ lines.old.items ++ map (edge_line kind p) next.now) }
+fn push_next(lines: &mut Vec<SetLine>, kind: OfEdge, p: u32, next: &[u32]) -> Result<(), AllocError>
+    ensures { OnOk result (map line_of lines.new.items ≡ map line_of lines.old.items ++ map (edge_line kind p) next.now) }
 {
     for q in next {
         lines.push(edge_line(kind, p, *q))?;
@@ -80,9 +81,9 @@ fn push_next(lines: &mut Vec<Line>, kind: OfEdge, p: u32, next: &[u32]) -> Resul
 }
 
 // A line for each edge.
-fn push_edges(lines: &mut Vec<Line>, set: &Set, kind: OfEdge) -> Result<(), AllocError>
+fn push_edges(lines: &mut Vec<SetLine>, set: &Set, kind: OfEdge) -> Result<(), AllocError>
     requires { length set.now.operations < 2 ^ 31 }
-    ensures { OnOk result (lines.new.items ≡ lines.old.items ++ edge_lines set.now (edge_line kind)) }
+    ensures { OnOk result (map line_of lines.new.items ≡ map line_of lines.old.items ++ edge_lines set.now (edge_line kind)) }
 {
     for p in 0..set.operations.as_slice().len() + 1 {
         push_next(lines, kind, p as u32, property_of(set, p).next.as_slice())?;
@@ -90,10 +91,10 @@ fn push_edges(lines: &mut Vec<Line>, set: &Set, kind: OfEdge) -> Result<(), Allo
     Ok(())
 }
 
-/// The lines of a set, in the order of a report.
-pub fn lines_of(alloc: Global, set: &Set) -> Result<Vec<Line>, AllocError>
+/// The lines of a set, in the order of a report. It is refused for want of memory alone.
+pub fn lines_of(alloc: Global, set: &Set) -> Result<Vec<SetLine>, AllocError>
     requires { length set.now.operations < 2 ^ 31 }
-    ensures { IfOk result (λ lines. lines.items ≡ set_lines set.now) }
+    ensures { IfOk result (λ lines. map line_of lines.items ≡ set_lines set.now) }
 {
     let mut lines = Vec::new(alloc);
     push_untils(&mut lines, set, OfProperty::End)?;

@@ -19,6 +19,5 @@ pub fn obligation_of(alloc: Global, dag: &Dag, root: u64) -> Result<Ob, AllocErr
     ensures of_line { IfOk result (λ ob. (m : Meaning) (set : Set) (line : Line) → HasLength set line → IsTestOf (line_test m set line) dag.now root → IsOf m set line ob.nodes ob.root) }
     ensures words { IfOk result (λ ob. HasOneWidthEach dag.now → HasOneWordEach ob.nodes) }
 {
-    let ob = extract(alloc, dag, root)?;
-    Ok(ob)
+    extract(alloc, dag, root)
 }

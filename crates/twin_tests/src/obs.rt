@@ -4,58 +4,49 @@ ghost use Rattle.std.specs.List.{All, AllZip};
 ghost use Rattle.set_tree.specs.Report.{set_lines};
 ghost use Rattle.twin_tests.specs.Framing.{AreFrames, SpeaksOf};
 ghost use Rattle.twin_tests.specs.Named.{IsNamedOf, set_line};
+ghost use Rattle.twin_tests.specs.Ordering.{line_of};
 ghost use Rattle.twin_tests.specs.Reading.{HasStructure};
 ghost use Rattle.word_dag.specs.Adding.{Keeps};
 ghost use Rattle.word_names.specs.Names.{HasOneWidthEach};
 
-use crate::frame::{Frames, frames_of};
-use crate::line::line_node;
+use crate::frame::frames_of;
 use crate::lines::lines_of;
 use crate::obligation::obligation_of;
+use crate::set_line::SetLine;
+use crate::twins::Twins;
 use line_laws::line_name;
 use set_sound::Sound;
-use set_tree::{Line, Set};
 use std::alloc::{AllocError, Global};
 use word_dag::{Dag, Named};
 
-// Puts the nodes of lines into the dag, one line after another.
-fn add_lines(
-    alloc: Global,
-    dag: &mut Dag,
-    set: &Set,
-    lines: &[Line],
-    frames: &Frames,
-) -> Result<(), AllocError>
-    requires structure { HasStructure set.now }
-    requires lines { All (SpeaksOf set.now) lines.now }
-    requires frames { AreFrames set.now dag.old frames.now }
-    ensures { OnOk result (Keeps dag.old dag.new) }
-{
-    for line in lines {
-        line_node(alloc, dag, set, *line, frames)?;
+impl Twins<'_> {
+    // Puts the nodes of lines into the dag, one line after another.
+    fn add_lines(&self, dag: &mut Dag, lines: &[SetLine]) -> Result<(), AllocError>
+        requires structure { HasStructure self.now.set.now }
+        requires lines { All (λ line. SpeaksOf self.now.set.now (line_of line)) lines.now }
+        requires frames { AreFrames self.now.set.now dag.old self.now.frames }
+        ensures { OnOk result (Keeps dag.old dag.new) }
+    {
+        for line in lines {
+            self.line_node(dag, *line)?;
+        }
+        Ok(())
     }
-    Ok(())
-}
 
-// The obligation of a line, with the line's name.
-fn named_ob(
-    alloc: Global,
-    dag: &mut Dag,
-    set: &Set,
-    line: Line,
-    frames: &Frames,
-) -> Result<Named, AllocError>
-    requires structure { HasStructure set.now }
-    requires line { SpeaksOf set.now line }
-    requires frames { AreFrames set.now dag.old frames.now }
-    requires words { HasOneWidthEach dag.old }
-    ensures keeps { IfOk result (λ _. Keeps dag.old dag.new) }
-    ensures named { IfOk result (λ named. IsNamedOf set.now line named) }
-{
-    let root = line_node(alloc, dag, set, line, frames)?;
-    let ob = obligation_of(alloc, dag, root)?;
-    let name = line_name(alloc, set, line)?;
-    Ok(Named { name, ob })
+    // The obligation of a line, with the line's name.
+    fn named_ob(&self, dag: &mut Dag, line: SetLine) -> Result<Named, AllocError>
+        requires structure { HasStructure self.now.set.now }
+        requires line { SpeaksOf self.now.set.now (line_of line) }
+        requires frames { AreFrames self.now.set.now dag.old self.now.frames }
+        requires words { HasOneWidthEach dag.old }
+        ensures keeps { IfOk result (λ _. Keeps dag.old dag.new) }
+        ensures named { IfOk result (λ named. IsNamedOf self.now.set.now (line_of line) named) }
+    {
+        let root = self.line_node(dag, line)?;
+        let ob = obligation_of(self.alloc, dag, root)?;
+        let name = line_name(self.alloc, self.set, line.line())?;
+        Ok(Named { name, ob })
+    }
 }
 
 /// The obligations of the lines of a set, in the order of a report: for each line its name, and nodes whose root is 1 exactly at values whose
@@ -68,9 +59,10 @@ pub fn twin_obs(alloc: Global, sound: &Sound) -> Result<Vec<Named>, AllocError>
     let lines = lines_of(alloc, set)?;
     let mut dag = Dag::new(alloc);
     let frames = frames_of(alloc, &mut dag, set)?;
+    let twins = Twins { alloc, set, frames };
     let mut obs = Vec::with_capacity(alloc, lines.len())?;
     for line in &lines {
-        let named = named_ob(alloc, &mut dag, set, *line, &frames)?;
+        let named = twins.named_ob(&mut dag, *line)?;
         obs.push(named)?;
     }
     Ok(obs)
@@ -86,7 +78,7 @@ pub fn twin_ob(alloc: Global, sound: &Sound, number: usize) -> Result<Named, All
     let lines = lines_of(alloc, set)?;
     let mut dag = Dag::new(alloc);
     let frames = frames_of(alloc, &mut dag, set)?;
-    add_lines(alloc, &mut dag, set, &lines[..number], &frames)?;
-    let named = named_ob(alloc, &mut dag, set, lines[number], &frames)?;
-    Ok(named)
+    let twins = Twins { alloc, set, frames };
+    twins.add_lines(&mut dag, &lines[..number])?;
+    twins.named_ob(&mut dag, lines[number])
 }

@@ -44,12 +44,10 @@ pub fn assumed_node(
     ensures node { IfOk result (λ i. (f : Naming → List Row) → Shows set.now.names dag.old rows.now f → Tests dag.new i (λ e. assumed (meaning_of set.now) set.now at (f e))) }
 {
     if at == 0 {
-        let node = constant(dag, true)?;
-        return Ok(node);
+        return constant(dag, true);
     }
     let formulas = property_of(set, at).assume.as_slice();
-    let node = all_node(alloc, dag, set, rows, formulas)?;
-    Ok(node)
+    all_node(alloc, dag, set, rows, formulas)
 }
 
 /// Whether a property starts in the first row: its assumptions and its commitments hold.
@@ -70,6 +68,5 @@ pub fn starts_node(
     let assumed = assumed_node(alloc, dag, set, at, rows)?;
     let formulas = property_of(set, at).commit.as_slice();
     let committed = all_node(alloc, dag, set, rows, formulas)?;
-    let node = both(dag, assumed, committed)?;
-    Ok(node)
+    both(dag, assumed, committed)
 }

@@ -70,13 +70,12 @@ fn free_node(
     ensures width { IfOk result (λ i. HasWidth dag.new i name.now.width) }
     ensures node { IfOk result (λ i. Counts dag.new i (λ e. named_value e side cycle name.now)) }
 {
-    let node = dag.add(Node::Free {
+    dag.add(Node::Free {
         name: Text::copy(alloc, name.name.bytes())?,
         width: name.width,
         side: side_of(name.role, side),
         cycle: i16::from(cycle),
-    })?;
-    Ok(node)
+    })
 }
 
 // The free words of the names at a cycle of one side.

@@ -39,8 +39,7 @@ pub fn constant(dag: &mut Dag, holds: bool) -> Result<u64, AllocError>
     ensures width { IfOk result (λ i. HasWidth dag.new i 1) }
     ensures node { IfOk result (λ i. Tests dag.new i (λ e. holds)) }
 {
-    let node = dag.add(Node::Const(Word::new(1, u64::from(holds))))?;
-    Ok(node)
+    dag.add(Node::Const(Word::new(1, u64::from(holds))))
 }
 
 /// Both tests hold.
@@ -52,13 +51,12 @@ pub fn both(dag: &mut Dag, a: u64, b: u64) -> Result<u64, AllocError>
     ensures width { IfOk result (λ i. HasWidth dag.new i 1) }
     ensures node { IfOk result (λ i. (f g : Naming → Bool) → Tests dag.old a f → Tests dag.old b g → Tests dag.new i (λ e. f e && g e)) }
 {
-    let node = dag.add(Node::Two {
+    dag.add(Node::Two {
         op: Op::And,
         width: 1,
         a,
         b,
-    })?;
-    Ok(node)
+    })
 }
 
 /// One of the tests holds.
@@ -70,13 +68,12 @@ pub fn either(dag: &mut Dag, a: u64, b: u64) -> Result<u64, AllocError>
     ensures width { IfOk result (λ i. HasWidth dag.new i 1) }
     ensures node { IfOk result (λ i. (f g : Naming → Bool) → Tests dag.old a f → Tests dag.old b g → Tests dag.new i (λ e. f e || g e)) }
 {
-    let node = dag.add(Node::Two {
+    dag.add(Node::Two {
         op: Op::Or,
         width: 1,
         a,
         b,
-    })?;
-    Ok(node)
+    })
 }
 
 /// The test doesn't hold.
@@ -87,8 +84,7 @@ pub fn negated(dag: &mut Dag, a: u64) -> Result<u64, AllocError>
     ensures width { IfOk result (λ i. HasWidth dag.new i 1) }
     ensures node { IfOk result (λ i. (f : Naming → Bool) → Tests dag.old a f → Tests dag.new i (λ e. not (f e))) }
 {
-    let node = dag.add(Node::Not { width: 1, a })?;
-    Ok(node)
+    dag.add(Node::Not { width: 1, a })
 }
 
 /// Both tests hold, or neither does.
@@ -100,13 +96,12 @@ pub fn same(dag: &mut Dag, a: u64, b: u64) -> Result<u64, AllocError>
     ensures width { IfOk result (λ i. HasWidth dag.new i 1) }
     ensures node { IfOk result (λ i. (f g : Naming → Bool) → Tests dag.old a f → Tests dag.old b g → Tests dag.new i (λ e. same (f e) (g e))) }
 {
-    let node = dag.add(Node::Two {
+    dag.add(Node::Two {
         op: Op::Eq,
         width: 1,
         a,
         b,
-    })?;
-    Ok(node)
+    })
 }
 
 // The number at a greater width.
@@ -122,8 +117,7 @@ fn widened(dag: &mut Dag, a: u64, width: u8) -> Result<u64, AllocError>
     if width_at(dag, a) == width {
         return Ok(a);
     }
-    let node = dag.add(Node::Zext { width, a })?;
-    Ok(node)
+    dag.add(Node::Zext { width, a })
 }
 
 /// Two words have the same number.
@@ -138,13 +132,12 @@ pub fn equal(dag: &mut Dag, a: u64, b: u64) -> Result<u64, AllocError>
     let width = width_at(dag, a).max(width_at(dag, b));
     let a = widened(dag, a, width)?;
     let b = widened(dag, b, width)?;
-    let node = dag.add(Node::Two {
+    dag.add(Node::Two {
         op: Op::Eq,
         width: 1,
         a,
         b,
-    })?;
-    Ok(node)
+    })
 }
 
 /// The number isn't 0.

@@ -1,8 +1,8 @@
 -- Obligations one after another.
-use Rattle.std.proofs.Common.{◌≡◌, ℕ, zero, suc, ◌+◌, ◌<◌, ◌≤◌, List, [], ◌∷◌, ◌++◌, length, map, take, get_or, sym, ap, ◌∙◌, subst, arith, append_assoc}
+use Rattle.std.proofs.Common.{◌≡◌, ℕ, zero, suc, ◌+◌, ◌<◌, ◌≤◌, List, [], ◌∷◌, ◌++◌, length, map, take, get_or, sym, ap, ◌∙◌, arith, append_assoc}
 use Rattle.std.specs.List.{All, AllZip}
-use Rattle.std.proofs.lemmas.List.{get_or_default, map-append}
-use Rattle.std.proofs.lemmas.List.Elements.{All-append, All-cons, All-map, All-nil, All-take}
+use Rattle.std.proofs.lemmas.List.{map-append}
+use Rattle.std.proofs.lemmas.List.Elements.{All-append, All-cons, All-map, All-nil}
 use Rattle.set_tree.specs.declared.line.Line.{Line}
 use Rattle.set_tree.specs.declared.line.Line.TheVariants.{Base, Step, Reset, Operation}
 use Rattle.set_tree.specs.declared.set.Property.{Property}
@@ -62,15 +62,6 @@ obs_step d set a b segments lines obs new i line named ab lt is made here before
   each = zip_more (IsNamedOf d set) lines i line obs new named lt is made here before.each;
   words = widths_are_kept a b ab before.words;
 }
-
--- the lines before one speak of operations that are there
-pub first_speak : (set : Set) (lines first : List Line) (number : ℕ) → lines ≡ design_lines set → first ≡ take number lines → All (SpeaksOf set) first
-first_speak set lines first number are cut =
-    subst (λ (ls : List Line). All (SpeaksOf set) ls) (sym (cut ∙ ap (λ (ls : List Line). take number ls) are)) (All-take (SpeaksOf set) number (design_lines set) (lines_speak set))
-
--- what stands at a number is the line of that number
-pub line_is : (set : Set) (lines : List Line) (number : ℕ) (line : Line) → lines ≡ design_lines set → number < length lines → line ≡ get_or lines number line → line ≡ design_line set number
-line_is set lines number line are lt at = at ∙ (get_or_default lines number line Reset lt ∙ ap (λ (ls : List Line). get_or ls number Reset) are)
 
 pub line_speaks : (set : Set) (number : ℕ) → number < length (design_lines set) → SpeaksOf set (design_line set number)
 line_speaks set number lt = lines_speak set number Reset lt

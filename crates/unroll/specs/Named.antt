@@ -10,8 +10,17 @@ use Rattle.word_design.specs.Designs.{Parts}
 use Rattle.line_laws.specs.Names.{line_name}
 use Rattle.segment_laws.specs.Lines.{IsOf}
 use Rattle.word_names.specs.Names.{HasOneWordEach}
+use Rattle.unroll.specs.declared.design_line.DesignLine.{DesignLine}
+use Rattle.unroll.specs.declared.design_line.DesignLine.TheVariants as d
 use Rattle.unroll.specs.declared.lines.OfNumber.{OfNumber}
 use Rattle.unroll.specs.declared.lines.OfNumber.TheVariants as one
+
+-- the line of a report that it is
+abbrev pub line_of : DesignLine → Line
+line_of (d.Base i) = l.Base i
+line_of (d.Step i) = l.Step i
+line_of d.Reset = l.Reset
+line_of (d.Operation p) = l.Operation p
 
 -- which line a kind and a number make
 abbrev pub numbered_line : OfNumber → ℕ → Line

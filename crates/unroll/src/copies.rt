@@ -60,7 +60,7 @@ fn copy_node(dag: &mut Dag, node: &Node, copies: &[u64], leaf: u64) -> Result<u6
     ensures inner { IfOk result (λ i. is_free node.now ≡ false → Adds dag.old dag.new (renumbered (slice_index copies.now) node.now) i) }
 {
     match inner(node, copies) {
-        Some(node) => Ok(dag.add(node)?),
+        Some(node) => dag.add(node),
         None => Ok(leaf),
     }
 }

@@ -50,13 +50,12 @@ fn free_node(
     ensures node { IfOk result (λ i. IsNode dag.new i width) }
     ensures word { IfOk result (λ i. IsWordAt dag.new i width (λ e. e name.now 0 (cycle_number moment.resets moment.position))) }
 {
-    let node = dag.add(Node::Free {
+    dag.add(Node::Free {
         name: Text::copy(alloc, name)?,
         width,
         side: 0,
         cycle: cycle_of(moment),
-    })?;
-    Ok(node)
+    })
 }
 
 /// The level of the reset input where reset is active, or where it isn't.
@@ -84,11 +83,9 @@ fn input_node(
 {
     if input.name.bytes() == set.reset.bytes() {
         let value = level(set, moment.position < moment.resets);
-        let node = dag.add(Node::Const(Word::new(input.width, value)))?;
-        return Ok(node);
+        return dag.add(Node::Const(Word::new(input.width, value)));
     }
-    let node = free_node(alloc, dag, input.name.bytes(), input.width, moment)?;
-    Ok(node)
+    free_node(alloc, dag, input.name.bytes(), input.width, moment)
 }
 
 // The node of a register in a cycle: at first its free word, and then what the cycle before leaves in it, whose nodes are the copies.
@@ -112,8 +109,7 @@ fn register_node(
     if moment.position > 0 {
         return Ok(copies[register.next as usize]);
     }
-    let node = free_node(alloc, dag, register.name.bytes(), register.width, moment)?;
-    Ok(node)
+    free_node(alloc, dag, register.name.bytes(), register.width, moment)
 }
 
 // Puts the nodes of the registers at their places.

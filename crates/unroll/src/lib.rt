@@ -2,6 +2,7 @@
 #![tactic(auto)]
 
 mod copies;
+mod design_line;
 mod leaves;
 mod line;
 mod lines;
@@ -10,6 +11,7 @@ mod part;
 mod rows;
 mod segment;
 
+pub use design_line::DesignLine;
 pub use leaves::{Moment, cycle_of, level};
 pub use line::begins_node;
 pub use lines::lines_of;

@@ -33,8 +33,7 @@ pub fn base_node(
 {
     let met = constraints_node(alloc, dag, set, rows)?;
     let fails = fails_node(alloc, dag, set, at, rows)?;
-    let node = both(dag, met, fails)?;
-    Ok(node)
+    both(dag, met, fails)
 }
 
 /// Whether the constraints that fit hold, and the invariants in the first row. It is refused for want of memory alone.
@@ -54,8 +53,7 @@ pub fn begins_node(
 {
     let met = constraints_node(alloc, dag, set, rows)?;
     let invariants = invariants_node(alloc, dag, set, rows)?;
-    let node = both(dag, met, invariants)?;
-    Ok(node)
+    both(dag, met, invariants)
 }
 
 /// `step i`: the constraints that fit hold, the invariants in the first row, and the invariant not in the second.
@@ -76,8 +74,7 @@ pub fn step_node(
 {
     let begins = begins_node(alloc, dag, set, rows)?;
     let fails = fails_node(alloc, dag, set, at, rows_after(rows, 1))?;
-    let node = both(dag, begins, fails)?;
-    Ok(node)
+    both(dag, begins, fails)
 }
 
 /// `reset`: the constraints that fit hold, and the reset property doesn't commit.
@@ -97,8 +94,7 @@ pub fn reset_node(
 {
     let met = constraints_node(alloc, dag, set, rows)?;
     let broken = broken_node(alloc, dag, set, 0, rows)?;
-    let node = both(dag, met, broken)?;
-    Ok(node)
+    both(dag, met, broken)
 }
 
 /// `op P`: the constraints that fit hold, the invariants in the first row, and P is assumed there and doesn't commit.
@@ -121,6 +117,5 @@ pub fn operation_node(
     let assumed = assumed_node(alloc, dag, set, at, rows)?;
     let starts = both(dag, begins, assumed)?;
     let broken = broken_node(alloc, dag, set, at, rows)?;
-    let node = both(dag, starts, broken)?;
-    Ok(node)
+    both(dag, starts, broken)
 }

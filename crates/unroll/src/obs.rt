@@ -8,20 +8,21 @@ ghost use Rattle.set_tree.specs.Report.{design_lines};
 ghost use Rattle.twin_tests.specs.Building.{HasWidth, Tests};
 ghost use Rattle.twin_tests.specs.Framing.{SpeaksOf};
 ghost use Rattle.twin_tests.specs.Reading.{HasStructure};
-ghost use Rattle.unroll.specs.Named.{IsNamedOf, design_line};
+ghost use Rattle.unroll.specs.Named.{IsNamedOf, design_line, line_of};
 ghost use Rattle.unroll.specs.Unrolled.{AreSegments};
 ghost use Rattle.word_dag.specs.Adding.{Keeps};
 ghost use Rattle.word_names.specs.Names.{HasOneWidthEach};
 ghost use Rattle.word_design.specs.Designs.{IsDesign, Parts};
 
+use crate::design_line::DesignLine;
 use crate::line::{base_node, operation_node, reset_node, step_node};
 use crate::lines::lines_of;
 use crate::segment::{Segments, segments_of};
 use binding::Bound;
 use line_laws::line_name;
-use set_tree::{Line, Set};
+use set_tree::Set;
 use std::alloc::{AllocError, Global};
-use twin_tests::{constant, property_of, rows_before};
+use twin_tests::{property_of, rows_before};
 use word_dag::{Dag, Named, extract};
 
 // A line of the design as a node: 1 exactly at values whose segment violates it.
@@ -29,47 +30,34 @@ fn line_node(
     alloc: Global,
     dag: &mut Dag,
     set: &Set,
-    line: Line,
+    line: DesignLine,
     segments: &Segments,
 ) -> Result<u64, AllocError>
     requires structure { HasStructure set.now }
-    requires line { SpeaksOf set.now line }
+    requires line { SpeaksOf set.now (line_of line) }
     requires segments { (d : Parts) × AreSegments d set.now dag.old segments.now }
     ensures keeps { IfOk result (λ _. Keeps dag.old dag.new) }
     ensures width { IfOk result (λ i. HasWidth dag.new i 1) }
-    ensures node { IfOk result (λ i. (d : Parts) → AreSegments d set.now dag.old segments.now → Tests dag.new i (line_test d (meaning_of set.now) set.now line)) }
+    ensures node { IfOk result (λ i. (d : Parts) → AreSegments d set.now dag.old segments.now → Tests dag.new i (line_test d (meaning_of set.now) set.now (line_of line))) }
 {
     match line {
-        Line::Base(i) => {
+        DesignLine::Base(i) => {
             let rows = rows_before(segments.after_reset.as_slice(), 1);
-            let node = base_node(alloc, dag, set, i, rows)?;
-            Ok(node)
+            base_node(alloc, dag, set, i, rows)
         }
-        Line::Step(i) => {
+        DesignLine::Step(i) => {
             let rows = rows_before(segments.plain.as_slice(), 2);
-            let node = step_node(alloc, dag, set, i, rows)?;
-            Ok(node)
+            step_node(alloc, dag, set, i, rows)
         }
-        Line::Reset => {
+        DesignLine::Reset => {
             let end = property_of(set, 0).window as usize;
             let rows = rows_before(segments.after_reset.as_slice(), end + 1);
-            let node = reset_node(alloc, dag, set, rows)?;
-            Ok(node)
+            reset_node(alloc, dag, set, rows)
         }
-        Line::Operation(p) => {
+        DesignLine::Operation(p) => {
             let end = property_of(set, p as usize).window as usize;
             let rows = rows_before(segments.plain.as_slice(), end + 1);
-            let node = operation_node(alloc, dag, set, p as usize, rows)?;
-            Ok(node)
-        }
-        Line::End(_)
-        | Line::Split(_)
-        | Line::SameEnd(_)
-        | Line::Choose(_, _)
-        | Line::Hand(_, _)
-        | Line::Determine(_) => {
-            let node = constant(dag, false)?;
-            Ok(node)
+            operation_node(alloc, dag, set, p as usize, rows)
         }
     }
 }
@@ -79,11 +67,11 @@ fn add_lines(
     alloc: Global,
     dag: &mut Dag,
     set: &Set,
-    lines: &[Line],
+    lines: &[DesignLine],
     segments: &Segments,
 ) -> Result<(), AllocError>
     requires structure { HasStructure set.now }
-    requires lines { All (SpeaksOf set.now) lines.now }
+    requires lines { All (λ line. SpeaksOf set.now (line_of line)) lines.now }
     requires segments { (d : Parts) × AreSegments d set.now dag.old segments.now }
     ensures { OnOk result (Keeps dag.old dag.new) }
 {
@@ -98,19 +86,19 @@ fn named_ob(
     alloc: Global,
     dag: &mut Dag,
     set: &Set,
-    line: Line,
+    line: DesignLine,
     segments: &Segments,
 ) -> Result<Named, AllocError>
     requires structure { HasStructure set.now }
-    requires line { SpeaksOf set.now line }
+    requires line { SpeaksOf set.now (line_of line) }
     requires segments { (d : Parts) × AreSegments d set.now dag.old segments.now }
     requires words { HasOneWidthEach dag.old }
     ensures keeps { IfOk result (λ _. Keeps dag.old dag.new) }
-    ensures named { IfOk result (λ named. (d : Parts) → IsDesign d → Fits d set.now → AreSegments d set.now dag.old segments.now → IsNamedOf d set.now line named) }
+    ensures named { IfOk result (λ named. (d : Parts) → IsDesign d → Fits d set.now → AreSegments d set.now dag.old segments.now → IsNamedOf d set.now (line_of line) named) }
 {
     let root = line_node(alloc, dag, set, line, segments)?;
     let ob = extract(alloc, dag, root)?;
-    let name = line_name(alloc, set, line)?;
+    let name = line_name(alloc, set, line.line())?;
     Ok(Named { name, ob })
 }
 
@@ -148,6 +136,5 @@ pub fn design_ob(alloc: Global, bound: &Bound, number: usize) -> Result<Named, A
     let mut dag = Dag::new(alloc);
     let segments = segments_of(alloc, &mut dag, bound)?;
     add_lines(alloc, &mut dag, set, &lines[..number], &segments)?;
-    let named = named_ob(alloc, &mut dag, set, lines[number], &segments)?;
-    Ok(named)
+    named_ob(alloc, &mut dag, set, lines[number], &segments)
 }

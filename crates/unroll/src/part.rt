@@ -55,13 +55,9 @@ pub fn fails_node(
     match set.invariants.as_slice().get(at as usize) {
         Some(rule) => {
             let holds = test_node(alloc, dag, set, rows, &rule.formula)?;
-            let node = negated(dag, holds)?;
-            Ok(node)
+            negated(dag, holds)
         }
-        None => {
-            let node = constant(dag, false)?;
-            Ok(node)
-        }
+        None => constant(dag, false),
     }
 }
 
@@ -83,6 +79,5 @@ pub fn broken_node(
 {
     let formulas = property_of(set, at).commit.as_slice();
     let holds = all_node(alloc, dag, set, rows, formulas)?;
-    let node = negated(dag, holds)?;
-    Ok(node)
+    negated(dag, holds)
 }

@@ -44,8 +44,7 @@ fn cycle_nodes(
     ensures copied { IfOk result (λ copies. CopiedBefore bound.now.design bound.now.set moment.resets (suc moment.position) dag.new copies.items) }
 {
     let leaves = leaves_of(alloc, dag, bound, moment, before)?;
-    let copies = copy_nodes(alloc, dag, bound.design(), leaves.as_slice())?;
-    Ok(copies)
+    copy_nodes(alloc, dag, bound.design(), leaves.as_slice())
 }
 
 // The nodes of the last reset cycle, none where there is none.

@@ -4,8 +4,6 @@
 mod cycles;
 mod parts;
 mod scopes;
-#[cfg(test)]
-mod tests;
 mod wave;
 mod waves;
 

@@ -17,7 +17,7 @@ z = record { lit = y; reason = None }
 pub place-other-requires : goal.place-other-requires
 place-other-requires t c =
     let entries = c.args.trail.now.entries in
-    let clauses = clauses_of c.args.cnf.now.clauses.items c.args.steps.now in
+    let clauses = clauses_of c.args.cnf.now.clauses c.args.steps.now in
     let p = c.args.place in
     let items = c.clause_at-lit-items.result.now in
     let lit = get_or items c.loop-lit.lit-index y in

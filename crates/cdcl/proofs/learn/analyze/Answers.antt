@@ -14,7 +14,7 @@ z = record { lit = record { var = 0; negative = false }; reason = None }
 
 pub follow_to_cut-requires-clause-pending : goal.follow_to_cut-requires-clause-pending
 follow_to_cut-requires-clause-pending c =
-    let clauses = clauses_of c.args.cnf.now.clauses.items c.args.steps.now in
+    let clauses = clauses_of c.args.cnf.now.clauses c.args.steps.now in
     let f = (c.in_ok-conflict.ensures).followed in
     let one = pending_from_closed clauses c.args.trail.now.vars c.args.trail.now.entries c.requires.trail c.args.start c.args.number c.requires.closed c.requires.conflict c.in_ok-conflict.conflict.seen.items (c.in_ok-conflict.ensures).marked in
     omega (arith, one, f.counted)

@@ -22,7 +22,7 @@ returns-then-is_true c =
 pub returns-in-Some-find_other : goal.returns-in-Some-find_other
 returns-in-Some-find_other c =
     let s = c.args.search.now in
-    let at = subst (IsClauseAt c.args.cnf.now.vars (clauses_of c.args.cnf.now.clauses.items s.steps.items) c.args.number) (sym c.clause-clause.ensures) c.requires.copied.clause in
+    let at = subst (IsClauseAt c.args.cnf.now.vars (clauses_of c.args.cnf.now.clauses s.steps.items) c.args.number) (sym c.clause-clause.ensures) c.requires.copied.clause in
     let found = c.in-Some-find_other.ensures in
     let clause = c.clause-clause.result.now in
     let first = get_or clause c.in-Some-find_other.place z in
@@ -31,7 +31,7 @@ returns-in-Some-find_other c =
     record {
       leaves = c.in-Some.ensures;
       in_range = subst (λ (l : Lit). l.var < c.args.cnf.now.vars) (sym is) (All-contains (λ (l : Lit). l.var < c.args.cnf.now.vars) clause first at.in_range among);
-      among = subst (Contains (clause_at (clauses_of c.args.cnf.now.clauses.items s.steps.items) c.args.number)) (sym is) (subst (λ k. Contains k first) at.is among);
+      among = subst (Contains (clause_at (clauses_of c.args.cnf.now.clauses s.steps.items) c.args.number)) (sym is) (subst (λ k. Contains k first) at.is among);
       apart = subst (λ (l : Lit). l.var ≢ c.in-Some.other.var) (sym is) (found.apart z);
       not_false = λ h. found.not_false z (known_false c.values-values.result.now (lits_of s.trail.entries) c.values-values.ensures.shows first (subst (λ l. Contains (lits_of s.trail.entries) (negated l)) is h));
     }
@@ -40,9 +40,9 @@ pub returns-then-is_free : goal.returns-then-is_free
 returns-then-is_free c =
     let s = c.args.search.now in let other = c.in-Some.other in
     let values = c.values-values.result.now in let shows = c.values-values.ensures.shows in
-    let at = subst (IsClauseAt c.args.cnf.now.vars (clauses_of c.args.cnf.now.clauses.items s.steps.items) c.args.number) (sym c.clause-clause.ensures) c.requires.copied.clause in
+    let at = subst (IsClauseAt c.args.cnf.now.vars (clauses_of c.args.cnf.now.clauses s.steps.items) c.args.number) (sym c.clause-clause.ensures) c.requires.copied.clause in
     let clause = c.clause-clause.result.now in
-    let among = among_leaves (clause_at (clauses_of c.args.cnf.now.clauses.items s.steps.items) c.args.number) c.args.denied c.args.watch other c.requires.watch c.in-Some.ensures in
+    let among = among_leaves (clause_at (clauses_of c.args.cnf.now.clauses s.steps.items) c.args.number) c.args.denied c.args.watch other c.requires.watch c.in-Some.ensures in
     record {
       leaves = c.in-Some.ensures;
       avoided = avoids_from_free values (lits_of s.trail.entries) other shows (c.is_free.ensures.0 c.if-is_free.true);
@@ -59,9 +59,9 @@ pub returns-else-is_free : goal.returns-else-is_free
 returns-else-is_free c =
     let s = c.args.search.now in let other = c.in-Some.other in
     let values = c.values-values.result.now in let shows = c.values-values.ensures.shows in
-    let at = subst (IsClauseAt c.args.cnf.now.vars (clauses_of c.args.cnf.now.clauses.items s.steps.items) c.args.number) (sym c.clause-clause.ensures) c.requires.copied.clause in
+    let at = subst (IsClauseAt c.args.cnf.now.vars (clauses_of c.args.cnf.now.clauses s.steps.items) c.args.number) (sym c.clause-clause.ensures) c.requires.copied.clause in
     let clause = c.clause-clause.result.now in
-    let among = among_leaves (clause_at (clauses_of c.args.cnf.now.clauses.items s.steps.items) c.args.number) c.args.denied c.args.watch other c.requires.watch c.in-Some.ensures in
+    let among = among_leaves (clause_at (clauses_of c.args.cnf.now.clauses s.steps.items) c.args.number) c.args.denied c.args.watch other c.requires.watch c.in-Some.ensures in
     record {
       known = at.known;
       all_false = λ m h. elim (cases_lit m other) [

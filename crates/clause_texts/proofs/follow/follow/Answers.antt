@@ -10,24 +10,24 @@ use Rattle.clause_texts.proofs.follow.follow.Goals as goal
 
 pub returns-in_default-clause-answer : goal.returns-in_default-clause-answer
 returns-in_default-clause-answer c =
-    follow_missing (clauses_of c.args.cnf.now.clauses.items c.args.steps.now) c.args.known.now.items c.args.hints.now c.loop-i.i c.loop-i.values c.loop-i.known.items c.loop-i.invariant.following c.loop-i-test.true
+    follow_missing (clauses_of c.args.cnf.now.clauses c.args.steps.now) c.args.known.now.items c.args.hints.now c.loop-i.i c.loop-i.values c.loop-i.known.items c.loop-i.invariant.following c.loop-i-test.true
     c.in_default.ensures
 
 pub returns-in-False-clause-answer : goal.returns-in-False-clause-answer
 returns-in-False-clause-answer c =
     let at = c.in-Some.ensures in
-    follow_false (clauses_of c.args.cnf.now.clauses.items c.args.steps.now) c.args.known.now.items c.args.hints.now c.loop-i.i c.loop-i.values c.loop-i.known.items c.loop-i.invariant.following c.loop-i-test.true at.known
+    follow_false (clauses_of c.args.cnf.now.clauses c.args.steps.now) c.args.known.now.items c.args.hints.now c.loop-i.i c.loop-i.values c.loop-i.known.items c.loop-i.invariant.following c.loop-i-test.true at.known
     (subst (λ k. Sees c.loop-i.values k False) at.is c.in-False.ensures)
 
 pub returns-in-Open-clause-answer : goal.returns-in-Open-clause-answer
 returns-in-Open-clause-answer c =
     let at = c.in-Some.ensures in
-    follow_open (clauses_of c.args.cnf.now.clauses.items c.args.steps.now) c.args.known.now.items c.args.hints.now c.loop-i.i c.loop-i.values c.loop-i.known.items c.loop-i.invariant.following c.loop-i-test.true
+    follow_open (clauses_of c.args.cnf.now.clauses c.args.steps.now) c.args.known.now.items c.args.hints.now c.loop-i.i c.loop-i.values c.loop-i.known.items c.loop-i.invariant.following c.loop-i-test.true
     (subst (λ k. IsOpen c.loop-i.values k) at.is c.in-Open.ensures)
 
 pub loop-i-preserved : goal.loop-i-preserved
 loop-i-preserved c =
-    let clauses = clauses_of c.args.cnf.now.clauses.items c.args.steps.now in
+    let clauses = clauses_of c.args.cnf.now.clauses c.args.steps.now in
     let at = c.in-Some.ensures in
     let lit = c.in-Unit.lit in
     let unit : IsUnit c.loop-i.values (clause_at clauses (get_or c.args.hints.now c.loop-i.i 0)) lit = subst (λ k. IsUnit c.loop-i.values k lit) at.is c.in-Unit.ensures in

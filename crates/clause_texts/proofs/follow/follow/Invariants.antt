@@ -5,6 +5,6 @@ use Rattle.clause_texts.proofs.follow.follow.Given as goal
 
 abbrev pub invariant-loop-i : goal.invariant-loop-i
 invariant-loop-i l = record {
-  following : Following (clauses_of l.cnf.clauses.items l.steps) l.fn.known.items l.hints l.i l.values l.known.items;
+  following : Following (clauses_of l.cnf.clauses l.steps) l.fn.known.items l.hints l.i l.values l.known.items;
   in_range : IsInRange l.cnf.vars l.known.items;
 }

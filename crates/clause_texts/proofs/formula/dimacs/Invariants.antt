@@ -3,5 +3,5 @@ use Rattle.std.specs.List.{flat_map}
 use Rattle.clause_texts.specs.Dimacs.{clause_line, head_line}
 use Rattle.clause_texts.proofs.formula.dimacs.Given as goal
 
-abbrev pub invariant-loop-clause : goal.invariant-loop-clause
-invariant-loop-clause l = l.out.items ≡ head_line l.cnf ++ flat_map clause_line (take l.clause-index l.cnf.clauses.items)
+abbrev pub invariant-loop-number : goal.invariant-loop-number
+invariant-loop-number l = l.out.items ≡ head_line l.cnf ++ flat_map clause_line (take l.number l.cnf.clauses)

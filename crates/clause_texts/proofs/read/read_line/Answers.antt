@@ -11,7 +11,7 @@ pub returns-else-addition-last_id-clause-step : goal.returns-else-addition-last_
 returns-else-addition-last_id-clause-step c =
     let a = c.in-Some-Addition.addition in
     let ids = c.args.past.now.ids.items in
-    let inputs = length c.args.cnf.now.clauses.items in
+    let inputs = length c.args.cnf.now.clauses in
     let says : content_of c.args.line.now ≡ Some (adds a.id a.lits.items a.hints.items) =
     sym c.in_ok-content_of.ensures ∙ (ap (option_map content) c.in-Some-Addition.is ∙ ap (λ (e : Entry). Some (content e)) c.in-Some-Addition.field-0-is) in
     let above : last_id inputs ids < a.id = omega (arith, c.last_id.ensures, ap (last_id inputs) c.as_slice.ensures.value, c.if-addition-last_id.false) in

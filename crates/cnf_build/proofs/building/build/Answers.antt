@@ -14,21 +14,21 @@ operand-requires c =
 pub invariant_of-result : goal.invariant_of-result
 invariant_of-result c =
     let nodes = c.args.ob.now.nodes in
-    let ec : c.add_clause.new.clauses.items ≡ ob_clauses nodes c.args.ob.now.root = search rules in
-    let ev : c.len-vars.result ≡ length (netlist nodes) = search rules in
-    record { in_range = cnf_in_range nodes c.args.ob.now.root c.len-vars.result c.add_clause.new.clauses.items ec ev }
+    let ec : c.add_clause.new.clauses ≡ ob_clauses nodes c.args.ob.now.root = search rules in
+    let ev : c.in_ok-vars.vars ≡ length (netlist nodes) = search rules in
+    record { in_range = cnf_in_range nodes c.args.ob.now.root c.in_ok-vars.vars c.add_clause.new.clauses ec ev }
 
 pub invariant_of-result-2 : goal.invariant_of-result-2
 invariant_of-result-2 c =
     let nodes = c.args.ob.now.nodes in
     let eb : c.in_ok-gates.field-0.bits.items ≡ ob_bits nodes = search rules in
-    let ev : c.len-vars.result ≡ length (netlist nodes) = search rules in
-    record { in_range = built_in_range nodes c.len-vars.result c.in_ok-gates.field-0.bits.items c.nodes.ensures.ob.fit eb ev }
+    let ev : c.in_ok-vars.vars ≡ length (netlist nodes) = search rules in
+    record { in_range = built_in_range nodes c.in_ok-vars.vars c.in_ok-gates.field-0.bits.items c.nodes.ensures.ob.fit eb ev }
 
 pub returns-clause-carries : goal.returns-clause-carries
 returns-clause-carries c =
     let nodes = c.args.ob.now.nodes in
-    let ec : c.add_clause.new.clauses.items ≡ ob_clauses nodes c.args.ob.now.root = search rules in
-    let ev : c.len-vars.result ≡ length (netlist nodes) = search rules in
+    let ec : c.add_clause.new.clauses ≡ ob_clauses nodes c.args.ob.now.root = search rules in
+    let ev : c.in_ok-vars.vars ≡ length (netlist nodes) = search rules in
     let eb : c.in_ok-gates.field-0.bits.items ≡ ob_bits nodes = search rules in
     carries nodes c.args.ob.now.root _ c.in_ok-gates.field-0.bits.items c.nodes.ensures.ob ec ev eb

@@ -7,7 +7,7 @@ use Rattle.elab_step.proofs.Texts.{text_is}
 use Rattle.elab_step.proofs.law.solved_designs_have_the_modules_runs.Goals as goal
 
 pub returns : goal.returns
-returns c f xs d can none order is =
+returns c f xss d can none order groups is =
     let text = text_is f can in
     has_runs f (DependsOn f) (width_in (flat_place f)) (solvable f text none c.bits_stay.ensures.block c.bits_are_apart.ensures.block c.bits_follow.ensures.assignment c.bits_follow.ensures.paths)
-    (are_clocked_blocks f text none c.bits_stay.ensures.block c.bits_are_apart.ensures.block c.bits_follow.ensures.assignment c.bits_follow.ensures.paths) xs order d is
+    (are_clocked_blocks f text none c.bits_stay.ensures.block c.bits_are_apart.ensures.block c.bits_follow.ensures.assignment c.bits_follow.ensures.paths) xss order groups d is

@@ -1,16 +1,20 @@
-use Rattle.std.proofs.Common.{arith, ◌≡◌, ◌≤◌, length, ap, ◌∙◌}
-use Rattle.std.proofs.lemmas.List.{take_all}
-use Rattle.elab_node.specs.Leaves.{with_node}
-use Rattle.elab_block.specs.Standing.{with_nodes}
-use Rattle.elab_step.specs.Boards.{node_at}
-use Rattle.elab_step.proofs.Boards.{node_get}
+use Rattle.std.proofs.Common.{arith, ◌≡◌, length, ap, ◌∙◌, sym, subst, List, ℕ}
+use Rattle.elab_block.specs.Saving.{saved_at, places_of, put_back, AreWithin}
+use Rattle.elab_block.proofs.Saving.{back_declared, places_saved}
+use Rattle.elab_step.proofs.Boards.{same_long}
 use Rattle.elab_step.proofs.nets.restore.Goals as goal
+
+pub put_back-requires-2 : goal.put_back-requires-2
+put_back-requires-2 c =
+    let ls = c.args.state.now in
+    let ms = c.put_back.new.leaves in
+    let is : c.deref.result.now ≡ saved_at ls c.args.nets.now = c.deref.ensures.value ∙ c.in_ok-kept.ensures in
+    let P : List ℕ → Type 0 = λ z. AreWithin ms z in
+    let n = ap length c.put_back.ensures ∙ same_long ls (put_back ls c.args.before.now) (back_declared ls c.args.before.now) in
+    subst P (sym (ap places_of is ∙ places_saved ls c.args.nets.now)) (λ k u l. let w = c.requires.nets k u l in omega (arith, w, n))
 
 pub returns : goal.returns
 returns c =
     let ls = c.args.state.now in
-    let is = c.args.nodes.now in
-    let n : c.leaf.result.now.node ≡ node_at ls c.args.kept = node_get ls c.args.kept c.leaf.result.now c.requires.kept c.leaf.ensures in
-    let l : length is ≤ c.loop-i.i = omega arith in
-    let e : c.loop-i.state ≡ with_nodes ls is = c.loop-i.invariant ∙ ap (λ z. with_nodes ls z) (take_all c.loop-i.i is l) in
-    c.set_node-2.ensures ∙ (λ r. with_node (e r) c.args.kept (n r))
+    let is : c.deref.result.now ≡ saved_at ls c.args.nets.now = c.deref.ensures.value ∙ c.in_ok-kept.ensures in
+    c.put_back-2.ensures ∙ (λ r. put_back (c.put_back.ensures r) (is r))

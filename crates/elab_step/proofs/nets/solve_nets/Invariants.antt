@@ -1,7 +1,7 @@
 use Rattle.std.proofs.Common.{drop}
-use Rattle.elab_step.specs.Boards.{names_of}
+use Rattle.elab_step.specs.Boards.{groups_of}
 use Rattle.elab_step.proofs.Boards.{Solving}
 use Rattle.elab_step.proofs.nets.solve_nets.Given as goal
 
-abbrev pub invariant-loop-net : goal.invariant-loop-net
-invariant-loop-net l = Solving l.flat (names_of l.flat.signals l.order) (names_of l.flat.signals (drop l.net-index l.order)) l.fn.state l.fn.dag l.state l.dag
+abbrev pub invariant-loop-nets : goal.invariant-loop-nets
+invariant-loop-nets l = Solving l.flat (groups_of l.flat.signals l.groups) (groups_of l.flat.signals (drop l.nets-index l.groups)) l.fn.state l.fn.dag l.state l.dag

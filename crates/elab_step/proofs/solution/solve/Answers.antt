@@ -2,7 +2,7 @@ use Rattle.std.proofs.Common.{List, [], subst}
 use Rattle.vlog_runs.specs.declared.flat.Signal.{Signal}
 use Rattle.word_dag.specs.declared.node.Node.{Node}
 use Rattle.elab_node.specs.Nodes.{AddsFrees}
-use Rattle.elab_step.specs.Boards.{names_of, IsBoard, AreBegun, IsFreeOf}
+use Rattle.elab_step.specs.Boards.{groups_of, IsBoard, AreBegun, IsFreeOf}
 use Rattle.elab_step.proofs.Solutions.{solution}
 use Rattle.elab_step.proofs.solution.solve.Goals as goal
 
@@ -16,6 +16,6 @@ returns c =
     let S : List Node → Type 0 = λ z. AddsFrees (IsFreeOf c.as_slice.result.now c.args.nets.now) z a in
     let frees = subst R c.as_slice.ensures (subst S c.new-dag.ensures c.in_ok-begun.ensures.frees) in
     let Q : List Signal → Type 0 = λ z. AreBegun a z c.args.nets.now first in
-    solution f (names_of f.signals c.args.order.now) c.args.nets.now a c.solve_nets.new.dag c.run_clocked.new.dag first c.in_ok-now.now c.solve_nets.new.state c.run_clocked.new.next
+    solution f (groups_of f.signals c.args.groups.now) c.args.nets.now a c.solve_nets.new.dag c.run_clocked.new.dag first c.in_ok-now.now c.solve_nets.new.state c.run_clocked.new.next
     (subst P c.as_slice.ensures c.in_ok-begun.ensures.board) (subst Q c.as_slice.ensures c.in_ok-begun.ensures.begun) frees c.in_ok-now.ensures c.in_ok-solve_nets.ensures.keeps c.in_ok-solve_nets.ensures.board
     c.in_ok-solve_nets.ensures.shows c.in_ok-run_clocked.ensures.keeps c.in_ok-run_clocked.ensures.set c.in_ok-run_clocked.ensures.shows

@@ -5,7 +5,8 @@ use Rattle.vlog_runs.specs.declared.flat.Signal.{Signal}
 use Rattle.vlog_runs.specs.Places.{Name}
 use Rattle.vlog_runs.specs.Contents.{is_among}
 use Rattle.word_design.specs.Designs.{Parts}
-use Rattle.elab_step.specs.Boards.{names_of}
+use Rattle.elab_step.specs.Boards.{groups_of}
+use Rattle.elab_step.specs.Solving.{joined}
 use Rattle.elab_step.proofs.Boards.{leaves_long, same_leaves}
 use Rattle.elaborate.specs.Parts.{input_of, output_of}
 use Rattle.elaborate.specs.Sources.{clocked_names, flags_among}
@@ -34,12 +35,12 @@ inputs_of-requires c =
 pub nets_of-requires-clause-begun : goal.nets_of-requires-clause-begun
 nets_of-requires-clause-begun c =
     let gs = c.args.flat.now.signals in
-    leaves_long gs c.args.solution.begun c.requires.solution.first_board.leaves ∙ sym (flags_long c.args.nets.now (names_of gs c.args.order.now) gs c.requires.nets)
+    leaves_long gs c.args.solution.begun c.requires.solution.first_board.leaves ∙ sym (flags_long c.args.nets.now (joined (groups_of gs c.args.groups.now)) gs c.requires.nets)
 
 pub nets_of-requires-clause-solved : goal.nets_of-requires-clause-solved
 nets_of-requires-clause-solved c =
     let gs = c.args.flat.now.signals in
-    leaves_long gs c.args.solution.now c.requires.solution.board.leaves ∙ sym (flags_long c.args.nets.now (names_of gs c.args.order.now) gs c.requires.nets)
+    leaves_long gs c.args.solution.now c.requires.solution.board.leaves ∙ sym (flags_long c.args.nets.now (joined (groups_of gs c.args.groups.now)) gs c.requires.nets)
 
 pub new-requires : goal.new-requires
 new-requires c =
@@ -49,7 +50,7 @@ new-requires c =
     let first = c.args.solution.begun in
     let d : Parts = record { nodes = c.args.solution.dag; registers = c.in_ok-all_registers.all_registers.items; inputs = c.in_ok-all_inputs.all_inputs.items; nets = c.in_ok-all_nets.all_nets.items; outputs = c.in_ok-outputs.outputs.items; clock = c.in_ok-clock.clock; asyncs = c.in_ok-asyncs.asyncs.items } in
     let e : d ≡ d = refl in
-    (design_made f (names_of f.signals c.args.order.now) c.args.solution.dag c.args.nets.now c.args.registers.now first c.args.solution.now c.args.solution.next r.can r.order r.solution r.nets r.registers n.fit n.distinct r.apart
+    (design_made f (groups_of f.signals c.args.groups.now) c.args.solution.dag c.args.nets.now c.args.registers.now first c.args.solution.now c.args.solution.next r.can r.order r.solution r.nets r.registers n.fit n.distinct r.apart
     d (ap (λ (z : Parts). z.nodes) e) (ap (λ (z : Parts). z.registers) e ∙ c.in_ok-all_registers.ensures)
     (ap (λ (z : Parts). z.inputs) e ∙ c.in_ok-all_inputs.ensures ∙ (λ i. flat_map (input_of (r.names i) first) (c.as_slice.ensures i)))
     (ap (λ (z : Parts). z.nets) e ∙ c.in_ok-all_nets.ensures) (ap (λ (z : Parts). z.outputs) e ∙ c.in_ok-outputs.ensures ∙ ap (flat_map output_of) c.as_slice-2.ensures)
@@ -63,7 +64,7 @@ returns-clause-solved c =
     let first = c.args.solution.begun in
     let d : Parts = c.new.result in
     let e = c.new.ensures in
-    (design_made f (names_of f.signals c.args.order.now) c.args.solution.dag c.args.nets.now c.args.registers.now first c.args.solution.now c.args.solution.next r.can r.order r.solution r.nets r.registers n.fit n.distinct r.apart
+    (design_made f (groups_of f.signals c.args.groups.now) c.args.solution.dag c.args.nets.now c.args.registers.now first c.args.solution.now c.args.solution.next r.can r.order r.solution r.nets r.registers n.fit n.distinct r.apart
     d (ap (λ (z : Parts). z.nodes) e) (ap (λ (z : Parts). z.registers) e ∙ c.in_ok-all_registers.ensures)
     (ap (λ (z : Parts). z.inputs) e ∙ c.in_ok-all_inputs.ensures ∙ (λ i. flat_map (input_of (r.names i) first) (c.as_slice.ensures i)))
     (ap (λ (z : Parts). z.nets) e ∙ c.in_ok-all_nets.ensures) (ap (λ (z : Parts). z.outputs) e ∙ c.in_ok-outputs.ensures ∙ ap (flat_map output_of) c.as_slice-2.ensures)
@@ -77,7 +78,7 @@ returns-clause-signals c =
     let first = c.args.solution.begun in
     let d : Parts = c.new.result in
     let e = c.new.ensures in
-    (design_made f (names_of f.signals c.args.order.now) c.args.solution.dag c.args.nets.now c.args.registers.now first c.args.solution.now c.args.solution.next r.can r.order r.solution r.nets r.registers n.fit n.distinct r.apart
+    (design_made f (groups_of f.signals c.args.groups.now) c.args.solution.dag c.args.nets.now c.args.registers.now first c.args.solution.now c.args.solution.next r.can r.order r.solution r.nets r.registers n.fit n.distinct r.apart
     d (ap (λ (z : Parts). z.nodes) e) (ap (λ (z : Parts). z.registers) e ∙ c.in_ok-all_registers.ensures)
     (ap (λ (z : Parts). z.inputs) e ∙ c.in_ok-all_inputs.ensures ∙ (λ i. flat_map (input_of (r.names i) first) (c.as_slice.ensures i)))
     (ap (λ (z : Parts). z.nets) e ∙ c.in_ok-all_nets.ensures) (ap (λ (z : Parts). z.outputs) e ∙ c.in_ok-outputs.ensures ∙ ap (flat_map output_of) c.as_slice-2.ensures)

@@ -4,10 +4,10 @@ use Rattle.job_pool.proofs.work.add_job.Goals as goal
 
 pub returns : goal.returns
 returns g c =
-    let at = slice_get_read c.args.obs.now _ c.args.number c.index-obs-number.result (search rules) c.requires.number c.index-obs-number.is in
+    let at = slice_get_read c.args.shift.now.elements.now _ c.args.number c.index-shift-number.result (search rules) c.requires.number c.index-shift-number.is in
     record {
-      done = record { number = c.args.number; evidence = c.in_ok-evidence.evidence };
+      done = record { number = c.args.number; end = c.in_ok-end.end };
       its = search rules;
-      evidence = rw at c.in_ok-evidence.ensures;
+      goes = rw at (search rules);
       after_is = c.in_ok-push.ensures.items;
     }

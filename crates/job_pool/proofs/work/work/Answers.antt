@@ -6,4 +6,4 @@ pub jobs-preserved : goal.jobs-preserved
 jobs-preserved g c =
     let w = c.jobs.invariant in
     let d = c.draw-number.ensures in
-    works_on _ _ _ _ _ _ _ _ w d.seat d.many (omega (arith, w.few, w.whole, c.requires.ready.enough)) c.if-number-obs.false c.in_default.ensures
+    works_on _ _ _ _ _ _ _ _ w d.seat d.many (omega (arith, w.few, w.whole, c.requires.ready.enough)) c.if-number-shift.false c.in_default.ensures

@@ -1,4 +1,5 @@
 use Rattle.std.proofs.Common.{◌≡◌, ◌<◌, ℕ, false, refl, subst, sym, ap, arith}
+use Rattle.std.proofs.lemmas.Result.{IfOk-weaker}
 use Rattle.set_tree.specs.declared.set.Property.{Property}
 use Rattle.set_tree.specs.Parts.{property_at}
 use Rattle.line_judge.specs.Judging.{IsSized}
@@ -30,5 +31,6 @@ is_split-requires-clause-size c =
 
 pub returns : goal.returns
 returns c =
+    IfOk-weaker c.is_split.result _ _ (λ i made.
     let end = last_listed c.args.set.now c.property_at-property.result.now c.args.at c.args.n c.last_row-end.result c.as_slice.result.now c.property_at-property.ensures.same c.as_slice.ensures c.last_row-end.ensures.last in
-    answered _ _ _ c.in_ok-split.ensures (split_exact c.args.set.now c.args.at c.args.n c.args.rows.now (subst (λ (k : ℕ). IsSized c.args.set.now k c.args.rows.now) end (c.if-not-is_sized.ensures.0 refl)))
+    answered _ _ _ made (split_exact c.args.set.now c.args.at c.args.n c.args.rows.now (subst (λ (k : ℕ). IsSized c.args.set.now k c.args.rows.now) end (c.if-not-is_sized.ensures.0 refl)))) c.is_split.ensures

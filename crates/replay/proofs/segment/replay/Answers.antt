@@ -4,6 +4,7 @@ use Rattle.replay.specs.Segments.{ShowsNamed, last_cycle, resets_of}
 use Rattle.set_tree.specs.Formulas.{meaning_of}
 use Rattle.word_design.specs.Designs.{IsDesign}
 use Rattle.word_names.specs.Names.{naming_from}
+use Rattle.unroll.specs.Named.{line_of}
 use Rattle.replay.proofs.Showing.{shows_segment, values_violate}
 use Rattle.replay.proofs.segment.replay.Goals as goal
 
@@ -11,7 +12,7 @@ pub returns : goal.returns
 returns c =
     let b = c.args.bound.now in
     let design = subst IsDesign c.design-design.ensures.value c.dag-fit.ensures.design in
-    let line = c.args.line in
+    let line = line_of c.args.line in
     let e = naming_from c.args.ob.now.nodes c.args.values.now in
     let shown = c.in_ok-shown.shown in
     let violates = values_violate b.design (meaning_of b.set) b.set line c.args.ob.now.nodes c.args.ob.now.root c.args.values.now c.requires.of_line c.requires.words c.requires.root in

@@ -1,23 +1,15 @@
-use Rattle.std.proofs.Common.{◌<◌, ◌+◌, ◌^◌, ◌++◌, get_or, drop, ap, ◌∙◌, arith}
+use Rattle.std.proofs.Common.{◌+◌, ◌++◌, get_or, drop, ap, ◌∙◌, arith}
 use Rattle.std.specs.List.{flat_map}
 use Rattle.std.proofs.lemmas.List.{drop_more}
-use Rattle.std.proofs.lemmas.List.Elements.{All-rest}
 use Rattle.step_records.specs.Varint.{varint}
 use Rattle.step_records.specs.Layout.{distances}
 use Rattle.step_records.proofs.DistanceLemmas.{written_more}
 use Rattle.step_records.proofs.hints.push_distances.Goals as goal
-
-pub distance-requires-clause-hint : goal.distance-requires-clause-hint
-distance-requires-clause-hint c =
-    All-rest (λ h. h < 2 ^ 62) c.in-Some.first.now c.in-Some.later.now c.args.hints.now c.in-Some.ensures.cases.0 c.requires c.loop-hint.hint-index 0 (omega arith)
 
 pub loop-hint-preserved : goal.loop-hint-preserved
 loop-hint-preserved c =
     let later = c.in-Some.later.now in
     let i = c.loop-hint.hint-index in
     let hint = get_or later i 0 in
-    record {
-      below = All-rest (λ h. h < 2 ^ 62) c.in-Some.first.now later c.args.hints.now c.in-Some.ensures.cases.0 c.requires i 0 (omega arith);
-      written = written_more c.loop-hint.out.items c.push_varint-in-loop-hint.new.out.items (c.args.out.now.items ++ flat_map varint (distances c.args.hints.now)) c.loop-hint.before hint (drop i later) (drop (i + 1) later)
-          (drop_more later i 0 (omega arith)) (c.in_ok-push_varint-2.ensures ∙ ap (λ n. c.loop-hint.out.items ++ varint n) c.distance.ensures) c.loop-hint.invariant.written;
-    }
+    written_more c.loop-hint.out.items c.push_varint-in-loop-hint.new.out.items (c.args.out.now.items ++ flat_map varint (distances c.args.hints.now)) c.loop-hint.before hint (drop i later) (drop (i + 1) later)
+    (drop_more later i 0 (omega arith)) (c.in_ok-push_varint-2.ensures ∙ ap (λ n. c.loop-hint.out.items ++ varint n) c.distance.ensures) c.loop-hint.invariant

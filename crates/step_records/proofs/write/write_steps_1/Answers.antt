@@ -7,4 +7,4 @@ pub returns-clause-is_record : goal.returns-clause-is_record
 returns-clause-is_record c =
     let steps = c.args.steps.now in
     ok_both c.write_version.result (λ bytes. bytes.items ≡ version_1 steps) (HasClauses steps) (λ bytes. IsRecord bytes.items steps) (λ bytes is distinct. (distinct, inl (c.requires, is)))
-    c.write_version.ensures.bytes c.write_version.ensures.distinct
+    c.write_version.ensures.bytes c.write_version.ensures.clauses

@@ -1,11 +1,10 @@
-use Rattle.std.proofs.Common.{◌≡◌, ◌<◌, ◌+◌, ◌∷◌, ◌++◌, [], length, take, ap, sym, ◌∙◌, arith}
+use Rattle.std.proofs.Common.{◌≡◌, ◌<◌, ◌+◌, ◌∷◌, ◌++◌, [], length, take, ap, subst, sym, ◌∙◌, arith}
 use Rattle.std.specs.List.{flat_map}
-use Rattle.std.proofs.lemmas.List.{map_more, flat_map_more}
+use Rattle.std.proofs.lemmas.List.{map_more, flat_map_more, take_all}
 use Rattle.std.proofs.lemmas.List.Elements.{All-more, at_read}
 use Rattle.clause_check.specs.declared.formula.Step.{Step}
-use Rattle.clause_check.specs.Clauses.{IsClause}
 use Rattle.step_records.specs.Layout.{mark, count_bytes, step_bytes}
-use Rattle.step_records.specs.Records.{content, contents}
+use Rattle.step_records.specs.Records.{content, contents, HasClause, HasClauses}
 use Rattle.step_records.proofs.write.write_version.Goals as goal
 
 pub loop-step-preserved : goal.loop-step-preserved
@@ -21,6 +20,9 @@ loop-step-preserved c =
     record {
       written = c.in_ok-push_step.ensures.bytes ∙ (ap (λ out. out ++ step_bytes version (content step)) c.loop-step.invariant.written
           ∙ (flat_map_more (step_bytes version) base (contents (take i steps)) (content step) ∙ ap (λ cs. base ++ flat_map (step_bytes version) cs) (sym more)));
-      distinct = All-more (λ (s : Step). IsClause s.clause) steps i step inside c.loop-step.invariant.distinct
-          (at_read steps (λ (s : Step). IsClause s.clause) i step inside c.step-item.is c.in_ok-push_step.ensures.distinct step);
+      clauses = All-more HasClause steps i step inside c.loop-step.invariant.clauses
+          (at_read steps HasClause i step inside c.step-item.is c.in_ok-push_step.ensures.clause step);
     }
+
+pub returns-clause-clauses : goal.returns-clause-clauses
+returns-clause-clauses c = subst HasClauses (take_all c.loop-step.step-index c.args.steps.now (omega arith)) c.loop-step.invariant.clauses

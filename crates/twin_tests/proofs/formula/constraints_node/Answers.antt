@@ -1,4 +1,4 @@
-use Rattle.std.proofs.Common.{◌≡◌, ◌+◌, ◌-◌, ◌<◌, ◌≤◌, List, length, take, drop, get_or, refl, ap, ◌∙◌, arith}
+use Rattle.std.proofs.Common.{◌+◌, ◌-◌, ◌<◌, ◌≤◌, List, length, take, drop, get_or, refl, ap, ◌∙◌, arith}
 use Rattle.std.specs.List.{list_all}
 use Rattle.line_laws.specs.Tests.{all_below}
 use Rattle.set_tree.specs.declared.set.Rule.{Rule}
@@ -6,7 +6,7 @@ use Rattle.set_tree.specs.Formulas.{largest_offset, meaning_of}
 use Rattle.set_tree.specs.Meaning.{Row, holds}
 use Rattle.set_sound.specs.Condition.{IsFormula}
 use Rattle.twin_tests.specs.Building.{Shows}
-use Rattle.twin_tests.proofs.Loops.{and_step, builds_start, builds_end, all_more, all_taken, member_is, same_test, shown_fit}
+use Rattle.twin_tests.proofs.Loops.{and_step, builds_start, builds_end, all_more, all_taken, member_is}
 use Rattle.twin_tests.proofs.Readings.{constraints_formed, rule_readable}
 use Rattle.twin_tests.proofs.Standing.{has_later, leaves_later, shows_later}
 use Rattle.twin_tests.proofs.formula.constraints_node.Goals as goal
@@ -40,15 +40,11 @@ loop-rule-preserved c =
     let names = c.args.set.now.names in
     let rows = c.args.rows.now in
     let start = c.args.dag.now in
-    let count = c.saturating_sub-count.result in
-    let fits : count ≡ length rows - largest_offset x.formula = omega (arith, c.saturating_sub-count.ensures, c.largest.ensures) in
     let p = λ (r : List Row) (rule : Rule). all_below (length r - largest_offset rule.formula) (λ t. holds m rule.formula (drop t r)) in
     let lt : i < length rules = omega arith in
     and_step (λ f. Shows names start rows f) start c.loop-rule.dag c.throughout_node.new.dag c.both.new.dag c.loop-rule.all c.in_ok-one.one c.in_ok-all-2.all
     (λ r. list_all (p r) (take i rules)) (λ r. p r x) (λ r. list_all (p r) (take (i + 1) rules)) (λ r. all_more (p r) rules i x c.rule-item.is lt) c.loop-rule.invariant c.in_ok-one.ensures.keeps c.in_ok-all-2.ensures.keeps c.in_ok-all-2.ensures.width
-    (λ f shows.
-    same_test c.throughout_node.new.dag c.in_ok-one.one (λ e. all_below count (λ t. holds m x.formula (drop t (f e)))) (λ e. p (f e) x) (λ e. ap (λ j. all_below j (λ t. holds m x.formula (drop t (f e)))) (shown_fit names start rows f count (largest_offset x.formula) e shows fits))
-    (c.in_ok-one.ensures.node f (shows_later start c.loop-rule.dag names rows f c.loop-rule.invariant.keeps shows))) c.in_ok-all-2.ensures.node
+    (λ f shows. c.in_ok-one.ensures.node f (shows_later start c.loop-rule.dag names rows f c.loop-rule.invariant.keeps shows)) c.in_ok-all-2.ensures.node
 
 pub returns-clause-node : goal.returns-clause-node
 returns-clause-node c =

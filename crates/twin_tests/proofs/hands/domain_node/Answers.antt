@@ -1,4 +1,5 @@
 use Rattle.std.proofs.Common.{true, get_or, length}
+use Rattle.std.proofs.lemmas.Result.{IfOk-weaker}
 use Rattle.set_tree.specs.Formulas.{meaning_of}
 use Rattle.set_tree.specs.Meaning.{holds}
 use Rattle.set_tree.specs.Parts.{in_domain}
@@ -14,20 +15,22 @@ test_node-requires-clause-readable c =
     let at = name_at c.as_slice-names.result.now set.names c.args.output c.index-names-output.result c.as_slice-names.ensures c.requires.output in
     readable_more set 1 (length c.args.rows.now) c.in-Some.formula c.requires.some (domain_readable set c.args.output x c.in-Some.formula c.requires.structure at c.in-Some.is)
 
-pub returns-in_ok-node-in-None-clause-node : goal.returns-in_ok-node-in-None-clause-node
-returns-in_ok-node-in-None-clause-node c = λ f shows.
+pub returns-in-None-clause-node : goal.returns-in-None-clause-node
+returns-in-None-clause-node c =
+    IfOk-weaker c.constant.result _ _ (λ i made f shows.
     let set = c.args.set.now in
     let m = meaning_of set in
     let o = c.args.output in
     let x = get_or c.as_slice-names.result.now c.args.output c.index-names-output.result in
     let at = name_at c.as_slice-names.result.now set.names c.args.output c.index-names-output.result c.as_slice-names.ensures c.requires.output in
-    same_test c.constant.new.dag c.in_ok-node-in-None.node (λ e. true) (λ e. in_domain m set o (f e)) (λ e. in_none m set o x (f e) at c.in-None.is) c.in_ok-node-in-None.ensures.node
+    same_test c.constant.new.dag i (λ e. true) (λ e. in_domain m set o (f e)) (λ e. in_none m set o x (f e) at c.in-None.is) made) c.constant.ensures.node
 
-pub returns-in_ok-node-in-Some-clause-node : goal.returns-in_ok-node-in-Some-clause-node
-returns-in_ok-node-in-Some-clause-node c = λ f shows.
+pub returns-in-Some-clause-node : goal.returns-in-Some-clause-node
+returns-in-Some-clause-node c =
+    IfOk-weaker c.test_node.result _ _ (λ i made f shows.
     let set = c.args.set.now in
     let m = meaning_of set in
     let o = c.args.output in
     let x = get_or c.as_slice-names.result.now c.args.output c.index-names-output.result in
     let at = name_at c.as_slice-names.result.now set.names c.args.output c.index-names-output.result c.as_slice-names.ensures c.requires.output in
-    same_test c.test_node.new.dag c.in_ok-node-in-Some.node (λ e. holds m c.in-Some.formula (f e)) (λ e. in_domain m set o (f e)) (λ e. in_some m set o x c.in-Some.formula (f e) at c.in-Some.is) (c.in_ok-node-in-Some.ensures.node f shows)
+    same_test c.test_node.new.dag i (λ e. holds m c.in-Some.formula (f e)) (λ e. in_domain m set o (f e)) (λ e. in_some m set o x c.in-Some.formula (f e) at c.in-Some.is) (made f shows)) c.test_node.ensures.node

@@ -1,13 +1,18 @@
-use Rattle.std.proofs.Common.{◌≡◌, ◌<◌, ◌∙◌, List, ap, length, refl, sym, subst, take}
+use Rattle.std.proofs.Common.{◌≡◌, ◌<◌, ◌∙◌, List, ap, length, map, refl, sym, subst, take}
+use Rattle.std.proofs.lemmas.Result.{IfOk-weaker}
 use Rattle.set_tree.specs.declared.line.Line.{Line}
+use Rattle.set_tree.specs.declared.line.Line.TheVariants.{Reset}
 use Rattle.set_tree.specs.declared.set.Set.{Set}
 use Rattle.set_tree.specs.Report.{set_lines}
 use Rattle.word_names.proofs.Taken.{widths_are_kept}
 use Rattle.twin_tests.specs.Framing.{SpeaksOf}
-use Rattle.twin_tests.specs.Named.{set_line}
+use Rattle.twin_tests.specs.declared.set_line.SetLine.{SetLine}
+use Rattle.twin_tests.specs.Named.{IsNamedOf, set_line}
+use Rattle.twin_tests.specs.Ordering.{line_of}
 use Rattle.twin_tests.specs.Reading.{HasStructure}
 use Rattle.twin_tests.proofs.Framed.{frames_later}
-use Rattle.twin_tests.proofs.Spoken.{first_speak, line_is, line_speaks}
+use Rattle.twin_tests.proofs.Listed.{counted, first_are, line_is}
+use Rattle.twin_tests.proofs.Spoken.{line_speaks, lines_speak}
 use Rattle.twin_tests.proofs.Widths.{window_widths}
 use Rattle.twin_tests.proofs.obs.twin_ob.Goals as goal
 
@@ -16,7 +21,7 @@ add_lines-requires-clause-lines c =
     let set = c.set-set.result.now in
     let structure : HasStructure set = subst (λ (z : Set). HasStructure z) (sym c.set-set.ensures.value) (record { sound = c.set-set.ensures.sound; formed = c.set-set.ensures.formed }) in
     let all = c.deref.result.now in
-    first_speak set all (take c.args.number all) c.args.number structure (c.deref.ensures.value ∙ c.in_ok-lines.ensures) refl
+    first_are line_of (SpeaksOf set) all (take c.args.number all) (set_lines set) c.args.number (ap (λ (ls : List SetLine). map line_of ls) c.deref.ensures.value ∙ c.in_ok-lines.ensures) refl (lines_speak set structure)
 
 pub named_ob-requires-clause-line : goal.named_ob-requires-clause-line
 named_ob-requires-clause-line c =
@@ -24,8 +29,8 @@ named_ob-requires-clause-line c =
     let structure : HasStructure set = subst (λ (z : Set). HasStructure z) (sym c.set-set.ensures.value) (record { sound = c.set-set.ensures.sound; formed = c.set-set.ensures.formed }) in
     let number = c.args.number in
     let lt : number < length (set_lines set) = subst (λ (z : Set). number < length (set_lines z)) (sym c.set-set.ensures.value) c.requires in
-    let within : number < length c.in_ok-lines.lines.items = subst (λ (ls : List Line). number < length ls) (sym c.in_ok-lines.ensures) lt in
-    let is : c.index.result.now ≡ set_line set number = line_is set c.in_ok-lines.lines.items number c.index.result.now c.in_ok-lines.ensures within c.index.ensures in
+    let items = c.in_ok-lines.lines.items in
+    let is : line_of c.index.result.now ≡ set_line set number = line_is line_of items (set_lines set) number c.index.result.now Reset c.in_ok-lines.ensures (counted line_of items (set_lines set) number c.in_ok-lines.ensures lt) c.index.ensures in
     subst (λ (l : Line). SpeaksOf set l) (sym is) (line_speaks set number structure lt)
 
 pub named_ob-requires-clause-frames : goal.named_ob-requires-clause-frames
@@ -36,3 +41,12 @@ named_ob-requires-clause-words c =
     let set = c.set-set.result.now in
     let structure : HasStructure set = subst (λ (z : Set). HasStructure z) (sym c.set-set.ensures.value) (record { sound = c.set-set.ensures.sound; formed = c.set-set.ensures.formed }) in
     widths_are_kept c.frames_of.new.dag c.add_lines.new.dag c.in_ok-add_lines.ensures (window_widths set.names structure.formed.distinct_names _ c.frames_of.new.dag c.new-dag.ensures c.in_ok-frames.ensures.frees)
+
+pub returns : goal.returns
+returns c =
+    let set = c.args.sound.now in
+    let number = c.args.number in
+    let items = c.in_ok-lines.lines.items in
+    let listed : map line_of items ≡ set_lines set = c.in_ok-lines.ensures ∙ ap (λ (z : Set). set_lines z) c.set-set.ensures.value in
+    let is : line_of c.index.result.now ≡ set_line set number = line_is line_of items (set_lines set) number c.index.result.now Reset listed (counted line_of items (set_lines set) number listed c.requires) c.index.ensures in
+    IfOk-weaker c.named_ob.result _ _ (λ named h. subst (λ (l : Line). IsNamedOf set l named) is (subst (λ (z : Set). IsNamedOf z (line_of c.index.result.now) named) c.set-set.ensures.value h)) c.named_ob.ensures.named

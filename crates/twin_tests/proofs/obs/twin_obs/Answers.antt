@@ -1,13 +1,18 @@
-use Rattle.std.proofs.Common.{◌≡◌, ◌<◌, List, get_or, length, refl, sym, ◌∙◌, subst, arith}
-use Rattle.std.specs.List.{All}
+use Rattle.std.proofs.Common.{◌≡◌, ◌<◌, ◌≤◌, List, get_or, length, map, refl, sym, ap, ◌∙◌, subst, arith}
+use Rattle.std.specs.List.{AllZip}
+use Rattle.std.proofs.Math.ListN.{get_or-map}
+use Rattle.std.proofs.lemmas.List.{length-map, take_all}
 use Rattle.set_tree.specs.declared.line.Line.{Line}
-use Rattle.set_tree.specs.declared.line.Line.TheVariants.{Base}
 use Rattle.set_tree.specs.declared.set.Set.{Set}
 use Rattle.set_tree.specs.Report.{set_lines}
+use Rattle.twin_tests.specs.declared.set_line.SetLine.{SetLine}
+use Rattle.twin_tests.specs.declared.set_line.SetLine.TheVariants.{End}
 use Rattle.twin_tests.specs.Framing.{SpeaksOf}
 use Rattle.twin_tests.specs.Named.{IsNamedOf}
+use Rattle.twin_tests.specs.Ordering.{line_of}
 use Rattle.twin_tests.specs.Reading.{HasStructure}
 use Rattle.twin_tests.proofs.Handing.{get_again}
+use Rattle.twin_tests.proofs.Listed.{each_is}
 use Rattle.twin_tests.proofs.Spoken.{lines_speak, obs_begin, obs_step}
 use Rattle.twin_tests.proofs.obs.twin_obs.Goals as goal
 
@@ -17,9 +22,8 @@ named_ob-requires-clause-line c =
     let items = c.deref-line-items.result.now in
     let structure : HasStructure set = subst (λ (z : Set). HasStructure z) (sym c.set-set.ensures.value) (record { sound = c.set-set.ensures.sound; formed = c.set-set.ensures.formed }) in
     let lt : c.loop-line.line-index < length items = omega arith in
-    let listed : items ≡ set_lines set = c.deref-line-items.ensures.value ∙ c.in_ok-lines.ensures in
-    let all : All (SpeaksOf set) items = subst (λ (ls : List Line). All (SpeaksOf set) ls) (sym listed) (lines_speak set structure) in
-    all c.loop-line.line-index (Base 0) lt
+    let listed : map line_of items ≡ set_lines set = ap (λ (ls : List SetLine). map line_of ls) c.deref-line-items.ensures.value ∙ c.in_ok-lines.ensures in
+    each_is line_of (SpeaksOf set) items (set_lines set) listed (lines_speak set structure) c.loop-line.line-index (End 0) lt
 
 pub loop-line-init : goal.loop-line-init
 loop-line-init c =
@@ -32,6 +36,17 @@ loop-line-preserved c =
     let items = c.deref-line-items.result.now in
     let i = c.loop-line.line-index in
     let lt : i < length items = omega arith in
-    let line = get_or items i (Base 0) in
-    let here = subst (λ (z : Set). IsNamedOf z line c.in_ok-named.named) c.set-set.ensures.value c.in_ok-named.ensures.named in
-    obs_step c.args.sound.now c.loop-line.dag c.named_ob.new.dag c.in_ok-frames.frames items c.loop-line.obs.items c.push.new.self.items i line c.in_ok-named.named c.in_ok-named.ensures.keeps lt (get_again items i (Base 0) lt) c.in_ok-push.ensures.items here c.loop-line.invariant
+    let line = get_or items i (End 0) in
+    let long = length-map items line_of in
+    let lt' : i < length (map line_of items) = omega (arith, long, lt) in
+    let at : line_of line ≡ get_or (map line_of items) i (line_of line) = ap line_of (get_again items i (End 0) lt) ∙ sym (get_or-map line_of items i line) in
+    let here = subst (λ (z : Set). IsNamedOf z (line_of line) c.in_ok-named.named) c.set-set.ensures.value c.in_ok-named.ensures.named in
+    obs_step c.args.sound.now c.loop-line.dag c.named_ob.new.dag c.in_ok-frames.frames (map line_of items) c.loop-line.obs.items c.push.new.self.items i (line_of line) c.in_ok-named.named c.in_ok-named.ensures.keeps lt' at c.in_ok-push.ensures.items here c.loop-line.invariant
+
+pub returns : goal.returns
+returns c =
+    let items = c.deref-line-items.result.now in
+    let long = length-map items line_of in
+    let le : length (map line_of items) ≤ c.loop-line.line-index = omega (arith, long) in
+    let listed : map line_of items ≡ set_lines c.args.sound.now = ap (λ (ls : List SetLine). map line_of ls) c.deref-line-items.ensures.value ∙ (c.in_ok-lines.ensures ∙ ap (λ (z : Set). set_lines z) c.set-set.ensures.value) in
+    subst (λ (ls : List Line). AllZip (IsNamedOf c.args.sound.now) ls c.loop-line.obs.items) (take_all c.loop-line.line-index (map line_of items) le ∙ listed) c.loop-line.invariant.each

@@ -1,4 +1,5 @@
 use Rattle.std.proofs.Common.{◌≡◌, ℕ, List, subst, arith}
+use Rattle.std.proofs.lemmas.Result.{IfOk-weaker}
 use Rattle.word_design.specs.Designs.{source}
 use Rattle.segment_laws.specs.Segments.{cycle_number}
 use Rattle.segment_laws.proofs.Holding.{register_source}
@@ -28,9 +29,10 @@ free_node-requires-clause-most c =
 
 pub returns-clause-word : goal.returns-clause-word
 returns-clause-word c =
+    IfOk-weaker c.free_node.result _ _ (λ i made.
     let b = c.args.bound.now in
     let r = c.args.register.now in
     let m = c.args.moment in
     let start : m.position ≡ 0 = let not = c.if-moment-gt0.false in omega (arith, not) in
-    let free = subst (λ (x : List ℕ). IsWordAt c.free_node.new.dag c.in_ok-node.node r.width (λ e. e x 0 (cycle_number m.resets m.position))) c.bytes.ensures c.in_ok-node.ensures.word in
-    register_begun b.design c.requires.design b.set m.resets m.position c.requires.fits c.free_node.new.dag c.in_ok-node.node r c.requires.among start free
+    let free = subst (λ (x : List ℕ). IsWordAt c.free_node.new.dag i r.width (λ e. e x 0 (cycle_number m.resets m.position))) c.bytes.ensures made in
+    register_begun b.design c.requires.design b.set m.resets m.position c.requires.fits c.free_node.new.dag i r c.requires.among start free) c.free_node.ensures.word

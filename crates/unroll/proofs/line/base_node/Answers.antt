@@ -1,4 +1,5 @@
 use Rattle.std.specs.Prelude.{slice_get}
+use Rattle.std.proofs.lemmas.Result.{IfOk-weaker}
 use Rattle.line_laws.specs.Tests.{meets_constraints}
 use Rattle.set_tree.specs.Formulas.{meaning_of}
 use Rattle.segment_laws.specs.Tests.{fails}
@@ -11,8 +12,9 @@ fails_node-requires-clause-leaves c = leaves_later c.args.dag.now c.constraints_
 
 pub returns-clause-node : goal.returns-clause-node
 returns-clause-node c =
+    IfOk-weaker c.both.result _ _ (λ i made.
     let set = c.args.set.now in
     let m = meaning_of set in
     let start = c.args.dag.now in
     let rows = c.args.rows.now in
-    joined set.names start c.constraints_node.new.dag c.fails_node.new.dag c.both.new.dag rows c.in_ok-met.met c.in_ok-fails.fails c.in_ok-node.node (λ r. meets_constraints m set r) (λ r. fails m (slice_get set.invariants c.args.at) r) c.in_ok-met.ensures.keeps c.in_ok-fails.ensures.keeps c.in_ok-met.ensures.node c.in_ok-fails.ensures.node c.in_ok-node.ensures.node
+    joined set.names start c.constraints_node.new.dag c.fails_node.new.dag c.both.new.dag rows c.in_ok-met.met c.in_ok-fails.fails i (λ r. meets_constraints m set r) (λ r. fails m (slice_get set.invariants c.args.at) r) c.in_ok-met.ensures.keeps c.in_ok-fails.ensures.keeps c.in_ok-met.ensures.node c.in_ok-fails.ensures.node made) c.both.ensures.node

@@ -1,3 +1,4 @@
+use Rattle.std.proofs.lemmas.Result.{IfOk-weaker}
 use Rattle.line_laws.specs.Tests.{meets_constraints}
 use Rattle.set_tree.specs.Formulas.{meaning_of}
 use Rattle.segment_laws.specs.Tests.{meets_invariants}
@@ -10,8 +11,9 @@ invariants_node-requires-clause-leaves c = leaves_later c.args.dag.now c.constra
 
 pub returns-clause-node : goal.returns-clause-node
 returns-clause-node c =
+    IfOk-weaker c.both.result _ _ (λ i made.
     let set = c.args.set.now in
     let m = meaning_of set in
     let start = c.args.dag.now in
     let rows = c.args.rows.now in
-    joined set.names start c.constraints_node.new.dag c.invariants_node.new.dag c.both.new.dag rows c.in_ok-met.met c.in_ok-invariants.invariants c.in_ok-node.node (λ r. meets_constraints m set r) (λ r. meets_invariants m set r) c.in_ok-met.ensures.keeps c.in_ok-invariants.ensures.keeps c.in_ok-met.ensures.node c.in_ok-invariants.ensures.node c.in_ok-node.ensures.node
+    joined set.names start c.constraints_node.new.dag c.invariants_node.new.dag c.both.new.dag rows c.in_ok-met.met c.in_ok-invariants.invariants i (λ r. meets_constraints m set r) (λ r. meets_invariants m set r) c.in_ok-met.ensures.keeps c.in_ok-invariants.ensures.keeps c.in_ok-met.ensures.node c.in_ok-invariants.ensures.node made) c.both.ensures.node

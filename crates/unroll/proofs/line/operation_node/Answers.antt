@@ -1,5 +1,6 @@
 use Rattle.std.proofs.Common.{not}
 use Rattle.std.specs.Prelude.{◌&&◌}
+use Rattle.std.proofs.lemmas.Result.{IfOk-weaker}
 use Rattle.line_laws.specs.Tests.{meets_constraints}
 use Rattle.set_tree.specs.Formulas.{meaning_of}
 use Rattle.set_tree.specs.Parts.{assumed, committed}
@@ -20,14 +21,16 @@ broken_node-requires-clause-leaves c =
 
 pub returns-clause-keeps : goal.returns-clause-keeps
 returns-clause-keeps c =
+    IfOk-weaker c.both-2.result _ _ (λ i made.
     let start = c.args.dag.now in
     let second = keeps_then start c.begins_node.new.dag c.assumed_node.new.dag c.in_ok-begins.ensures.keeps c.in_ok-assumed.ensures.keeps in
     let third = keeps_then start c.assumed_node.new.dag c.both.new.dag second c.in_ok-starts.ensures.keeps in
     let fourth = keeps_then start c.both.new.dag c.broken_node.new.dag third c.in_ok-broken.ensures.keeps in
-    keeps_then start c.broken_node.new.dag c.both-2.new.dag fourth c.in_ok-node.ensures.keeps
+    keeps_then start c.broken_node.new.dag c.both-2.new.dag fourth made) c.both-2.ensures.keeps
 
 pub returns-clause-node : goal.returns-clause-node
 returns-clause-node c =
+    IfOk-weaker c.both-2.result _ _ (λ i made.
     let set = c.args.set.now in
     let m = meaning_of set in
     let start = c.args.dag.now in
@@ -38,4 +41,4 @@ returns-clause-node c =
     let sb = keeps_then start a b c.in_ok-begins.ensures.keeps c.in_ok-assumed.ensures.keeps in
     let sd = keeps_then start b d sb c.in_ok-starts.ensures.keeps in
     let starts = joined set.names start a b d rows c.in_ok-begins.begins c.in_ok-assumed.assumed c.in_ok-starts.starts (λ r. meets_constraints m set r && meets_invariants m set r) (λ r. assumed m set c.args.at r) c.in_ok-begins.ensures.keeps c.in_ok-assumed.ensures.keeps c.in_ok-begins.ensures.node c.in_ok-assumed.ensures.node c.in_ok-starts.ensures.node in
-    joined set.names start d c.broken_node.new.dag c.both-2.new.dag rows c.in_ok-starts.starts c.in_ok-broken.broken c.in_ok-node.node (λ r. meets_constraints m set r && meets_invariants m set r && assumed m set c.args.at r) (λ r. not (committed m set c.args.at r)) sd c.in_ok-broken.ensures.keeps starts c.in_ok-broken.ensures.node c.in_ok-node.ensures.node
+    joined set.names start d c.broken_node.new.dag c.both-2.new.dag rows c.in_ok-starts.starts c.in_ok-broken.broken i (λ r. meets_constraints m set r && meets_invariants m set r && assumed m set c.args.at r) (λ r. not (committed m set c.args.at r)) sd c.in_ok-broken.ensures.keeps starts c.in_ok-broken.ensures.node made) c.both-2.ensures.node

@@ -1,5 +1,5 @@
 use Rattle.std.proofs.Common.{◌<◌, length, arith}
-use Rattle.set_tree.specs.declared.line.Line.TheVariants.{Base}
+use Rattle.unroll.specs.declared.design_line.DesignLine.TheVariants.{Base}
 use Rattle.elab_node.proofs.Kept.{keeps_same, keeps_then}
 use Rattle.unroll.proofs.Rowing.{segments_later}
 use Rattle.unroll.proofs.obs.add_lines.Goals as goal

@@ -20,7 +20,7 @@ returns-then-self-eq1 c =
       level = level;
       within = within;
       seen = seen;
-      followed = subst (λ n. IsFollowed (clauses_of c.args.cnf.now.clauses.items c.args.steps.now) c.args.trail.now.entries c.args.start n s) next f;
+      followed = subst (λ n. IsFollowed (clauses_of c.args.cnf.now.clauses c.args.steps.now) c.args.trail.now.entries c.args.start n s) next f;
       alone = alone c.args.start s.seen.items p level seen (sym f.counted ∙ c.if-self-eq1.true);
     }
 
@@ -47,8 +47,8 @@ loop-place-preserved c =
     let bad : false ≡ true = sym c.if-index.false ∙ was in cc in
     record {
       followed =
-          followed_past (clauses_of c.args.cnf.now.clauses.items c.args.steps.now) c.args.trail.now.entries c.args.start p s
-          (subst (λ n. IsFollowed (clauses_of c.args.cnf.now.clauses.items c.args.steps.now) c.args.trail.now.entries c.args.start n s) next f) (omega arith) unseen;
+          followed_past (clauses_of c.args.cnf.now.clauses c.args.steps.now) c.args.trail.now.entries c.args.start p s
+          (subst (λ n. IsFollowed (clauses_of c.args.cnf.now.clauses c.args.steps.now) c.args.trail.now.entries c.args.start n s) next f) (omega arith) unseen;
       pending = c.loop-place.invariant.pending;
     }
 

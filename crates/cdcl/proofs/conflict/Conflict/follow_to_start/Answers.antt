@@ -15,5 +15,5 @@ loop-place-preserved c =
     let unseen : IsSeen s.seen.items p → ⊥ = λ h.
     let was : c.index.result.now ≡ true = get_or_read s.seen.items p c.index.result.now (omega (arith, f.len)) c.index.ensures false ∙ h in
     let bad : false ≡ true = sym c.if-index.false ∙ was in cc in
-    followed_past (clauses_of c.args.cnf.now.clauses.items c.args.steps.now) c.args.trail.now.entries 0 p s
-    (subst (λ n. IsFollowed (clauses_of c.args.cnf.now.clauses.items c.args.steps.now) c.args.trail.now.entries 0 n s) next f) (omega arith) unseen
+    followed_past (clauses_of c.args.cnf.now.clauses c.args.steps.now) c.args.trail.now.entries 0 p s
+    (subst (λ n. IsFollowed (clauses_of c.args.cnf.now.clauses c.args.steps.now) c.args.trail.now.entries 0 n s) next f) (omega arith) unseen

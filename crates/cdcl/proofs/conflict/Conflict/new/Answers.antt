@@ -13,7 +13,7 @@ mark_clause-pending-requires-clause-assigned c l h =
 
 pub returns-clause-followed : goal.returns-clause-followed
 returns-clause-followed c =
-    let clauses = clauses_of c.args.cnf.now.clauses.items c.args.steps.now in
+    let clauses = clauses_of c.args.cnf.now.clauses c.args.steps.now in
     let entries = c.args.trail.now.entries in
     let start_seen : c.in_ok-seen.seen.items ≡ replicate (length entries) false = search rules in
     let before : c.as_mut_slice.result.now ≡ replicate (length entries) false = c.as_mut_slice.ensures.value ∙ start_seen in

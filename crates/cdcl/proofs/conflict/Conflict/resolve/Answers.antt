@@ -16,7 +16,7 @@ clause_at-clause-requires-clause-number c = (c.requires.forced z).known
 
 pub mark_clause-opened-requires-clause-assigned : goal.mark_clause-opened-requires-clause-assigned
 mark_clause-opened-requires-clause-assigned c l h =
-    assigned_from_forced (clauses_of c.args.cnf.now.clauses.items c.args.steps.now) c.args.trail.now.entries c.args.place c.requires.within z c.args.reason (c.requires.forced z) l (subst (λ k. Contains k l) c.clause_at-clause.ensures.is h)
+    assigned_from_forced (clauses_of c.args.cnf.now.clauses c.args.steps.now) c.args.trail.now.entries c.args.place c.requires.within z c.args.reason (c.requires.forced z) l (subst (λ k. Contains k l) c.clause_at-clause.ensures.is h)
 
 pub overflow_sub-self : goal.overflow_sub-self
 overflow_sub-self c =
@@ -29,7 +29,7 @@ overflow_sub-self c =
 
 pub returns-clause-followed : goal.returns-clause-followed
 returns-clause-followed c =
-    let clauses = clauses_of c.args.cnf.now.clauses.items c.args.steps.now in
+    let clauses = clauses_of c.args.cnf.now.clauses c.args.steps.now in
     let entries = c.args.trail.now.entries in
     let seen = c.mark_clause-opened.new.seen in
     let old = c.args.self.now.seen.items in

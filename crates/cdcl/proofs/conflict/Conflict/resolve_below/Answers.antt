@@ -16,11 +16,11 @@ clause_at-clause-requires-clause-number c = (c.requires.forced z).known
 
 pub mark_clause-opened-requires-clause-assigned : goal.mark_clause-opened-requires-clause-assigned
 mark_clause-opened-requires-clause-assigned c l h =
-    assigned_from_forced (clauses_of c.args.cnf.now.clauses.items c.args.steps.now) c.args.trail.now.entries c.args.place c.requires.within z c.args.reason (c.requires.forced z) l (subst (λ k. Contains k l) c.clause_at-clause.ensures.is h)
+    assigned_from_forced (clauses_of c.args.cnf.now.clauses c.args.steps.now) c.args.trail.now.entries c.args.place c.requires.within z c.args.reason (c.requires.forced z) l (subst (λ k. Contains k l) c.clause_at-clause.ensures.is h)
 
 pub returns : goal.returns
 returns c cut was =
-    let clauses = clauses_of c.args.cnf.now.clauses.items c.args.steps.now in
+    let clauses = clauses_of c.args.cnf.now.clauses c.args.steps.now in
     let entries = c.args.trail.now.entries in
     let vars = c.args.trail.now.vars in
     let p = c.args.place in

@@ -1,4 +1,4 @@
-use Rattle.std.proofs.Common.{◌≡◌, ◌+◌, ◌++◌, ◌∷◌, [], List, Some, length, take, get_or, subst, sym, ap, ◌∙◌, arith}
+use Rattle.std.proofs.Common.{◌≡◌, ◌++◌, ◌∷◌, [], List, Some, length, take, get_or, subst, sym, ap, ◌∙◌, arith}
 use Rattle.std.proofs.lemmas.List.{get_or_read}
 use Rattle.clause_check.specs.Derivations.{clauses_of}
 use Rattle.clause_check.proofs.RefuteLemmas.{length-clauses_of}
@@ -33,14 +33,14 @@ returns c =
     let place : c.index-place.result.now ≡ get_or s.starts.items keep 0 = get_or_read s.starts.items keep c.index-place.result.now few c.index-place.ensures 0 in
     let front : List Entry = take (get_or s.starts.items keep 0) s.trail.entries in
     let cut : c.truncate-2.new.self.entries ≡ front = c.truncate-2.ensures.entries ∙ ap (λ n. take n s.trail.entries) place in
-    let clauses = clauses_of c.args.cnf.now.clauses.items s.steps.items in
-    let number : c.len.result + c.len-2.result ≡ length clauses = omega (arith, length-clauses_of c.args.cnf.now.clauses.items s.steps.items, c.args.cnf.now.clauses.ok.0, s.steps.ok.0) in
+    let clauses = clauses_of c.args.cnf.now.clauses s.steps.items in
+    let number : c.in_ok-reason.reason ≡ length clauses = omega (arith, c.in_ok-reason.ensures.ok, length-clauses_of c.args.cnf.now.clauses s.steps.items, c.len.ensures.len, s.steps.ok.0) in
     let steps : c.push.new.self.items ≡ s.steps.items ++ l.step ∷ [] = (c.in_ok-push.ensures).items in
     let after : List Entry = front ++ record { lit = l.lit; reason = Some (length clauses) } ∷ [] in
     let front_trail : IsTrail s.trail.vars front = subst (λ es. IsTrail s.trail.vars es) cut (subst (λ n. IsTrail n c.truncate-2.new.self.entries) c.truncate-2.ensures.vars c.truncate-2.ensures.trail) in
     let vars : c.assign.new.self.vars ≡ s.trail.vars = c.assign.ensures.vars ∙ c.truncate-2.ensures.vars in
     both_ok c.assign.result c.assign.ensures.entries c.assign.ensures.trail (λ e t.
-    let entries : c.assign.new.self.entries ≡ after = e ∙ (ap (λ es. es ++ record { lit = l.lit; reason = Some (c.len.result + c.len-2.result) } ∷ []) cut ∙ ap (λ n. front ++ record { lit = l.lit; reason = Some n } ∷ []) number) in
+    let entries : c.assign.new.self.entries ≡ after = e ∙ (ap (λ es. es ++ record { lit = l.lit; reason = Some c.in_ok-reason.reason } ∷ []) cut ∙ ap (λ n. front ++ record { lit = l.lit; reason = Some n } ∷ []) number) in
     let trail : IsTrail s.trail.vars after = subst (λ es. IsTrail s.trail.vars es) entries (subst (λ n. IsTrail n c.assign.new.self.entries) vars t) in
     record {
       stands =

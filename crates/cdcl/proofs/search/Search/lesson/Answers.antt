@@ -12,5 +12,5 @@ analyze-requires-clause-closed c =
     let len : c.len.result ≡ length s.starts.items = omega (arith, s.starts.ok.0) in
     let inside : i < length s.starts.items = omega (arith, c.requires.level) in
     let at : c.index-start.result.now ≡ get_or s.starts.items i 0 = get_or_read s.starts.items i c.index-start.result.now inside c.index-start.ensures 0 in
-    subst (λ b. All (IsMet (lits_of (take c.index-start.result.now s.trail.entries))) (clauses_of c.args.cnf.now.clauses.items b)) (sym c.as_slice.ensures.value)
-    (subst (λ n. All (IsMet (lits_of (take n s.trail.entries))) (clauses_of c.args.cnf.now.clauses.items s.steps.items)) (sym at) (c.requires.stands.closed i inside))
+    subst (λ b. All (IsMet (lits_of (take c.index-start.result.now s.trail.entries))) (clauses_of c.args.cnf.now.clauses b)) (sym c.as_slice.ensures.value)
+    (subst (λ n. All (IsMet (lits_of (take n s.trail.entries))) (clauses_of c.args.cnf.now.clauses s.steps.items)) (sym at) (c.requires.stands.closed i inside))

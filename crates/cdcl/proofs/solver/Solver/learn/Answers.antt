@@ -12,9 +12,9 @@ pub bump_clauses-requires-clause-known : goal.bump_clauses-requires-clause-known
 bump_clauses-requires-clause-known c =
     let s = c.args.self.now.search in let l = c.in_ok-learnt.learnt in
     let implied = ((c.in_ok-learnt.ensures).2).honest.implied.implied in
-    subst (λ hs. (k : ℕ) (d : ℕ) → k < length hs → get_or hs k d < length (clauses_of c.args.cnf.now.clauses.items c.as_slice.result.now)) (sym c.as_slice-2.ensures.value)
-    (subst (λ ss. (k : ℕ) (d : ℕ) → k < length l.step.hints.items → get_or l.step.hints.items k d < length (clauses_of c.args.cnf.now.clauses.items ss)) (sym c.as_slice.ensures.value)
-    (hints_known (clauses_of c.args.cnf.now.clauses.items s.steps.items) (map negated l.step.clause) l.step.hints.items implied))
+    subst (λ hs. (k : ℕ) (d : ℕ) → k < length hs → get_or hs k d < length (clauses_of c.args.cnf.now.clauses c.as_slice.result.now)) (sym c.as_slice-2.ensures.value)
+    (subst (λ ss. (k : ℕ) (d : ℕ) → k < length l.step.hints.items → get_or l.step.hints.items k d < length (clauses_of c.args.cnf.now.clauses ss)) (sym c.as_slice.ensures.value)
+    (hints_known (clauses_of c.args.cnf.now.clauses s.steps.items) (map negated l.step.clause) l.step.hints.items implied))
 
 pub watch-requires-clause-part : goal.watch-requires-clause-part
 watch-requires-clause-part c =
@@ -29,7 +29,7 @@ watch-requires-clause-second c = learnt_second c.args.cnf.now c.args.self.now c.
 
 pub watch-requires-clause-kept : goal.watch-requires-clause-kept
 watch-requires-clause-kept c =
-    subst (λ n. IsKept (clause_at (clauses_of c.args.cnf.now.clauses.items c.backjump.new.self.steps.items) (length c.args.self.now.watches.watched.items)) c.backjump.new.self.trail.entries c.backjump.new.self.starts.items (n - 1) c.learnt_watch-watch.result) (sym c.len.ensures.len)
+    subst (λ n. IsKept (clause_at (clauses_of c.args.cnf.now.clauses c.backjump.new.self.steps.items) (length c.args.self.now.watches.watched.items)) c.backjump.new.self.trail.entries c.backjump.new.self.starts.items (n - 1) c.learnt_watch-watch.result) (sym c.len.ensures.len)
     (learnt_kept c.args.cnf.now c.args.self.now c.requires.is c.in_ok-learnt.learnt c.in_ok-learnt.ensures c.backjump.new.self c.in_ok-backjump.ensures c.learnt_watch-watch.result c.learnt_watch-watch.ensures)
 
 pub returns-clause-learns : goal.returns-clause-learns

@@ -12,7 +12,7 @@ invariant_of-self-2 c =
     let vars = ap (λ (a : Assigned). a.vars) c.self.view_is in
     let lt : c.args.lit.var < length t.values.items = omega arith in
     let done = agrees_pushed t.values.items t.places.items t.entries.items c.self.invariant c.args.lit c.args.reason lt (subst (λ (es : List Entry). Avoids (lits_of es) c.args.lit) (sym entries) c.requires.free) in
-    let len : length t.entries.items ≡ c.len-place.result = omega (arith, t.entries.ok.0) in
+    let len : length t.entries.items ≡ c.in_ok-place.place = omega (arith, c.in_ok-place.ensures.ok, t.entries.ok.0) in
     let values = set t.values.items c.args.lit.var (Some (not c.args.lit.negative)) in
     subst (λ n. Agrees values (set t.places.items c.args.lit.var n) c.push.new.self.items) len
     (subst (λ es. Agrees values (set t.places.items c.args.lit.var (length t.entries.items)) es) (sym c.in_ok-push.ensures.items) done)
@@ -24,8 +24,8 @@ returns-clause-trail c =
     let vars = ap (λ (a : Assigned). a.vars) c.self.view_is in
     let lt : c.args.lit.var < length t.values.items = omega arith in
     let done = agrees_pushed t.values.items t.places.items t.entries.items c.self.invariant c.args.lit c.args.reason lt (subst (λ (es : List Entry). Avoids (lits_of es) c.args.lit) (sym entries) c.requires.free) in
-    let len : length t.entries.items ≡ c.len-place.result = omega (arith, t.entries.ok.0) in
+    let len : length t.entries.items ≡ c.in_ok-place.place = omega (arith, c.in_ok-place.ensures.ok, t.entries.ok.0) in
     let values = set t.values.items c.args.lit.var (Some (not c.args.lit.negative)) in
-    trail_from_agrees values (set t.places.items c.args.lit.var c.len-place.result) c.push.new.self.items
+    trail_from_agrees values (set t.places.items c.args.lit.var c.in_ok-place.place) c.push.new.self.items
     (subst (λ n. Agrees values (set t.places.items c.args.lit.var n) c.push.new.self.items) len
     (subst (λ es. Agrees values (set t.places.items c.args.lit.var (length t.entries.items)) es) (sym c.in_ok-push.ensures.items) done))

@@ -59,7 +59,7 @@ returns-then-not-is_one-clause-next c = λ ob w.
     let b = get_or bits i z in
     let us = c.args.self.now.values.items in
     let lit = lit_is ob b c.deref.result.now c.var-var.result c.negative.result (c.deref.ensures.value ∙ w.vars_are) c.var-var.ensures c.negative.ensures in
-    let ec = c.in_ok-add_unit.ensures.clauses ∙ ap (λ (l : Lit). c.args.self.now.built.cnf.clauses.items ++ (l ∷ []) ∷ []) lit in
+    let ec = c.in_ok-add_unit.ensures.clauses ∙ ap (λ (l : Lit). c.args.self.now.built.cnf.clauses ++ (l ∷ []) ∷ []) lit in
     let zero = is_off us c.deref-2.result.now b c.is_one.result c.deref-2.ensures.value c.is_one.ensures c.if-not-is_one.true in
     record {
       carried = w.carried;
@@ -74,7 +74,7 @@ returns-in_ok-self-in-Sat-clause-next c = λ ob w.
     let i = c.args.number in
     let b = get_or bits i z in
     let lit = lit_is ob b c.deref.result.now c.var-var.result c.negative.result (c.deref.ensures.value ∙ w.vars_are) c.var-var.ensures c.negative.ensures in
-    let ec = c.in_ok-add_unit.ensures.clauses ∙ ap (λ (l : Lit). c.args.self.now.built.cnf.clauses.items ++ (l ∷ []) ∷ []) lit in
+    let ec = c.in_ok-add_unit.ensures.clauses ∙ ap (λ (l : Lit). c.args.self.now.built.cnf.clauses ++ (l ∷ []) ∷ []) lit in
     let holds = subst (λ (e : End). IsEnd c.add_unit.new.cnf c.args.budget e) c.in-Sat.is c.in_ok-assignment.ensures.end in
     let ew = c.in_ok-self-in-Sat.ensures ∙ ap (λ a. read_words (at a) c.args.self.now.built.bits.items) c.deref-in-Sat.ensures.value ∙ ap (read_words (at c.in-Sat.assignment.items)) w.vars_are in
     record {
@@ -96,9 +96,9 @@ returns-in_ok-push-in-Unsat-clause-next c = λ ob w.
     let base = c.args.self.now.built.cnf in
     let lit = lit_is ob b c.deref.result.now c.var-var.result c.negative.result (c.deref.ensures.value ∙ w.vars_are) c.var-var.ensures c.negative.ensures in
     let var : c.var-var.result ≡ var_of ob.nodes b = c.var-var.ensures ∙ ap (λ fs. slice_index (slice_index_or fs b.place []) b.height) (c.deref.ensures.value ∙ w.vars_are) in
-    let ec = c.in_ok-add_unit.ensures.clauses ∙ ap (λ (l : Lit). base.clauses.items ++ (l ∷ []) ∷ []) lit in
-    let next = without_last base.clauses.items c.add_unit.new.cnf.clauses.items c.turn_last.new.cnf.clauses.items (is_zero ob.nodes b) (plus c.var-var.result ∷ []) ec c.in_ok-turn_last-in-Unsat.ensures.clauses
-    ∙ ap (λ v. base.clauses.items ++ (plus v ∷ []) ∷ []) var in
+    let ec = c.in_ok-add_unit.ensures.clauses ∙ ap (λ (l : Lit). base.clauses ++ (l ∷ []) ∷ []) lit in
+    let next = without_last base.clauses c.add_unit.new.cnf.clauses c.turn_last.new.cnf.clauses (is_zero ob.nodes b) (plus c.var-var.result ∷ []) ec c.in_ok-turn_last-in-Unsat.ensures.clauses
+    ∙ ap (λ v. base.clauses ++ (plus v ∷ []) ∷ []) var in
     let refutes = subst (λ (e : End). IsEnd c.add_unit.new.cnf c.args.budget e) c.in-Unsat.is c.in_ok-assignment.ensures.end in
     let one = is_on us c.deref-2.result.now b c.is_one.result c.deref-2.ensures.value c.is_one.ensures c.if-not-is_one.false in
     let below = is_below ob bits i b z c.requires.number refl us base c.add_unit.new.cnf _ w.fixed c.in_ok-add_unit.ensures.vars ec in
@@ -118,7 +118,7 @@ returns-in-Spent-clause-next c = λ ob w.
     let b = get_or bits i z in
     let us = c.args.self.now.values.items in
     let lit = lit_is ob b c.deref.result.now c.var-var.result c.negative.result (c.deref.ensures.value ∙ w.vars_are) c.var-var.ensures c.negative.ensures in
-    let ec = c.in_ok-add_unit.ensures.clauses ∙ ap (λ (l : Lit). c.args.self.now.built.cnf.clauses.items ++ (l ∷ []) ∷ []) lit in
+    let ec = c.in_ok-add_unit.ensures.clauses ∙ ap (λ (l : Lit). c.args.self.now.built.cnf.clauses ++ (l ∷ []) ∷ []) lit in
     let spent = subst (λ (e : End). IsEnd c.add_unit.new.cnf c.args.budget e) c.in-Spent.is c.in_ok-assignment.ensures.end in
     let one = is_on us c.deref-2.result.now b c.is_one.result c.deref-2.ensures.value c.is_one.ensures c.if-not-is_one.false in
     let below = is_below ob bits i b z c.requires.number refl us c.args.self.now.built.cnf c.add_unit.new.cnf _ w.fixed c.in_ok-add_unit.ensures.vars ec in

@@ -1,0 +1,41 @@
+-- Rows of kept proofs that are fetched and checked.
+use Rattle.std.specs.Prelude.{◌≡◌, ℕ, List, Option, Some, None, IfSome, Vec, is_some, option_map}
+use Rattle.std.specs.List.{AllZip}
+use Rattle.std.specs.declared.alloc.Global.{Global}
+use Rattle.std.specs.FinMap.{get}
+use Rattle.outside.specs.Tables.{Tables}
+use Rattle.word_dag.specs.Nodes.{Parts}
+use Rattle.clause_check.specs.declared.formula.Step.{Step}
+use Rattle.step_records.specs.Records.{IsRecord}
+use Rattle.job_pool.specs.Shown.{IsShown}
+use Rattle.job_pool.specs.declared.evidence.Evidence.TheVariants.{Derivation}
+use Rattle.proof_store.specs.Kept.{IsProof, key_of}
+use Rattle.proof_store.specs.Places.{TellsKept}
+use Rattle.proof_store.specs.declared.checking.Lookup.{Lookup}
+use Rattle.proof_store.specs.declared.goal.Goal.{Goal}
+
+-- the row that these tables have under the obligation's text
+abbrev pub IsRowUnder : Option Tables → Parts → Option (Vec ℕ Global) → Type 0
+IsRowUnder tables ob row = IfSome tables (λ t. option_map (λ bytes. bytes.items) row ≡ get t.proofs (key_of ob))
+
+-- the goal's obligation, and the row under its text
+pub record IsLookup {L : Type 0} (tables : Option Tables) (goal : Goal L) (lookup : Lookup) : Type 0 where
+  pub ob_is : lookup.ob.now ≡ goal.ob
+  pub row_is : IsRowUnder tables goal.ob lookup.row
+
+-- what is found in a row: steps of which it is a record and which show how the obligation ended, whatever the budget; or nothing, and it is a record of no proof of it
+abbrev pub ChecksRow : Parts → Option (Vec ℕ Global) → Option (Vec Step Global) → Type 0
+ChecksRow ob row (Some steps) = (bytes : Vec ℕ Global) × (row ≡ Some bytes) × IsRecord bytes.items steps.items × ((budget : ℕ) → IsShown budget ob (Derivation steps))
+ChecksRow ob row None = (bytes : Vec ℕ Global) → row ≡ Some bytes → (steps : List Step) → IsRecord bytes.items steps → IsProof ob steps → ⊥
+
+abbrev pub Checks : Lookup → Option (Vec Step Global) → Type 0
+Checks lookup found = ChecksRow lookup.ob.now lookup.row found
+
+-- the steps of the proof that these tables keep of an obligation, which show how it ended, whatever the budget; or nothing, and they keep none
+pub record IsLookedUp (tables : Option Tables) (ob : Parts) (found : Option (Vec Step Global)) : Type 0 where
+  pub shown : IfSome found (λ steps. (budget : ℕ) → IsShown budget ob (Derivation steps))
+  pub kept : TellsKept tables ob (is_some found)
+
+-- the same for each of these goals
+abbrev pub AreLookedUp : {L : Type 0} → Option Tables → List (Goal L) → List (Option (Vec Step Global)) → Type 0
+AreLookedUp tables goals found = AllZip (λ goal steps. IsLookedUp tables goal.ob steps) goals found

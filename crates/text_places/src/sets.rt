@@ -1,0 +1,193 @@
+// Where the names of a set are declared and used.
+use crate::modules::Pick;
+use crate::tokens::{
+    behind, behind_word, byte_at, first, number_at, spells, stands, up_to, width_at, word_at,
+    word_of,
+};
+use vlog_tree::Token;
+use vlog_words::is;
+
+/// The name of the set's block.
+pub fn block_of(set: &[Token]) -> &[u8] {
+    for at in 0..set.len() {
+        let here = &set[at..];
+        if stands(here, 0, b"block") {
+            return word_at(here, 1);
+        }
+    }
+    b""
+}
+
+/// Whether a word begins a declaration.
+pub fn declares(word: &[u8]) -> bool {
+    is(word, b"input") || is(word, b"output") || is(word, b"state")
+}
+
+/// A declaration of a set: its item, and its name's place.
+#[derive(Clone, Copy)]
+pub struct DeclaredInSet<'a> {
+    pub item: &'a [Token],
+    pub named: &'a [Token],
+}
+
+impl<'a> DeclaredInSet<'a> {
+    /// `input`, `output` or `state`.
+    pub fn role(&self) -> &'a [u8] {
+        word_at(self.item, 0)
+    }
+
+    /// The declared width, where it is well formed.
+    pub fn width(&self) -> Option<u64> {
+        let range = if stands(self.item, 1, b"signed") {
+            behind(self.item, 2)
+        } else {
+            behind(self.item, 1)
+        };
+        width_at(range)
+    }
+}
+
+/// Where the name of a declaration stands: behind its words and its range.
+fn name_of(item: &[Token]) -> &[Token] {
+    let rest = if stands(item, 1, b"signed") && !stands(item, 2, b";") {
+        behind(item, 2)
+    } else {
+        behind(item, 1)
+    };
+    if stands(rest, 0, b"[") {
+        behind(rest, 5)
+    } else {
+        rest
+    }
+}
+
+/// The first or the last declaration of a name.
+pub fn declared_in_set<'a>(set: &'a [Token], name: &[u8], pick: Pick) -> Option<DeclaredInSet<'a>> {
+    let mut found = None;
+    for at in 0..set.len() {
+        let item = &set[at..];
+        if declares(word_at(item, 0)) {
+            let named = name_of(item);
+            if spells(named, name) {
+                found = Some(DeclaredInSet { item, named });
+                if pick == Pick::First {
+                    return found;
+                }
+            }
+        }
+    }
+    found
+}
+
+/// Where a name stands first, and no longer one.
+pub fn used_in_set<'a>(set: &'a [Token], name: &[u8]) -> Option<&'a [Token]> {
+    let mut dotted = false;
+    for at in 0..set.len() {
+        let here = &set[at..];
+        if !dotted && spells(here, name) {
+            return Some(here);
+        }
+        dotted = stands(here, 0, b".");
+    }
+    None
+}
+
+/// A property by its name, from the name up to the next operation.
+pub fn property_in<'a>(set: &'a [Token], name: &[u8]) -> Option<&'a [Token]> {
+    let place = behind_word(set, b"operation", name).or(behind_word(set, b"property", name))?;
+    Some(up_to(place, b"operation"))
+}
+
+/// The place of the cover of an output in a property.
+pub fn cover_in<'a>(property: &'a [Token], output: &[u8]) -> Option<&'a [Token]> {
+    for at in 0..property.len() {
+        let here = &property[at..];
+        if stands(here, 0, b"cover") && spells(behind(here, 1), output) {
+            return Some(here);
+        }
+    }
+    None
+}
+
+/// How many covers of an output a property has.
+pub fn count_of_covers(property: &[Token], output: &[u8]) -> usize {
+    let mut rest = property;
+    for count in 0..property.len() {
+        match cover_in(rest, output) {
+            Some(cover) => rest = behind(cover, 1),
+            None => return count,
+        }
+    }
+    property.len()
+}
+
+/// The word of the clause that goes on at a place, where it names properties or outputs: `next` or `cover`.
+pub fn clause_before<'a>(set: &'a [Token], byte: usize) -> &'a [u8] {
+    let mut clause: &[u8] = b"";
+    for token in set {
+        if token.at >= byte {
+            return clause;
+        }
+        let word = word_of(token);
+        if is(word, b"next") || is(word, b"cover") || is(word, b";") {
+            clause = word;
+        }
+    }
+    clause
+}
+
+/// The second place of a name in one list of successors.
+pub fn next_again<'a>(set: &'a [Token], name: &[u8]) -> Option<&'a [Token]> {
+    for at in 0..set.len() {
+        let here = &set[at..];
+        if stands(here, 0, b"next") {
+            let list = up_to(here, b";");
+            if let Some(one) = first(list, name) {
+                if let Some(again) = first(behind(one, 1), name) {
+                    return Some(again);
+                }
+            }
+        }
+    }
+    None
+}
+
+/// The first offset above a bound.
+pub fn offset_above(tokens: &[Token], bound: u64) -> Option<usize> {
+    for at in 0..tokens.len() {
+        let here = &tokens[at..];
+        if stands(here, 0, b"@") {
+            if let Some(offset) = number_at(here, 1) {
+                if offset > bound {
+                    return byte_at(here);
+                }
+            }
+        }
+    }
+    None
+}
+
+/// The window of a property: the number behind `window`, else its greatest length.
+pub fn window_of(property: &[Token]) -> Option<u64> {
+    for at in 0..property.len() {
+        let here = &property[at..];
+        if stands(here, 0, b"window") {
+            return number_at(here, 1);
+        }
+    }
+    for at in 0..property.len() {
+        let here = &property[at..];
+        if stands(here, 0, b"length") {
+            return number_at(here, 3).or(number_at(here, 1));
+        }
+    }
+    None
+}
+
+/// How many tokens of a list are this word or sign.
+pub fn count_of(tokens: &[Token], word: &[u8]) -> usize {
+    tokens
+        .iter()
+        .filter(|token| is(word_of(token), word))
+        .count()
+}
