@@ -80,7 +80,7 @@ fn judged_rows(
     }
 }
 
-fn judged(alloc: Global, set: &Sound, windows: &Windows) -> Result<&'static str, AllocError> {
+fn verdict_of(alloc: Global, set: &Sound, windows: &Windows) -> Result<&'static str, AllocError> {
     let one = rows_of(alloc, windows.one)?;
     let other = rows_of(alloc, windows.other)?;
     judged_rows(alloc, set, windows, &one, &other)
@@ -92,7 +92,7 @@ fn shown(alloc: Global, text: &[u8], windows: &Windows) -> Result<&'static str, 
     match read_set(alloc, text) {
         Ok(set) => match structure(set) {
             Ok(sound) => {
-                let word = judged(alloc, &sound, windows);
+                let word = verdict_of(alloc, &sound, windows);
                 // a call, since a proof would write out the drop of all trees here
                 drop(sound);
                 word
