@@ -80,7 +80,7 @@ fn product_size(alloc: Global) -> Result<(u64, usize), AllocError> {
     let root = dag.add(equal(product, c))?;
     let ob = extract(alloc, &dag, root)?;
     let built = build(alloc, &ob)?;
-    Ok((built.cnf.vars, built.cnf.clauses.len()))
+    Ok((u64::from(built.cnf.vars), built.cnf.clauses.len()))
 }
 
 fn main(rt: HostRuntime) -> io::Result<()> {
