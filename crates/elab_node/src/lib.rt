@@ -2,6 +2,7 @@
 #![tactic(auto)]
 
 mod bits;
+mod counts;
 mod families;
 mod indexed;
 mod joins;

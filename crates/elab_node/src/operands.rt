@@ -9,12 +9,15 @@ ghost use Rattle.vlog_value.specs.Shapes.{HasShape};
 ghost use Rattle.elab_node.specs.Leaves.{declared};
 ghost use Rattle.elab_node.specs.Terms.{IsTaken, IsAlone, IsRow, IsInner, AreOperands};
 
+use crate::counts::nests_counts;
 use crate::leaves::Leaves;
 use crate::nodes::Wire;
 use sqlite_items::{Boxed, Items};
 use std::alloc::AllocError;
 use vlog_tree::{Binary, Expr, Span, Unary};
-use vlog_value::{evaluated, family_of, inner_place, integer, left_place, measured, right_place};
+use vlog_value::{
+    evaluated, family_of, inner_place, integer, left_place, measured, right_place, shape_of,
+};
 
 /// The bits of a vector, and the number of the lowest one.
 #[derive(Clone, Copy)]
@@ -30,12 +33,18 @@ pub struct Places {
     pub right: (u8, bool),
 }
 
-/// The length and the sign that an expression has by itself. It is refused for want of memory alone.
+/// The length and the sign that an expression has by itself. It is refused for want of memory alone. A copy of the expression, in which each count is taken
+/// once, is made only where counts stand within one another.
 pub fn shape(expr: &Expr, leaves: &Leaves) -> Result<(u8, bool), AllocError>
     requires { IsFormed (declared leaves.now) expr.now }
     ensures { IfOk result (λ s. HasShape (declared leaves.now) expr.now s.0 s.1) }
 {
-    match measured(leaves.allocator(), expr, leaves.declared())? {
+    let found = if nests_counts(expr) {
+        measured(leaves.allocator(), expr, leaves.declared())?
+    } else {
+        shape_of(expr, leaves.declared())
+    };
+    match found {
         Some(shape) => Ok(shape),
         None => unreachable!(),
     }
