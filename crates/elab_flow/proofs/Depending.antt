@@ -1,27 +1,25 @@
 -- Edges of places as dependences of names.
-use Rattle.std.proofs.Common.{◌≡◌, ℕ, zero, suc, ◌≤◌, ◌<◌, ◌⊎◌, ◌↔◌, inl, inr, Bool, List, [], ◌∷◌, ◌++◌, map, length, replicate, Some, None, Option, Vec, Global, arith, refl, sym, ap, ◌∙◌, subst}
+use Rattle.std.proofs.Common.{◌≡◌, ℕ, zero, suc, ◌≤◌, ◌<◌, ◌⊎◌, ◌↔◌, inl, inr, Bool, List, [], ◌∷◌, ◌++◌, map, length, replicate, Vec, Global, arith, refl, sym, ap, ◌∙◌, subst}
 use Rattle.std.specs.List.{flat_map}
-use Rattle.std.specs.Option.{option_to_list}
-use Rattle.std.proofs.lemmas.List.{map-append, length-replicate}
+use Rattle.std.proofs.lemmas.List.{length-replicate}
 use Rattle.vlog_tree.specs.declared.item.Assign.{Assign}
-use Rattle.vlog_tree.specs.declared.stmt.Lval.{Lval, Row_of-Lval, end_of-Lval, more_of-Lval}
-use Rattle.vlog_tree.specs.declared.stmt.Lval.TheVariants as l
+use Rattle.vlog_tree.specs.declared.stmt.Lval.{Lval}
 use Rattle.vlog_runs.specs.declared.flat.Always.{Always}
 use Rattle.vlog_runs.specs.declared.flat.Flat.{Flat}
 use Rattle.vlog_runs.specs.declared.flat.Signal.{Signal}
 use Rattle.vlog_runs.specs.Places.{Name, Among}
 use Rattle.vlog_runs.specs.Blocks.{left_names}
 use Rattle.vlog_runs.specs.Cycles.{IsRegister}
-use Rattle.flat_faults.specs.Texts.{names_in, numbers_in, row_numbers_in}
-use Rattle.flat_laws.proofs.Lists.{among_append, append_left, append_right, among_map, map_among, among_flat, flat_among, flat_append}
+use Rattle.flat_faults.specs.Texts.{names_in, numbers_in}
+use Rattle.flat_laws.proofs.Lists.{among_map, map_among, among_flat, flat_among}
 use Rattle.flat_scopes.specs.Finding.{place_in}
 use Rattle.elab_faults.specs.Paths.{width_in}
-use Rattle.elab_faults.specs.Drivers.{parts_of, row_parts_of, BlockDepends, DependsOn}
+use Rattle.elab_faults.specs.Drivers.{parts_of, BlockDepends, DependsOn}
 use Rattle.flow_laws.specs.Laws.{place_over}
 use Rattle.elab_drive.specs.Parts.{reads_of}
 use Rattle.elab_drive.specs.Claims.{part_name}
 use Rattle.elab_drive.specs.Spots.{signal_name}
-use Rattle.elab_drive.specs.Wanting.{part_reads, left_reads}
+use Rattle.elab_drive.specs.Wanting.{left_reads}
 use Rattle.elab_drive.proofs.Lacks.{registers, register_name, name_register}
 use Rattle.elab_drive.proofs.Spots.{has_spot}
 use Rattle.elab_order.specs.Graphs.{graph_of, successors, IsGraph, Among as Lists}

@@ -1,84 +1,77 @@
 -- Edges of dependences, one after another.
-use Rattle.std.proofs.Common.{◌≡◌, ◌≢◌, ℕ, zero, suc, ◌+◌, ◌*◌, ◌≤◌, ◌<◌, ◌⊎◌, ◌↔◌, inl, inr, Bool, true, false, List, [], ◌∷◌, ◌++◌, length, get_or, set, drop, Vec, Global, arith, refl, sym, ap, ◌∙◌, subst}
+use Rattle.std.proofs.Common.{◌≡◌, ◌≢◌, ℕ, zero, suc, ◌+◌, ◌≤◌, ◌<◌, ◌⊎◌, ◌↔◌, inl, inr, true, false, List, [], ◌∷◌, ◌++◌, map, length, get_or, set, drop, Vec, Global, arith, refl, sym, ap, ◌∙◌, subst}
 use Rattle.std.proofs.lemmas.Bool.{cases_eq}
 use Rattle.vlog_runs.specs.declared.flat.Always.{Always}
 use Rattle.vlog_runs.specs.declared.flat.Signal.{Signal}
 use Rattle.vlog_runs.specs.Places.{Among}
-use Rattle.flat_laws.proofs.Lists.{among_append, append_left, append_right}
+use Rattle.flat_laws.proofs.Lists.{among_append, append_left, append_right, among_map, map_among}
 use Rattle.flow_laws.specs.Flows.{block_flow}
 use Rattle.flow_laws.specs.Laws.{place_over}
 use Rattle.flow_laws.proofs.Walking.{passes_are_paths}
 use Rattle.elab_order.specs.Graphs.{graph_of, successors, Among as Lists}
 use Rattle.elab_flow.specs.declared.edges.Edge.{Edge}
-use Rattle.elab_flow.specs.Edges.{edge, IsCell, IsCellBelow, IsBlockEdge, AnyBlockEdge}
-use Rattle.elab_flow.specs.Sets.{Tables, at, Has}
+use Rattle.elab_flow.specs.Edges.{edge, IsInRows, IsBlockEdge, AnyBlockEdge}
+use Rattle.elab_flow.specs.Sets.{Tables}
 use Rattle.elab_flow.specs.Shows.{Shows}
 use Rattle.elab_flow.proofs.Listing.{first_or, none_left}
 use Rattle.elab_flow.proofs.Marking.{cut}
 use Rattle.elab_flow.proofs.Showing.{at_lt, named_at}
 
--- ---- cells of a row
+-- ---- rows
 
-module _ (n i to : ℕ) (table : List Bool) (lt : to < n) where
-  abbrev RowTo : ℕ → List Edge → List Edge → Type 0
-  RowTo k old all = (e : Edge) → Among all e ↔ (Among old e ⊎ (IsCell n i table e × (e.to < k)))
+-- the edges from one place
+row_edge : (from : ℕ) (to : List ℕ) (e : Edge) → Among (map (edge from) to) e ↔ ((e.from ≡ from) × Among to e.to)
+row_edge from to e = (there, back)
+  where
+    there : Among (map (edge from) to) e → (e.from ≡ from) × Among to e.to
+    there h = let r = among_map (edge from) to e h in (ap (λ (z : Edge). z.from) (sym r.2), subst (λ k. Among to k) (ap (λ (z : Edge). z.to) r.2) r.1)
 
-  further : (k : ℕ) → k < to → k < to + 1
-  further k h = omega arith
+    back : (e.from ≡ from) × Among to e.to → Among (map (edge from) to) e
+    back h = subst (λ z. Among (map (edge from) to) z) (λ k. edge (sym h.0 k) e.to) (map_among (edge from) to e.to h.1)
 
-  pub cell_added : (old all next : List Edge) → RowTo to old all → next ≡ all ++ edge i to ∷ [] → Has table (i * n + to) → RowTo (to + 1) old next
-  cell_added old all next inv put has e = (λ h. there (among_append all (edge i to ∷ []) e (subst (λ z. Among z e) put h)), λ h. subst (λ z. Among z e) (sym put) (back h))
+module _ (rows : ℕ → List ℕ) (from : ℕ) (old all next : List Edge) (row : List ℕ) where
+  -- the edges from the next place
+  pub row_added : ((e : Edge) → Among all e ↔ (Among old e ⊎ IsInRows from rows e)) → next ≡ all ++ map (edge from) row → row ≡ rows from → (e : Edge) → Among next e ↔ (Among old e ⊎ IsInRows (from + 1) rows e)
+  row_added inv put is e = (λ h. there (among_append all (map (edge from) row) e (subst (λ z. Among z e) put h)), λ h. subst (λ z. Among z e) (sym put) (back h))
     where
-      last : to < to + 1
+      last : from < from + 1
       last = omega arith
 
-      there : Among all e ⊎ Among (edge i to ∷ []) e → Among old e ⊎ (IsCell n i table e × (e.to < to + 1))
-      there (inl f) = elim ((inv e).0 f) [ inl g ↦ inl g | inr g ↦ inr (g.0, further e.to g.1) ]
-      there (inr (inl f)) = inr (subst (λ (z : Edge). IsCell n i table z × (z.to < to + 1)) f ((refl, lt, has), last))
-      there (inr (inr f)) = absurd f
+      further : (k : ℕ) → k < from → k < from + 1
+      further k h = omega arith
 
-      cell : IsCell n i table e → e.to < to + 1 → Among (all ++ edge i to ∷ []) e
-      cell c l = elim (cases_eq e.to to) [
-        | inl same ↦ append_right all (edge i to ∷ []) e (inl (λ k. edge (sym c.0 k) (sym same k)))
-        | inr other ↦ (let ne : e.to ≢ to = other in append_left all (edge i to ∷ []) e ((inv e).1 (inr (c, omega arith))))
-      ]
+      there : Among all e ⊎ Among (map (edge from) row) e → Among old e ⊎ IsInRows (from + 1) rows e
+      there (inl f) = elim ((inv e).0 f) [ inl g ↦ inl g | inr g ↦ inr (further e.from g.0, g.1) ]
+      there (inr f) =
+          let r = (row_edge from row e).0 f in
+          inr (subst (λ k. k < from + 1) (sym r.0) last, subst (λ (z : List ℕ). Among z e.to) (is ∙ ap rows (sym r.0)) r.1)
 
-      back : Among old e ⊎ (IsCell n i table e × (e.to < to + 1)) → Among (all ++ edge i to ∷ []) e
-      back (inl f) = append_left all (edge i to ∷ []) e ((inv e).1 (inl f))
-      back (inr f) = cell f.0 f.1
-
-  pub cell_passed : (old all : List Edge) → RowTo to old all → at table (i * n + to) ≡ false → RowTo (to + 1) old all
-  cell_passed old all inv none e = (λ h. elim ((inv e).0 h) [ inl f ↦ inl f | inr f ↦ inr (f.0, further e.to f.1) ], λ h. (inv e).1 (back h))
-    where
-      clash : false ≡ true → ⊥
-      clash z = cc
-
-      back : Among old e ⊎ (IsCell n i table e × (e.to < to + 1)) → Among old e ⊎ (IsCell n i table e × (e.to < to))
-      back (inl f) = inl f
-      back (inr (c, l)) = elim (cases_eq e.to to) [
-        | inl same ↦ absurd (clash (sym none ∙ subst (λ k. at table (i * n + k) ≡ true) same c.2))
-        | inr other ↦ (let ne : e.to ≢ to = other in inr (c, omega arith))
+      back : Among old e ⊎ IsInRows (from + 1) rows e → Among (all ++ map (edge from) row) e
+      back (inl f) = append_left all (map (edge from) row) e ((inv e).1 (inl f))
+      back (inr f) = elim (cases_eq e.from from) [
+        | inl same ↦ append_right all (map (edge from) row) e ((row_edge from row e).1 (same, subst (λ (z : List ℕ). Among z e.to) (ap rows same ∙ sym is) f.1))
+        | inr other ↦ (let ne : e.from ≢ from = other in let le : e.from < from + 1 = f.0 in append_left all (map (edge from) row) e ((inv e).1 (inr (omega arith, f.1))))
       ]
 
 -- ---- the edges of a block
 
 module _ (gs : List Signal) (k : Always) (s : Tables) (h : Shows gs s (block_flow (place_over gs) k.body)) (c : k.clocked ≡ false) where
-  cell_edge : (e : Edge) → IsCellBelow (length gs) (length gs) s.through e ↔ IsBlockEdge gs k e
-  cell_edge e = (there, back)
+  row_is_edge : (e : Edge) → IsInRows (length gs) s.through e ↔ IsBlockEdge gs k e
+  row_is_edge e = (there, back)
     where
-      there : IsCellBelow (length gs) (length gs) s.through e → IsBlockEdge gs k e
-      there (l, m, has) =
+      there : IsInRows (length gs) s.through e → IsBlockEdge gs k e
+      there (l, m) =
           let y = named_at gs e.from l in
-          let z = named_at gs e.to m in
-          (c, (y.0, z.0, y.1, z.1, ((passes_are_paths (place_over gs) k.body).through y.0 z.0).0 ((h.through e.from e.to y.0 z.0 y.1 z.1).0 has)))
+          let z = named_at gs e.to (h.row e.from e.to y.0 y.1 m) in
+          (c, (y.0, z.0, y.1, z.1, ((passes_are_paths (place_over gs) k.body).through y.0 z.0).0 ((h.through e.from e.to y.0 z.0 y.1 z.1).0 m)))
 
-      back : IsBlockEdge gs k e → IsCellBelow (length gs) (length gs) s.through e
-      back (d, (y, z, a, b, q)) = (at_lt gs e.from y a, at_lt gs e.to z b, (h.through e.from e.to y z a b).1 (((passes_are_paths (place_over gs) k.body).through y z).1 q))
+      back : IsBlockEdge gs k e → IsInRows (length gs) s.through e
+      back (d, (y, z, a, b, q)) = (at_lt gs e.from y a, (h.through e.from e.to y z a b).1 (((passes_are_paths (place_over gs) k.body).through y z).1 q))
 
-  pub block_edges : (n : ℕ) (table : List Bool) (old new : List Edge) → n ≡ length gs → table ≡ s.through → ((e : Edge) → Among new e ↔ (Among old e ⊎ IsCellBelow n n table e)) → (e : Edge) → Among new e ↔ (Among old e ⊎ IsBlockEdge gs k e)
-  block_edges n table old new f g put e = (
-    λ a. elim ((put e).0 a) [ inl b ↦ inl b | inr b ↦ inr ((cell_edge e).0 (subst (λ m. IsCellBelow m m s.through e) f (subst (λ t. IsCellBelow n n t e) g b))) ],
-    λ a. (put e).1 (elim a [ inl b ↦ inl b | inr b ↦ inr (subst (λ t. IsCellBelow n n t e) (sym g) (subst (λ m. IsCellBelow m m s.through e) (sym f) ((cell_edge e).1 b))) ]),
+  pub block_edges : (n : ℕ) (rows : ℕ → List ℕ) (old new : List Edge) → n ≡ length gs → rows ≡ s.through → ((e : Edge) → Among new e ↔ (Among old e ⊎ IsInRows n rows e)) → (e : Edge) → Among new e ↔ (Among old e ⊎ IsBlockEdge gs k e)
+  block_edges n rows old new f g put e = (
+    λ a. elim ((put e).0 a) [ inl b ↦ inl b | inr b ↦ inr ((row_is_edge e).0 (subst (λ m. IsInRows m s.through e) f (subst (λ t. IsInRows n t e) g b))) ],
+    λ a. (put e).1 (elim a [ inl b ↦ inl b | inr b ↦ inr (subst (λ t. IsInRows n t e) (sym g) (subst (λ m. IsInRows m s.through e) (sym f) ((row_is_edge e).1 b))) ]),
   )
 
 pub no_block_edges : (gs : List Signal) (k : Always) (old : List Edge) → k.clocked ≡ true → (e : Edge) → Among old e ↔ (Among old e ⊎ IsBlockEdge gs k e)
@@ -115,7 +108,7 @@ module _ (gs : List Signal) (ks : List Always) (i : ℕ) where
 
 -- ---- a graph with one more edge
 
-abbrev Row : Type 0
+abbrev pub Row : Type 0
 Row = Vec ℕ Global
 
 contains_append : (xs : List ℕ) (y z : ℕ) → Lists (xs ++ y ∷ []) z ↔ (Lists xs z ⊎ (y ≡ z))
@@ -126,19 +119,19 @@ contains_append (x ∷ xs) y z =
       λ h. elim h [ inl f ↦ elim f [ inl g ↦ inl g | inr g ↦ inr (r.1 (inl g)) ] | inr f ↦ inr (r.1 (inr f)) ],
     )
 
-put_here : (rows : List Row) (k : ℕ) (row : Row) → k < length rows → successors (graph_of (set rows k row)) k ≡ row.items
+pub put_here : (rows : List Row) (k : ℕ) (row : Row) → k < length rows → successors (graph_of (set rows k row)) k ≡ row.items
 put_here [] k row lt = absurd (omega arith)
 put_here (r ∷ rows) zero row lt = refl
 put_here (r ∷ rows) (suc k) row lt = put_here rows k row (omega arith)
 
-put_apart : (rows : List Row) (k i : ℕ) (row : Row) → (k ≡ i → ⊥) → successors (graph_of (set rows k row)) i ≡ successors (graph_of rows) i
+pub put_apart : (rows : List Row) (k i : ℕ) (row : Row) → (k ≡ i → ⊥) → successors (graph_of (set rows k row)) i ≡ successors (graph_of rows) i
 put_apart [] k i row ne = refl
 put_apart (r ∷ rows) zero zero row ne = absurd (ne refl)
 put_apart (r ∷ rows) zero (suc i) row ne = refl
 put_apart (r ∷ rows) (suc k) zero row ne = refl
 put_apart (r ∷ rows) (suc k) (suc i) row ne = put_apart rows k i row (λ e. ne (ap suc e))
 
-row_there : (rows : List Row) (k : ℕ) (d : Row) → k < length rows → successors (graph_of rows) k ≡ (get_or rows k d).items
+pub row_there : (rows : List Row) (k : ℕ) (d : Row) → k < length rows → successors (graph_of rows) k ≡ (get_or rows k d).items
 row_there [] k d lt = absurd (omega arith)
 row_there (r ∷ rows) zero d lt = refl
 row_there (r ∷ rows) (suc k) d lt = row_there rows k d (omega arith)

@@ -1,8 +1,8 @@
 -- What the tables at the end of a block say of its paths.
-use Rattle.std.proofs.Common.{◌≡◌, ◌≢◌, ℕ, zero, suc, ◌+◌, ◌≤◌, ◌<◌, inl, inr, Bool, true, false, List, [], ◌∷◌, Some, None, length, get_or, drop, arith, sym, ap, ◌∙◌, subst}
+use Rattle.std.proofs.Common.{◌↔◌, ◌≡◌, ℕ, zero, suc, ◌+◌, ◌≤◌, ◌<◌, inl, inr, Bool, true, false, List, [], ◌∷◌, Some, None, length, get_or, drop, take, arith, sym, ap, ◌∙◌, subst}
 use Rattle.std.specs.Prelude.{Option, IfSome, IfNone}
 use Rattle.std.specs.List.{slice_get}
-use Rattle.std.proofs.lemmas.Bool.{cases_eq}
+use Rattle.std.proofs.lemmas.List.{take_more}
 use Rattle.vlog_tree.specs.declared.stmt.Lval.{Lval}
 use Rattle.vlog_tree.specs.declared.stmt.Stmt.{Stmt, Row_of-Stmt, end_of-Stmt, more_of-Stmt, Row_of-CaseItem, end_of-CaseItem, more_of-CaseItem}
 use Rattle.vlog_tree.specs.declared.stmt.Stmt.TheVariants as s
@@ -29,7 +29,7 @@ use Rattle.elab_drive.proofs.Spots.{shown, width_is, has_spot}
 use Rattle.elab_drive.proofs.Twice.{driver_told, told_driver}
 use Rattle.elab_flow.specs.Asked.{ArePassable, Misses, AnyMisses, ReadsBesides, AnyReadsUnlisted, OfSignal}
 use Rattle.elab_flow.specs.Ready.{IsLeftReady, IsReady, AreReady, AreItemsReady}
-use Rattle.elab_flow.specs.Sets.{Tables, at, Has, HasBit}
+use Rattle.elab_flow.specs.Sets.{Tables, HasBit}
 use Rattle.elab_flow.specs.Shows.{IsAt, Shows}
 use Rattle.elab_flow.proofs.Showing.{at_lt}
 use Rattle.elab_flow.proofs.Listing.{among_at, first_or, none_left}
@@ -84,22 +84,13 @@ signal_named [] i g lt is = absurd (omega arith)
 signal_named (k ∷ gs) zero g lt is = ap (λ (z : Signal). z.name) (sym is)
 signal_named (k ∷ gs) (suc i) g lt is = signal_named gs i g (omega arith) is
 
--- the signals before a place and the one there
-pub absent_next : (gs : List Signal) (set : List Bool) (listed : List Name) (i : ℕ) → ((j : ℕ) (x : Name) → j < i → IsAt gs j x → Has set j → is_among listed x ≡ true) → ((x : Name) → IsAt gs i x → Has set i → is_among listed x ≡ true)
-    → (j : ℕ) (x : Name) → j < i + 1 → IsAt gs j x → Has set j → is_among listed x ≡ true
-absent_next gs set listed i before here j x lt a h = elim (cases_eq j i) [
-  | inl e ↦ here x (subst (λ k. IsAt gs k x) e a) (subst (λ k. Has set k) e h)
-  | inr f ↦ (let ne : j ≢ i = f in before j x (omega arith) a h)
+-- each of some places is looked at
+pub absent_next : (gs : List Signal) (places : List ℕ) (listed : List Name) (k : ℕ) (r : Bool) → k < length places → ((x : Name) → IsAt gs (get_or places k 0) x → r ≡ is_among listed x) → r ≡ true
+    → ((i : ℕ) (x : Name) → IsAt gs i x → Among (take k places) i → is_among listed x ≡ true) → (i : ℕ) (x : Name) → IsAt gs i x → Among (take (k + 1) places) i → is_among listed x ≡ true
+absent_next gs places listed k r lt is listing before i x a m = elim (among_append (take k places) (get_or places k 0 ∷ []) i (subst (λ z. Among z i) (take_more places k 0 lt) m)) [
+  | inl f ↦ before i x a f
+  | inr f ↦ elim f [ inl e ↦ sym (is x (subst (λ j. IsAt gs j x) (sym e) a)) ∙ listing | inr e ↦ absurd e ]
 ]
-
-pub named_among : (gs : List Signal) (listed : List Name) (i : ℕ) (g : Signal) → i < length gs → g ≡ get_or gs i g → is_among listed g.name ≡ true → (x : Name) → IsAt gs i x → is_among listed x ≡ true
-named_among gs listed i g lt is h x a = ap (is_among listed) (at_same gs i x g.name a (signal_named gs i g lt is)) ∙ h
-
-pub unset_place : (set : List Bool) (i : ℕ) → at set i ≡ false → Has set i → ⊥
-unset_place set i e h = clash (sym e ∙ h)
-  where
-    clash : false ≡ true → ⊥
-    clash e = cc
 
 -- ---- one block
 
@@ -126,18 +117,18 @@ module _ (gs : List Signal) (body : Stmt) (s : Tables) (h : Shows gs s (block_fl
         ((h.unset t.0.place b x (spot_there gs x t.0 t.1) lt).1 ((paths.unset x b).1 u))
 
   module _ (listed : List Name) where
-    pub besides : (i : ℕ) → OfSignal gs i (λ x. Has s.outside i × (is_among listed x ≡ false)) → OfSignal gs i (ReadsBesides p body listed)
-    besides i (x, a, (o, absent)) = (x, a, ((paths.outside x).0 ((h.outside i x a).0 o), λ m. clash (sym (of_among listed x m) ∙ absent)))
+    pub besides : (i : ℕ) → OfSignal gs i (λ x. Among s.outside i × (is_among listed x ≡ false)) → OfSignal gs i (ReadsBesides p body listed)
+    besides i (x, a, (o, absent)) = (x, a, ((paths.outside x).0 ((h.outside.each i x a).0 o), λ m. clash (sym (of_among listed x m) ∙ absent)))
       where
         clash : true ≡ false → ⊥
         clash e = cc
 
-    pub none_besides : ((i : ℕ) (x : Name) → IsAt gs i x → Has s.outside i → is_among listed x ≡ true) → (x : Name) → ReadsBesides p body listed x → ⊥
+    pub none_besides : ((i : ℕ) (x : Name) → IsAt gs i x → Among s.outside i → is_among listed x ≡ true) → (x : Name) → ReadsBesides p body listed x → ⊥
     none_besides none x (r, absent) =
         let u = one_unset p r.0 x r.5 in
         let t = has_spot gs x u.0 u.1 in
         let a = spot_there gs x t.0 t.1 in
-        absent (among_of listed x (none t.0.place x a ((h.outside t.0.place x a).1 ((paths.outside x).1 r))))
+        absent (among_of listed x (none t.0.place x a ((h.outside.each t.0.place x a).1 ((paths.outside x).1 r))))
 
 -- ---- some blocks
 
@@ -170,18 +161,20 @@ none_is o P e h = subst (λ z. IfNone z P) e h
 
 -- ---- what lists of names leave out, by copies of them
 
-module _ (ls gs : List Signal) (set items : List Bool) (ns listed : List Name) (e : ls ≡ gs) (f : set ≡ items) (g : ns ≡ listed) where
-  abbrev Absent : List Signal → List Bool → List Name → ℕ → Type 0
-  Absent gs set listed i = OfSignal gs i (λ x. Has set i × (is_among listed x ≡ false))
+module _ (ls gs : List Signal) (found places : List ℕ) (ns listed : List Name) (e : ls ≡ gs) (f : (i : ℕ) → Among found i ↔ Among places i) (g : ns ≡ listed) where
+  abbrev Absent : List Signal → List ℕ → List Name → ℕ → Type 0
+  Absent gs places listed i = OfSignal gs i (λ x. Among places i × (is_among listed x ≡ false))
 
-  abbrev NoneAbsent : List Signal → List Bool → List Name → Type 0
-  NoneAbsent gs set listed = (i : ℕ) (x : Name) → IsAt gs i x → Has set i → is_among listed x ≡ true
+  abbrev NoneAbsent : List Signal → List ℕ → List Name → Type 0
+  NoneAbsent gs places listed = (i : ℕ) (x : Name) → IsAt gs i x → Among places i → is_among listed x ≡ true
 
-  pub found_listed : (i : ℕ) → Absent ls set ns i → Absent gs items listed i
-  found_listed i h = subst (λ z. Absent gs items z i) g (subst (λ z. Absent gs z ns i) f (subst (λ z. Absent z set ns i) e h))
+  pub found_listed : (i : ℕ) → Absent ls found ns i → Absent gs places listed i
+  found_listed i h =
+      let k = subst (λ z. Absent gs found z i) g (subst (λ z. Absent z found ns i) e h) in
+      (k.0, k.1, ((f i).0 k.2.0, k.2.1))
 
-  pub none_listed : NoneAbsent ls set ns → NoneAbsent gs items listed
-  none_listed h = subst (λ z. NoneAbsent gs items z) g (subst (λ z. NoneAbsent gs z ns) f (subst (λ z. NoneAbsent z set ns) e h))
+  pub none_listed : NoneAbsent ls found ns → NoneAbsent gs places listed
+  none_listed h = let k = subst (λ z. NoneAbsent gs found z) g (subst (λ z. NoneAbsent z found ns) e h) in λ i x a m. k i x a ((f i).1 m)
 
 -- ---- faults
 

@@ -1,7 +1,6 @@
 -- What a statement does among the signals that it names, it does among all.
-use Rattle.std.proofs.Common.{◌≡◌, ℕ, zero, suc, ◌<◌, ◌⊎◌, ◌↔◌, inl, inr, List, [], ◌∷◌, ◌++◌, map, length, get_or, Option, Some, None, arith, sym, ap, ◌∙◌, subst}
+use Rattle.std.proofs.Common.{◌≡◌, ℕ, ◌<◌, ◌⊎◌, ◌↔◌, inl, inr, List, [], ◌++◌, map, length, get_or, Option, Some, None, sym, ap, ◌∙◌, subst}
 use Rattle.std.specs.Prelude.{slice_index, IfSome, IfNone}
-use Rattle.std.specs.List.{slice_get}
 use Rattle.vlog_tree.specs.declared.stmt.Stmt.{Stmt}
 use Rattle.vlog_runs.specs.declared.flat.Always.{Always}
 use Rattle.vlog_runs.specs.declared.flat.Signal.{Signal}
@@ -17,7 +16,7 @@ use Rattle.elab_flow.specs.Sets.{at}
 use Rattle.elab_flow.specs.Shows.{IsAt}
 use Rattle.elab_flow.proofs.Placing.{named_signal}
 use Rattle.elab_flow.proofs.Agreeing.{misses_moves, unset_moves, depends_moves, outside_moves}
-use Rattle.elab_flow.proofs.Choosing.{some_is, got, got_lt, signal_place, name_there, whole_place}
+use Rattle.elab_flow.proofs.Choosing.{got, got_lt, signal_place, name_there, whole_place}
 use Rattle.elab_flow.proofs.Naming.{depends_named}
 use Rattle.elab_flow.proofs.Owning.{no_memories}
 

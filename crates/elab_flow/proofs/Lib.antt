@@ -1,5 +1,4 @@
 pub mod Bits
-pub mod Rows
 pub mod Showing
 pub mod Marking
 pub mod Setting
@@ -21,3 +20,9 @@ pub mod Choosing
 pub mod Rising
 pub mod Owning
 pub mod Keeping
+pub mod Reading
+pub mod Counting
+pub mod Spotting
+pub mod Branching
+pub mod Ending
+pub mod Closing

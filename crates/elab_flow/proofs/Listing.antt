@@ -1,5 +1,6 @@
 -- Elements of lists, one after another.
-use Rattle.std.proofs.Common.{◌≡◌, ℕ, zero, suc, ◌+◌, ◌<◌, ◌≤◌, ◌⊎◌, inl, inr, List, [], ◌∷◌, length, get_or, drop, arith, sym, subst}
+use Rattle.std.proofs.Common.{◌≡◌, ℕ, zero, suc, ◌+◌, ◌<◌, ◌≤◌, ◌⊎◌, inl, inr, List, [], ◌∷◌, ◌++◌, length, get_or, take, drop, arith, sym, ap, ◌∙◌, subst}
+use Rattle.std.proofs.lemmas.List.{take_more}
 use Rattle.vlog_runs.specs.Places.{Among}
 use Rattle.elab_flow.proofs.Marking.{cut, drop_past}
 
@@ -7,6 +8,10 @@ pub among_at : {X : Type 0} (xs : List X) (i : ℕ) (x : X) → i < length xs �
 among_at [] i x lt is = absurd (omega arith)
 among_at (y ∷ xs) zero x lt is = inl (sym is)
 among_at (y ∷ xs) (suc i) x lt is = inr (among_at xs i x (omega arith) is)
+
+-- the elements before a place, and the one there
+pub take_next : {X : Type 0} (xs : List X) (k : ℕ) (x : X) → k < length xs → x ≡ get_or xs k x → take k xs ++ x ∷ [] ≡ take (k + 1) xs
+take_next xs k x lt is = sym (take_more xs k x lt ∙ ap (λ z. take k xs ++ z ∷ []) (sym is))
 
 module _ {X : Type 0} (xs : List X) (i : ℕ) where
   -- an element from a place on is the one there or stands after it

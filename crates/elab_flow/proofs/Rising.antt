@@ -1,7 +1,10 @@
 -- Numbers in their order, each once.
-use Rattle.std.proofs.Common.{◌≡◌, ℕ, zero, suc, ◌<◌, ◌⊎◌, inl, inr, List, [], ◌∷◌, length, get_or, Some, arith, refl, ap}
+use Rattle.std.proofs.Common.{◌≡◌, ℕ, zero, suc, ◌<◌, ◌≤◌, ◌⊎◌, inl, inr, Bool, List, [], ◌∷◌, length, get_or, Some, Result, Ok, Err, nat_cmp, arith, refl, sym, ap, subst}
+use Rattle.std.specs.Prelude.{MatchBool, is_ok}
 use Rattle.std.specs.List.{slice_get, Contains}
-use Rattle.std.specs.List.Sorted.{IsStrictlyIncreasing}
+use Rattle.std.specs.List.Sorted.{IsStrictlyIncreasing, IsBinarySearchResult}
+use Rattle.std.proofs.lemmas.Bool.{cases_lt}
+use Rattle.std.proofs.lemmas.List.Sorted.{searched}
 use Rattle.std.proofs.lemmas.Map.Keys.{sorted_from_strictly_increasing, below_from_sorted}
 use Rattle.vlog_runs.specs.Places.{Among}
 use Rattle.elab_flow.proofs.Choosing.{got, got_lt}
@@ -35,3 +38,32 @@ pub among_contains : (xs : List ℕ) (x : ℕ) → Among xs x → Contains xs x
 among_contains [] x h = absurd h
 among_contains (y ∷ ys) x (inl e) = (0, omega arith, e)
 among_contains (y ∷ ys) x (inr h) = let r = among_contains ys x h in (suc r.0, omega arith, r.2)
+
+-- ---- whether one stands there
+
+among_index : (xs : List ℕ) (x : ℕ) → Among xs x → (k : ℕ) × (k < length xs) × (get_or xs k 0 ≡ x)
+among_index [] x h = absurd h
+among_index (y ∷ ys) x (inl e) = (0, omega arith, e)
+among_index (y ∷ ys) x (inr h) = let r = among_index ys x h in let lt : r.0 < length ys = r.1 in (suc r.0, omega arith, r.2)
+
+index_among : (xs : List ℕ) (k x : ℕ) → k < length xs → get_or xs k 0 ≡ x → Among xs x
+index_among [] k x lt e = absurd (omega arith)
+index_among (y ∷ ys) zero x lt e = inl e
+index_among (y ∷ ys) (suc k) x lt e = inr (index_among ys k x (omega arith) e)
+
+rising_up : (xs : List ℕ) → IsStrictlyIncreasing xs → (i j : ℕ) → i ≤ j → j < length xs → get_or xs i 0 ≤ get_or xs j 0
+rising_up xs rises i j le lt = elim (apart i j) [
+  | inl e ↦ (let same : get_or xs i 0 ≡ get_or xs j 0 = ap (λ k. get_or xs k 0) e in omega arith)
+  | inr h ↦ elim h [ inl k ↦ (let f : get_or xs i 0 < get_or xs j 0 = below_from_sorted xs i j 0 (sorted_from_strictly_increasing xs rises) k lt in omega arith) | inr k ↦ absurd (omega arith) ]
+]
+
+pub sought : (xs : List ℕ) (x : ℕ) (r : Result ℕ ℕ) (b : Bool) → IsStrictlyIncreasing xs → IsBinarySearchResult (λ y. nat_cmp y x) xs r → b ≡ is_ok r → MatchBool b (Among xs x) (Among xs x → ⊥)
+sought xs x (Ok i) b rises found e =
+    let k = searched xs x (Ok i) found (rising_up xs rises) in
+    subst (λ z. MatchBool z (Among xs x) (Among xs x → ⊥)) (sym e) (index_among xs i x k.0 k.1)
+sought xs x (Err i) b rises found e =
+    let k = searched xs x (Err i) found (rising_up xs rises) in
+    subst (λ z. MatchBool z (Among xs x) (Among xs x → ⊥)) (sym e) (λ h. let m = among_index xs x h in outside k m.0 m.1 m.2)
+  where
+    outside : (i ≤ length xs) × ((k : ℕ) → k < i → get_or xs k 0 < x) × ((k : ℕ) → i ≤ k → k < length xs → x < get_or xs k 0) → (j : ℕ) → j < length xs → get_or xs j 0 ≡ x → ⊥
+    outside k j lt e = elim (cases_lt j i) [ inl l ↦ (let f : get_or xs j 0 < x = k.1 j l in omega arith) | inr g ↦ (let f : x < get_or xs j 0 = k.2 j g lt in omega arith) ]

@@ -106,7 +106,7 @@ listed (Some x) i (inr e) = absurd e
 pub listing : (o : Option ℕ) (i : ℕ) → o ≡ Some i → Among (option_to_list o) i
 listing o i e = subst (λ z. Among (option_to_list z) i) (sym e) (inl refl)
 
-placed : (names : List Name) (qs : List Lval) (i : ℕ) → Among (part_places names qs) i ↔ IsPlaceOf names (map part_name qs) i
+pub placed : (names : List Name) (qs : List Lval) (i : ℕ) → Among (part_places names qs) i ↔ IsPlaceOf names (map part_name qs) i
 placed names qs i = (there, back)
   where
     there : Among (part_places names qs) i → IsPlaceOf names (map part_name qs) i

@@ -1,5 +1,5 @@
 -- Dependences of signals as edges of a graph of their places (IEEE 1364-2005, sections 6.1 and 9.4).
-use Rattle.std.specs.Prelude.{ℕ, ◌≡◌, ◌+◌, ◌*◌, ◌<◌, ◌↔◌, ◌++◌, Bool, false, List, map, slice_index}
+use Rattle.std.specs.Prelude.{ℕ, ◌≡◌, ◌<◌, ◌↔◌, ◌++◌, false, List, map, slice_index}
 use Rattle.std.specs.List.{flat_map}
 use Rattle.std.specs.Option.{option_to_list}
 use Rattle.vlog_tree.specs.declared.item.Assign.{Assign}
@@ -16,7 +16,6 @@ use Rattle.elab_drive.specs.Claims.{part_name}
 use Rattle.elab_drive.specs.Wanting.{left_reads}
 use Rattle.elab_order.specs.Graphs.{successors, Among as Lists}
 use Rattle.elab_flow.specs.declared.edges.Edge.{Edge}
-use Rattle.elab_flow.specs.Sets.{Has}
 use Rattle.elab_flow.specs.Shows.{IsAt}
 
 abbrev pub edge : ℕ → ℕ → Edge
@@ -45,12 +44,9 @@ assign_edges names a = pairs (part_places names (parts_of a.left)) (part_places 
 abbrev pub AreDependences : Flat → List (List ℕ) → Type 0
 AreDependences f g = (i j : ℕ) (y z : Name) → IsAt f.signals i y → IsAt f.signals j z → Lists (successors g i) j ↔ DependsOn f y z
 
--- the cells of a row of a table of n columns, and those of all rows
-abbrev pub IsCell : ℕ → ℕ → List Bool → Edge → Type 0
-IsCell n i table e = (e.from ≡ i) × (e.to < n) × Has table (i * n + e.to)
-
-abbrev pub IsCellBelow : ℕ → ℕ → List Bool → Edge → Type 0
-IsCellBelow n k table e = (e.from < k) × (e.to < n) × Has table (e.from * n + e.to)
+-- from each of k places to those in its row
+abbrev pub IsInRows : ℕ → (ℕ → List ℕ) → Edge → Type 0
+IsInRows k rows e = (e.from < k) × Among (rows e.from) e.to
 
 -- on some path through a combinational block an assignment to the one depends on the other
 abbrev pub IsBlockEdge : List Signal → Always → Edge → Type 0

@@ -8,3 +8,5 @@ pub mod Words
 pub mod Asked
 pub mod Edges
 pub mod Own
+pub mod Assigned
+pub mod Branches

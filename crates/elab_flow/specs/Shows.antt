@@ -1,5 +1,5 @@
 -- When tables say what a flow says.
-use Rattle.std.specs.Prelude.{ℕ, zero, suc, ◌≡◌, ◌+◌, ◌*◌, ◌<◌, ◌↔◌, Bool, List, [], ◌∷◌, length}
+use Rattle.std.specs.Prelude.{ℕ, zero, suc, ◌≡◌, ◌<◌, ◌↔◌, Bool, List, [], ◌∷◌, length}
 use Rattle.std.specs.List.{flat_map}
 use Rattle.vlog_tree.specs.declared.expr.Expr.{Expr}
 use Rattle.vlog_tree.specs.declared.stmt.Stmt.{Stmt, Row_of-Stmt, end_of-Stmt, more_of-Stmt, Row_of-CaseItem, end_of-CaseItem, more_of-CaseItem}
@@ -23,12 +23,18 @@ IsAt (g ∷ gs) (suc i) x = IsAt gs i x
 abbrev pub Marks : List Signal → List Bool → (Name → Type 0) → Type 0
 Marks gs set P = (i : ℕ) (x : Name) → IsAt gs i x → Has set i ↔ P x
 
+-- a list has the places of the names that are so
+pub record ArePlacesOf (gs : List Signal) (places : List ℕ) (P : Name → Type 0) : Type 0 where
+  pub within : (i : ℕ) → Among places i → i < length gs
+  pub each : (i : ℕ) (x : Name) → IsAt gs i x → Among places i ↔ P x
+
 -- the tables of a block say what a flow says
 pub record Shows (gs : List Signal) (s : Tables) (w : Flow) : Type 0 where
   pub unset : (i b : ℕ) (x : Name) → IsAt gs i x → b < width_in (place_over gs) x → HasBit s.unset i b ↔ w.unset x b
   pub clear : (i b : ℕ) (x : Name) → IsAt gs i x → HasBit s.unset i b → b < width_in (place_over gs) x
-  pub through : (i j : ℕ) (y z : Name) → IsAt gs i y → IsAt gs j z → Has s.through (i * length gs + j) ↔ w.through y z
-  pub outside : (i : ℕ) (x : Name) → IsAt gs i x → Has s.outside i ↔ w.outside x
+  pub through : (i j : ℕ) (y z : Name) → IsAt gs i y → IsAt gs j z → Among (s.through i) j ↔ w.through y z
+  pub row : (i j : ℕ) (y : Name) → IsAt gs i y → Among (s.through i) j → j < length gs
+  pub outside : ArePlacesOf gs s.outside w.outside
 
 -- each name in expressions is that of a signal
 abbrev pub AreDeclared : List Signal → List Expr → Type 0

@@ -10,7 +10,6 @@ ghost use Rattle.elab_flow.specs.Shows.{Shows};
 use crate::flow::BlockFlow;
 use crate::pass::pass;
 use crate::scope::Scope;
-use crate::sets::none;
 use std::alloc::{AllocError, Global};
 use vlog_tree::Stmt;
 
@@ -19,10 +18,10 @@ pub fn flow_of(alloc: Global, scope: &Scope<'_>, body: &Stmt) -> Result<BlockFlo
     requires signals { AreVectors scope.now }
     requires body { IsPassable scope.now body.now }
     ensures shows { IfOk result (λ r. Shows scope.now (tables r) (block_flow (place_over scope.now) body.now)) }
-    ensures sized { IfOk result (λ r. IsSized (length scope.now) (tables r)) }
+    ensures sized { IfOk result (λ r. IsSized (length scope.now) r) }
 {
     let mut flow = BlockFlow::start(alloc, scope.list())?;
-    let around = none(alloc, scope.list().len())?;
+    let around = Vec::new(alloc);
     pass(&mut flow, alloc, scope, &around, body)?;
     Ok(flow)
 }

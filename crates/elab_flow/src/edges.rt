@@ -1,12 +1,12 @@
 // Dependences of signals as edges of a graph of their places (IEEE 1364-2005, sections 6.1 and 9.4).
 
-ghost use Rattle.std.specs.Prelude.{◌≡◌, ◌++◌, ◌+◌, ◌*◌, ◌<◌, ◌⊎◌, ◌↔◌, ℕ, false, map, length, IfOk, OnOk};
+ghost use Rattle.std.specs.Prelude.{◌≡◌, ◌++◌, ◌<◌, ◌⊎◌, ◌↔◌, ℕ, false, map, length, IfOk, OnOk};
 ghost use Rattle.std.specs.List.{flat_map};
 ghost use Rattle.vlog_runs.specs.Places.{Among};
+ghost use Rattle.elab_order.specs.Graphs.{graph_of, successors};
 ghost use Rattle.elab_flow.specs.Asked.{AreVectors, IsPassable, ArePassable};
-ghost use Rattle.elab_flow.specs.Edges.{edge, moved_edge, pairs, assign_edges, IsCell, IsCellBelow, IsBlockEdge, AnyBlockEdge};
+ghost use Rattle.elab_flow.specs.Edges.{edge, moved_edge, pairs, assign_edges, IsInRows, IsBlockEdge, AnyBlockEdge};
 ghost use Rattle.elab_flow.specs.declared.edges.Edge.{Edge as Arrow};
-ghost use Rattle.elab_flow.specs.Sets.{tables, IsSized};
 
 use crate::block::flow_of;
 use crate::own::{own_signals, whole_place};
@@ -79,30 +79,11 @@ pub fn assigns_edges(
 
 // ---- combinational blocks
 
-fn add_row_cells(
-    all: &mut Vec<Edge>,
-    from: usize,
-    count: usize,
-    table: &[bool],
-) -> Result<(), AllocError>
-    requires row { from < count }
-    requires table { length table.now ≡ count * count }
-    ensures { OnOk result ((e : Arrow) → Among all.new.items e ↔ (Among all.old.items e ⊎ IsCell count from table.now e)) }
+fn add_rows(all: &mut Vec<Edge>, rows: &[Vec<usize>]) -> Result<(), AllocError>
+    ensures { OnOk result ((e : Arrow) → Among all.new.items e ↔ (Among all.old.items e ⊎ IsInRows (length rows.now) (λ i. successors (graph_of rows.now) i) e)) }
 {
-    for to in 0..count {
-        if table[from * count + to] {
-            all.push(Edge { from, to })?;
-        }
-    }
-    Ok(())
-}
-
-fn add_cells(all: &mut Vec<Edge>, count: usize, table: &[bool]) -> Result<(), AllocError>
-    requires { length table.now ≡ count * count }
-    ensures { OnOk result ((e : Arrow) → Among all.new.items e ↔ (Among all.old.items e ⊎ IsCellBelow count count table.now e)) }
-{
-    for from in 0..count {
-        add_row_cells(all, from, count, table)?;
+    for from in 0..rows.len() {
+        add_edges(all, from, &rows[from])?;
     }
     Ok(())
 }
@@ -119,7 +100,7 @@ fn add_block_edges(
 {
     if !block.clocked {
         let flow = flow_of(alloc, scope, &block.body)?;
-        add_cells(all, scope.list().len(), &flow.through)?;
+        add_rows(all, &flow.through)?;
     }
     Ok(())
 }

@@ -1,6 +1,6 @@
 // What each signal depends on, as a graph of their places (IEEE 1364-2005, sections 6.1 and 9.4).
 
-ghost use Rattle.std.specs.Prelude.{◌≡◌, ◌<◌, ◌⊎◌, ◌↔◌, ℕ, [], length, replicate, IfOk, OnOk};
+ghost use Rattle.std.specs.Prelude.{◌≡◌, ◌<◌, ◌⊎◌, ◌↔◌, ℕ, length, IfOk, OnOk};
 ghost use Rattle.vlog_runs.specs.Places.{Among};
 ghost use Rattle.vlog_runs.specs.Cycles.{IsRegister};
 ghost use Rattle.elab_order.specs.Graphs.{graph_of, successors, IsGraph, Among as Lists};
@@ -13,20 +13,10 @@ ghost use Rattle.elab_flow.specs.Shows.{Marks};
 use crate::edges::{Edge, add_blocks_edges, assigns_edges};
 use crate::marks::mark_names;
 use crate::scope::Scope;
-use crate::sets::none;
+use crate::sets::{empty_rows, none};
 use elab_drive::{Form, block_names};
 use std::alloc::{AllocError, Global};
 use vlog_runs::Flat;
-
-fn empty_rows(alloc: Global, count: usize) -> Result<Vec<Vec<usize>>, AllocError>
-    ensures { IfOk result (λ r. graph_of r.items ≡ replicate count []) }
-{
-    let mut rows = Vec::new(alloc);
-    for _ in 0..count {
-        rows.push(Vec::new(alloc))?;
-    }
-    Ok(rows)
-}
 
 fn add_edge(graph: &mut Vec<Vec<usize>>, edge: Edge) -> Result<(), AllocError>
     requires { edge.from < length graph.old.items }

@@ -1,7 +1,9 @@
 //! What the bits of a combinational block depend on, over all its paths, in one pass through its text.
 #![tactic(auto)]
 
+mod assign;
 mod block;
+mod branches;
 mod cases;
 mod edges;
 mod flow;

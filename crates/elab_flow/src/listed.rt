@@ -8,13 +8,13 @@ ghost use Rattle.flow_laws.specs.Laws.{place_over};
 ghost use Rattle.elab_faults.specs.declared.fault.ElabFault.TheVariants as f;
 ghost use Rattle.elab_faults.specs.Stands.{Stands};
 ghost use Rattle.elab_flow.specs.Asked.{AreVectors, IsPassable, ArePassable, CanPass, ReadsBesides, BlockReadsUnlisted, AnyReadsUnlisted, OfSignal};
-ghost use Rattle.elab_flow.specs.Sets.{Has};
 ghost use Rattle.elab_flow.specs.Shows.{IsAt};
 
 use crate::block::flow_of;
 use crate::latch::name_at;
 use crate::own::{own_signals, whole_place};
 use crate::scope::Scope;
+use crate::sets::put_in_order;
 use flat_scopes::Names;
 use outside::Text;
 use std::alloc::{AllocError, Global};
@@ -31,15 +31,23 @@ fn borrowed(alloc: Global, texts: &[Text]) -> Result<Vec<&Text>, AllocError>
     Ok(all)
 }
 
-// The first place of a set whose signal isn't listed.
-fn absent(set: &[bool], signals: &[Signal], listed: &Names<'_>) -> Option<usize>
-    requires { length set.now ≡ length signals.now }
-    ensures some { IfSome result (λ i. OfSignal signals.now i (λ x. Has set.now i × (is_among listed.now x ≡ false))) }
-    ensures none { IfNone result ((i : ℕ) (x : Name) → IsAt signals.now i x → Has set.now i → is_among listed.now x ≡ true) }
+// Whether the name of the signal at a place is listed.
+fn is_listed(listed: &Names<'_>, signals: &[Signal], place: usize) -> bool
+    requires { place < length signals.now }
+    ensures { (x : Name) → IsAt signals.now place x → result ≡ is_among listed.now x }
 {
-    for i in 0..signals.len() {
-        if set[i] && !listed.has(signals[i].name.bytes()) {
-            return Some(i);
+    listed.has(signals[place].name.bytes())
+}
+
+// The first of some places whose signal isn't listed.
+fn absent(places: &[usize], signals: &[Signal], listed: &Names<'_>) -> Option<usize>
+    requires { (i : ℕ) → Among places.now i → i < length signals.now }
+    ensures some { IfSome result (λ i. OfSignal signals.now i (λ x. Among places.now i × (is_among listed.now x ≡ false))) }
+    ensures none { IfNone result ((i : ℕ) (x : Name) → IsAt signals.now i x → Among places.now i → is_among listed.now x ≡ true) }
+{
+    for place in places {
+        if !is_listed(listed, signals, *place) {
+            return Some(*place);
         }
     }
     None
@@ -57,7 +65,8 @@ fn unlisted_by(
     ensures some { IfOk result (λ o. IfSome o (λ i. OfSignal scope.now i (ReadsBesides (place_over scope.now) body.now listed.now))) }
     ensures none { IfOk result (λ o. IfNone o ((x : Name) → ReadsBesides (place_over scope.now) body.now listed.now x → ⊥)) }
 {
-    let flow = flow_of(alloc, scope, body)?;
+    let mut flow = flow_of(alloc, scope, body)?;
+    put_in_order(&mut flow.outside);
     let names = Names::of(alloc, borrowed(alloc, listed)?)?;
     let place = absent(&flow.outside, scope.list(), &names);
     Ok(place)

@@ -1,5 +1,5 @@
-// The signals that a statement names, apart from all others of a module: what is done for each pair of signals then goes with the size of the
-// statement alone.
+// The signals that a statement names, apart from all others of a module: what is done for each signal then goes with the size of the statement
+// alone.
 
 ghost use Rattle.std.specs.Prelude.{◌≡◌, ◌++◌, ◌<◌, ◌↔◌, ℕ, length, map, slice_index, IfOk, OnOk};
 ghost use Rattle.std.specs.List.{flat_map};
@@ -17,6 +17,7 @@ ghost use Rattle.elab_flow.specs.Words.{IsSignalAt};
 
 use crate::places::places_of;
 use crate::scope::Scope;
+use crate::sets::put_in_order;
 use elab_drive::{Part, Piece, add_parts, add_reads, add_store_reads, pieces_of};
 use outside::Text;
 use std::alloc::{AllocError, Global};
@@ -69,15 +70,6 @@ fn named_parts(alloc: Global, body: &Stmt) -> Result<Vec<Part<'_>>, AllocError>
         add_piece_parts(&mut all, alloc, *piece)?;
     }
     Ok(all)
-}
-
-// Puts numbers in their order, each once.
-fn put_in_order(numbers: &mut Vec<usize>)
-    ensures rises { IsStrictlyIncreasing numbers.new.items }
-    ensures same { (i : ℕ) → Among numbers.new.items i ↔ Among numbers.old.items i }
-{
-    numbers.sort_unstable();
-    numbers.dedup();
 }
 
 // The places of a statement's names, in their order.

@@ -1,56 +1,51 @@
-// One pass through the text of a block (IEEE 1364-2005, sections 9.2, 9.4, 9.5 and 9.8).
+// One pass through the text of a block (IEEE 1364-2005, sections 9.2, 9.4, 9.5 and 9.8). The branches of a statement begin one after another
+// where the statement does: what a branch changes is noted, and put back after it. So a statement takes time by what it names, and not by all
+// that the block names.
 
-ghost use Rattle.std.specs.Prelude.{◌≡◌, ◌∷◌, [], map, length, OnOk, IfOk};
-ghost use Rattle.std.specs.List.{flat_map};
-ghost use Rattle.vlog_tree.specs.declared.expr.Expr.{Expr as Text};
+ghost use Rattle.std.specs.Prelude.{◌≡◌, ◌↔◌, ◌∷◌, ℕ, Bool, false, true, [], map, length, List, MatchBool, OnOk, IfOk};
 ghost use Rattle.vlog_tree.specs.declared.stmt.Lval.{Lval as Left};
 ghost use Rattle.vlog_runs.specs.Places.{Among};
 ghost use Rattle.elab_faults.specs.Drivers.{parts_of};
 ghost use Rattle.elab_drive.specs.Claims.{IsPartReady};
-ghost use Rattle.elab_drive.specs.Spots.{signal_name};
+ghost use Rattle.elab_flow.specs.Assigned.{AnyAt, IsAssigned};
+ghost use Rattle.elab_flow.specs.Branches.{AnyAssigned, BranchTo, Gathered, bodies_of};
 ghost use Rattle.elab_flow.specs.Cases.{at_rest, expr_meant, labels_of, IsComparable};
-ghost use Rattle.elab_flow.specs.Passes.{AssignTo, EnterTo, PastEachTo, Passes, EachPasses, EachItemPasses};
+ghost use Rattle.elab_flow.specs.Passes.{AssignTo, EnterTo, LeadsPastEach, Passes, EachPasses, EachItemPasses};
 ghost use Rattle.elab_flow.specs.Ready.{IsReady, EachReady, EachItemReady};
-ghost use Rattle.elab_flow.specs.Sets.{tables, IsSized};
+ghost use Rattle.elab_flow.specs.Sets.{Tables as Known, tables, IsSized, ChangesAt};
 ghost use Rattle.elab_flow.specs.Shows.{AreDistinct};
 ghost use Rattle.elab_flow.specs.Words.{AreNarrow};
 
+use crate::assign::assign_left;
+use crate::branches::{Branches, spots_at};
 use crate::cases::{has_default, is_full, labels_of};
 use crate::flow::BlockFlow;
-use crate::places::{places_compared, places_left, places_read, places_tested};
+use crate::places::{assigned, places_compared, places_read, places_tested};
 use crate::scope::Scope;
-use crate::words::set_words;
-use flat_scopes::Names;
 use sqlite_items::{Boxed, Items};
 use std::alloc::{AllocError, Global};
-use vlog_runs::Signal;
 use vlog_tree::{CaseItem, CaseKind, Expr, Lval, Stmt};
 
 /// After an assignment, with the places that the conditions around it count as. Refused only for want of memory.
 pub fn pass_assignment(
     flow: &mut BlockFlow,
     alloc: Global,
-    signals: &[Signal],
-    names: &Names<'_>,
-    around: &[bool],
+    scope: &Scope<'_>,
+    around: &[usize],
     left: &Lval,
     right: &Expr,
 ) -> Result<(), AllocError>
-    requires names { names.now ≡ map signal_name signals.now }
-    requires distinct { AreDistinct signals.now }
-    requires narrow { AreNarrow signals.now }
+    requires distinct { AreDistinct scope.now }
+    requires narrow { AreNarrow scope.now }
     requires ready { (q : Left) → Among (parts_of left.now) q → IsPartReady q }
-    requires sized { IsSized (length around.now) (tables flow.old) }
-    requires around { length around.now ≡ length signals.now }
-    ensures assigned { OnOk result (AssignTo signals.now around.now left.now right.now (tables flow.old) (tables flow.new)) }
-    ensures sized { OnOk result (IsSized (length around.now) (tables flow.new)) }
+    requires sized { IsSized (length scope.now) flow.old }
+    ensures assigned { OnOk result (AssignTo scope.now around.now left.now right.now (tables flow.old) (tables flow.new)) }
+    ensures changes { OnOk result (ChangesAt (λ i. AnyAt scope.now (parts_of left.now) i) (tables flow.old) (tables flow.new)) }
+    ensures sized { OnOk result (IsSized (length scope.now) flow.new) }
 {
-    let read = places_read(alloc, signals, names, left, right)?;
-    let rows = places_left(alloc, signals, names, left)?;
-    let words = set_words(alloc, signals, names, left)?;
+    let read = places_read(alloc, scope, left, right)?;
     let sources = flow.enter(alloc, &read, around)?;
-    flow.assign(&words, &rows, &sources);
-    Ok(())
+    assign_left(flow, alloc, scope, left, &sources)
 }
 
 // Where a condition is read; what it counts as, with the conditions around it.
@@ -58,17 +53,16 @@ fn enter_test(
     flow: &mut BlockFlow,
     alloc: Global,
     scope: &Scope<'_>,
-    around: &[bool],
+    around: &[usize],
     test: &Expr,
-) -> Result<Vec<bool>, AllocError>
+) -> Result<Vec<usize>, AllocError>
     requires distinct { AreDistinct scope.now }
-    requires sized { IsSized (length around.now) (tables flow.old) }
-    requires around { length around.now ≡ length scope.now }
+    requires sized { IsSized (length scope.now) flow.old }
     ensures enters { IfOk result (λ r. EnterTo scope.now around.now (test.now ∷ []) (tables flow.old) (tables flow.new) r.items) }
-    ensures size { IfOk result (λ r. length r.items ≡ length around.now) }
-    ensures sized { OnOk result (IsSized (length around.now) (tables flow.new)) }
+    ensures changes { OnOk result (ChangesAt (λ i. ⊥) (tables flow.old) (tables flow.new)) }
+    ensures sized { OnOk result (IsSized (length scope.now) flow.new) }
 {
-    let read = places_tested(alloc, scope.list(), scope.names(), test)?;
+    let read = places_tested(alloc, scope, test)?;
     let inner = flow.enter(alloc, &read, around)?;
     Ok(inner)
 }
@@ -78,48 +72,79 @@ fn enter_case(
     flow: &mut BlockFlow,
     alloc: Global,
     scope: &Scope<'_>,
-    around: &[bool],
+    around: &[usize],
     subject: &Expr,
     labels: &[&Expr],
-) -> Result<Vec<bool>, AllocError>
+) -> Result<Vec<usize>, AllocError>
     requires distinct { AreDistinct scope.now }
-    requires sized { IsSized (length around.now) (tables flow.old) }
-    requires around { length around.now ≡ length scope.now }
+    requires sized { IsSized (length scope.now) flow.old }
     ensures enters { IfOk result (λ r. EnterTo scope.now around.now (subject.now ∷ map expr_meant labels.now) (tables flow.old) (tables flow.new) r.items) }
-    ensures size { IfOk result (λ r. length r.items ≡ length around.now) }
-    ensures sized { OnOk result (IsSized (length around.now) (tables flow.new)) }
+    ensures changes { OnOk result (ChangesAt (λ i. ⊥) (tables flow.old) (tables flow.new)) }
+    ensures sized { OnOk result (IsSized (length scope.now) flow.new) }
 {
-    let read = places_compared(alloc, scope.list(), scope.names(), subject, labels)?;
+    let read = places_compared(alloc, scope, subject, labels)?;
     let inner = flow.enter(alloc, &read, around)?;
     Ok(inner)
 }
 
-// What leads past the items of a case statement.
-fn past(
-    flow: &BlockFlow,
+// Whether a path leads past the items of a case statement.
+fn leads_past(
     alloc: Global,
     scope: &Scope<'_>,
     kind: CaseKind,
     subject: &Expr,
     labels: &[&Expr],
     items: &[CaseItem],
-) -> Result<BlockFlow, AllocError>
-    requires sized { IsSized (length scope.now) (tables flow.now) }
+) -> Result<bool, AllocError>
     requires labels { map expr_meant labels.now ≡ labels_of items.now }
     requires ready { IsComparable (at_rest scope.now) subject.now (labels_of items.now) }
-    ensures past { IfOk result (λ r. PastEachTo scope.now kind subject.now items.now (tables flow.now) (tables r)) }
-    ensures sized { IfOk result (λ r. IsSized (length scope.now) (tables r)) }
+    ensures { IfOk result (λ r. MatchBool r (LeadsPastEach scope.now kind subject.now items.now) (LeadsPastEach scope.now kind subject.now items.now → ⊥)) }
 {
     if has_default(items) {
-        let none = BlockFlow::nowhere(alloc, scope.list().len())?;
-        return Ok(none);
+        return Ok(false);
     }
-    if is_full(alloc, kind, subject, labels, scope)? {
-        let none = BlockFlow::nowhere(alloc, scope.list().len())?;
-        return Ok(none);
+    let full = is_full(alloc, kind, subject, labels, scope)?;
+    Ok(!full)
+}
+
+// No branch of a statement yet, where a path leads past all of them or none does.
+fn branches_of(
+    alloc: Global,
+    scope: &Scope<'_>,
+    stmt: &Stmt,
+    past: bool,
+) -> Result<Branches, AllocError>
+    ensures spots { IfOk result (λ r. r.spots.items ≡ []) }
+    ensures common { IfOk result (λ r. (i : ℕ) → Among r.common.items i ↔ ((past ≡ false) × IsAssigned scope.now stmt.now i)) }
+    ensures outside { IfOk result (λ r. r.outside.items ≡ []) }
+{
+    if past {
+        return Ok(Branches::of(alloc, Vec::new(alloc)));
     }
-    let same = flow.copy(alloc)?;
-    Ok(same)
+    let places = assigned(alloc, scope, stmt)?;
+    Ok(Branches::of(alloc, places))
+}
+
+// No item of a case statement yet.
+fn case_branches(
+    alloc: Global,
+    scope: &Scope<'_>,
+    stmt: &Stmt,
+    kind: CaseKind,
+    subject: &Expr,
+    labels: &[&Expr],
+    items: &[CaseItem],
+) -> Result<Branches, AllocError>
+    requires labels { map expr_meant labels.now ≡ labels_of items.now }
+    requires ready { IsComparable (at_rest scope.now) subject.now (labels_of items.now) }
+    ensures spots { IfOk result (λ r. r.spots.items ≡ []) }
+    ensures common { IfOk result (λ r. (past : Bool) × MatchBool past (LeadsPastEach scope.now kind subject.now items.now) (LeadsPastEach scope.now kind subject.now items.now → ⊥)
+        × ((i : ℕ) → Among r.common.items i ↔ ((past ≡ false) × IsAssigned scope.now stmt.now i))) }
+    ensures outside { IfOk result (λ r. r.outside.items ≡ []) }
+{
+    let past = leads_past(alloc, scope, kind, subject, labels, items)?;
+    let branches = branches_of(alloc, scope, stmt, past)?;
+    Ok(branches)
 }
 
 /// After a statement, with the places that the conditions around it count as. Refused only for want of memory.
@@ -128,16 +153,16 @@ pub fn pass(
     flow: &mut BlockFlow,
     alloc: Global,
     scope: &Scope<'_>,
-    around: &[bool],
+    around: &[usize],
     stmt: &Stmt,
 ) -> Result<(), AllocError>
     requires distinct { AreDistinct scope.now }
     requires narrow { AreNarrow scope.now }
     requires ready { IsReady scope.now stmt.now }
-    requires sized { IsSized (length scope.now) (tables flow.old) }
-    requires around { length around.now ≡ length scope.now }
+    requires sized { IsSized (length scope.now) flow.old }
     ensures passes { OnOk result (Passes scope.now around.now stmt.now (tables flow.old) (tables flow.new)) }
-    ensures sized { OnOk result (IsSized (length scope.now) (tables flow.new)) }
+    ensures changes { OnOk result (ChangesAt (λ i. IsAssigned scope.now stmt.now i) (tables flow.old) (tables flow.new)) }
+    ensures sized { OnOk result (IsSized (length scope.now) flow.new) }
 {
     match stmt {
         Stmt::Empty => Ok(()),
@@ -145,39 +170,30 @@ pub fn pass(
         Stmt::If(test, body) => {
             let body = body.get();
             let inner = enter_test(flow, alloc, scope, around, test)?;
-            let otherwise = flow.copy(alloc)?;
-            pass(flow, alloc, scope, &inner, body)?;
-            flow.join(&otherwise);
-            Ok(())
+            let mut branches = branches_of(alloc, scope, stmt, true)?;
+            pass_branch(&mut branches, flow, alloc, scope, &inner, body)?;
+            flow.join(alloc, &branches)
         }
         Stmt::IfElse(test, body, other) => {
             let body = body.get();
             let other = other.get();
             let inner = enter_test(flow, alloc, scope, around, test)?;
-            let mut otherwise = flow.copy(alloc)?;
-            pass(flow, alloc, scope, &inner, body)?;
-            pass(&mut otherwise, alloc, scope, &inner, other)?;
-            flow.join(&otherwise);
-            Ok(())
+            let mut branches = branches_of(alloc, scope, stmt, false)?;
+            pass_branch(&mut branches, flow, alloc, scope, &inner, body)?;
+            pass_branch(&mut branches, flow, alloc, scope, &inner, other)?;
+            flow.join(alloc, &branches)
         }
         Stmt::Case(kind, subject, items) => {
             let items = items.as_slice();
             let labels = labels_of(alloc, items)?;
             let inner = enter_case(flow, alloc, scope, around, subject, &labels)?;
-            let mut all = past(flow, alloc, scope, *kind, subject, &labels, items)?;
-            pass_items(&mut all, flow, alloc, scope, &inner, items)?;
-            *flow = all;
-            Ok(())
+            let mut branches = case_branches(alloc, scope, stmt, *kind, subject, &labels, items)?;
+            pass_items(&mut branches, flow, alloc, scope, &inner, items)?;
+            flow.join(alloc, &branches)
         }
-        Stmt::Blocking(left, right) | Stmt::Nonblocking(left, right) => pass_assignment(
-            flow,
-            alloc,
-            scope.list(),
-            scope.names(),
-            around,
-            left,
-            right,
-        ),
+        Stmt::Blocking(left, right) | Stmt::Nonblocking(left, right) => {
+            pass_assignment(flow, alloc, scope, around, left, right)
+        }
     }
 }
 
@@ -187,16 +203,16 @@ fn pass_row(
     flow: &mut BlockFlow,
     alloc: Global,
     scope: &Scope<'_>,
-    around: &[bool],
+    around: &[usize],
     stmts: &[Stmt],
 ) -> Result<(), AllocError>
     requires distinct { AreDistinct scope.now }
     requires narrow { AreNarrow scope.now }
     requires ready { EachReady scope.now stmts.now }
-    requires sized { IsSized (length scope.now) (tables flow.old) }
-    requires around { length around.now ≡ length scope.now }
+    requires sized { IsSized (length scope.now) flow.old }
     ensures passes { OnOk result (EachPasses scope.now around.now stmts.now (tables flow.old) (tables flow.new)) }
-    ensures sized { OnOk result (IsSized (length scope.now) (tables flow.new)) }
+    ensures changes { OnOk result (ChangesAt (λ i. AnyAssigned scope.now stmts.now i) (tables flow.old) (tables flow.new)) }
+    ensures sized { OnOk result (IsSized (length scope.now) flow.new) }
 {
     for stmt in stmts {
         pass(flow, alloc, scope, around, stmt)?;
@@ -204,29 +220,56 @@ fn pass_row(
     Ok(())
 }
 
-// The items of a case statement, each from the same place; what they do is added.
+// A branch of a statement, after which the flow is what it was before.
 #[cycle(pass)]
-fn pass_items(
-    all: &mut BlockFlow,
-    flow: &BlockFlow,
+fn pass_branch(
+    branches: &mut Branches,
+    flow: &mut BlockFlow,
     alloc: Global,
     scope: &Scope<'_>,
-    around: &[bool],
+    around: &[usize],
+    body: &Stmt,
+) -> Result<(), AllocError>
+    requires distinct { AreDistinct scope.now }
+    requires narrow { AreNarrow scope.now }
+    requires ready { IsReady scope.now body.now }
+    requires sized { IsSized (length scope.now) flow.old }
+    ensures branch { OnOk result ((u : Known) × Passes scope.now around.now body.now (tables flow.old) u × BranchTo scope.now body.now (tables flow.old) u branches.old branches.new) }
+    ensures back { OnOk result (tables flow.new ≡ tables flow.old) }
+    ensures sized { OnOk result (IsSized (length scope.now) flow.new) }
+{
+    let places = assigned(alloc, scope, body)?;
+    let before = spots_at(alloc, flow, &places)?;
+    let reads = flow.outside.len();
+    pass(flow, alloc, scope, around, body)?;
+    branches.add(alloc, flow, &places, reads)?;
+    flow.put_back(alloc, &before)?;
+    flow.outside.truncate(reads);
+    Ok(())
+}
+
+// The items of a case statement.
+#[cycle(pass)]
+fn pass_items(
+    branches: &mut Branches,
+    flow: &mut BlockFlow,
+    alloc: Global,
+    scope: &Scope<'_>,
+    around: &[usize],
     items: &[CaseItem],
 ) -> Result<(), AllocError>
     requires distinct { AreDistinct scope.now }
     requires narrow { AreNarrow scope.now }
     requires ready { EachItemReady scope.now items.now }
-    requires all { IsSized (length scope.now) (tables all.old) }
-    requires sized { IsSized (length scope.now) (tables flow.now) }
-    requires around { length around.now ≡ length scope.now }
-    ensures passes { OnOk result (EachItemPasses scope.now around.now items.now (tables flow.now) (tables all.old) (tables all.new)) }
-    ensures sized { OnOk result (IsSized (length scope.now) (tables all.new)) }
+    requires sized { IsSized (length scope.now) flow.old }
+    requires spots { branches.old.spots.items ≡ [] }
+    requires outside { branches.old.outside.items ≡ [] }
+    ensures items { OnOk result ((us : List Known) × EachItemPasses scope.now around.now items.now (tables flow.old) us × Gathered scope.now (bodies_of items.now) (tables flow.old) us branches.old.common.items branches.new) }
+    ensures back { OnOk result (tables flow.new ≡ tables flow.old) }
+    ensures sized { OnOk result (IsSized (length scope.now) flow.new) }
 {
     for item in items {
-        let mut branch = flow.copy(alloc)?;
-        pass(&mut branch, alloc, scope, around, &item.body)?;
-        all.join(&branch);
+        pass_branch(branches, flow, alloc, scope, around, &item.body)?;
     }
     Ok(())
 }

@@ -1,8 +1,10 @@
-// Sets of places, as tables of truth values, and tables of bits.
+// Sets of places: as tables of truth values, and as lists.
 
-ghost use Rattle.std.specs.Prelude.{◌≡◌, ℕ, ◌+◌, ◌*◌, ◌<◌, ◌≤◌, ◌||◌, ◌&&◌, ◌⊎◌, ◌↔◌, length, bit_or, slice_index, replicate, false, IfOk};
+ghost use Rattle.std.specs.Prelude.{◌≡◌, ℕ, ◌<◌, ◌⊎◌, ◌↔◌, [], length, replicate, false, IfOk, OnOk, MatchBool};
 ghost use Rattle.std.specs.Int.{bit_at};
-ghost use Rattle.elab_flow.specs.Sets.{at, is_open, HasBit, Has, RowsHave, CountsIn};
+ghost use Rattle.std.specs.List.Sorted.{IsStrictlyIncreasing};
+ghost use Rattle.vlog_runs.specs.Places.{Among};
+ghost use Rattle.elab_order.specs.Graphs.{graph_of};
 
 use std::alloc::{AllocError, Global};
 
@@ -14,115 +16,61 @@ pub fn none(alloc: Global, count: usize) -> Result<Vec<bool>, AllocError>
     vec![in alloc; false; count]
 }
 
-/// A table of so many rows of so many truth values, none of them true. Refused only for want of memory.
-pub fn square(alloc: Global, count: usize) -> Result<Vec<bool>, AllocError>
-    ensures { IfOk result (λ r. r.items ≡ replicate (count * count) false) }
+/// So many lists of places that have none. Refused only for want of memory.
+pub fn empty_rows(alloc: Global, count: usize) -> Result<Vec<Vec<usize>>, AllocError>
+    ensures { IfOk result (λ r. graph_of r.items ≡ replicate count []) }
 {
-    let row = none(alloc, count)?;
-    let mut all = Vec::new(alloc);
+    let mut rows = Vec::new(alloc);
     for _ in 0..count {
-        all.extend_from_slice(&row)?;
+        rows.push(Vec::new(alloc))?;
+    }
+    Ok(rows)
+}
+
+/// Puts places in their order, each once.
+pub fn put_in_order(places: &mut Vec<usize>)
+    ensures rises { IsStrictlyIncreasing places.new.items }
+    ensures same { (i : ℕ) → Among places.new.items i ↔ Among places.old.items i }
+{
+    places.sort_unstable();
+    places.dedup();
+}
+
+/// Adds places to a list of places, in which each stands once. Refused only for want of memory.
+pub fn add_places(all: &mut Vec<usize>, places: &[usize]) -> Result<(), AllocError>
+    ensures { OnOk result ((i : ℕ) → Among all.new.items i ↔ (Among all.old.items i ⊎ Among places.now i)) }
+{
+    all.extend_from_slice(places)?;
+    put_in_order(all);
+    Ok(())
+}
+
+// Whether a place stands in a list.
+fn has(rising: &[usize], place: usize) -> bool
+    requires { IsStrictlyIncreasing rising.now }
+    ensures { MatchBool result (Among rising.now place) (Among rising.now place → ⊥) }
+{
+    rising.binary_search(&place).is_ok()
+}
+
+/// Those of some places that stand in a list, too. Refused only for want of memory.
+pub fn both(alloc: Global, places: &[usize], rising: &[usize]) -> Result<Vec<usize>, AllocError>
+    requires { IsStrictlyIncreasing rising.now }
+    ensures { IfOk result (λ r. (i : ℕ) → Among r.items i ↔ (Among places.now i × Among rising.now i)) }
+{
+    let mut all = Vec::new(alloc);
+    for place in places {
+        if has(rising, *place) {
+            all.push(*place)?;
+        }
     }
     Ok(all)
 }
 
-/// Adds what a row of a table has, which begins at a place.
-pub fn add_row(set: &mut [bool], table: &[bool], from: usize)
-    requires { from + length set.old ≤ length table.now }
-    ensures { (i : ℕ) → i < length set.old → at set.new i ≡ (at set.old i || at table.now (from + i)) }
-{
-    for i in 0..set.len() {
-        set[i] = set[i] | table[from + i];
-    }
-}
-
-/// Adds a set to a row of a table, which begins at a place.
-pub fn add_to_row(table: &mut [bool], from: usize, set: &[bool])
-    requires { from + length set.now ≤ length table.old }
-    ensures inside { (i : ℕ) → i < length set.now → at table.new (from + i) ≡ (at table.old (from + i) || at set.now i) }
-    ensures below { (k : ℕ) → k < from → at table.new k ≡ at table.old k }
-    ensures above { (k : ℕ) → from + length set.now ≤ k → at table.new k ≡ at table.old k }
-{
-    for i in 0..set.len() {
-        table[from + i] = table[from + i] | set[i];
-    }
-}
-
-/// Adds the bits of other words.
-pub fn add_bits(words: &mut [u64], others: &[u64])
-    requires { length words.old ≡ length others.now }
-    ensures { (i : ℕ) → slice_index words.new i ≡ bit_or (slice_index words.old i) (slice_index others.now i) }
-{
-    for i in 0..words.len() {
-        words[i] = words[i] | others[i];
-    }
-}
-
-/// Adds the places that are read and have a bit that isn't set.
-pub fn add_open(set: &mut [bool], read: &[bool], unset: &[u64])
-    requires read { length read.now ≡ length set.old }
-    requires unset { length unset.now ≡ length set.old }
-    ensures { (i : ℕ) → i < length set.old → at set.new i ≡ (at set.old i || (at read.now i && is_open (slice_index unset.now i))) }
-{
-    for i in 0..set.len() {
-        set[i] = set[i] | (read[i] & (unset[i] != 0));
-    }
-}
-
-/// Adds what the rows of the places that are read have.
-pub fn add_rows(set: &mut [bool], read: &[bool], table: &[bool])
-    requires read { length read.now ≡ length set.old }
-    requires table { length table.now ≡ length set.old * length set.old }
-    ensures { (z : ℕ) → z < length set.old → Has set.new z ↔ (Has set.old z ⊎ RowsHave (length set.old) (length set.old) read.now table.now z) }
-{
-    let count = set.len();
-    for y in 0..count {
-        if read[y] {
-            add_row(set, table, y * count);
-        }
-    }
-}
-
-/// Adds what the places that are read count as.
-pub fn add_counts(set: &mut [bool], read: &[bool], unset: &[u64], through: &[bool])
-    requires read { length read.now ≡ length set.old }
-    requires unset { length unset.now ≡ length set.old }
-    requires through { length through.now ≡ length set.old * length set.old }
-    ensures { (z : ℕ) → z < length set.old → Has set.new z ↔ (CountsIn (length set.old) read.now unset.now through.now z ⊎ Has set.old z) }
-{
-    add_open(set, read, unset);
-    add_rows(set, read, through);
-}
-
-/// Adds a set to the rows of some places.
-pub fn add_to_rows(table: &mut [bool], rows: &[bool], set: &[bool])
-    requires rows { length rows.now ≡ length set.now }
-    requires table { length table.old ≡ length set.now * length set.now }
-    ensures { (i j : ℕ) → i < length set.now → j < length set.now →
-        Has table.new (i * length set.now + j) ↔ ((Has rows.now i × Has set.now j) ⊎ Has table.old (i * length set.now + j)) }
-{
-    let count = set.len();
-    for y in 0..count {
-        if rows[y] {
-            add_to_row(table, y * count, set);
-        }
-    }
-}
-
-fn without(word: u64, bits: u64) -> u64
+/// A word without the bits of another.
+pub fn without(word: u64, bits: u64) -> u64
     ensures cleared { (b : ℕ) → b < 64 → (bit_at result b ≡ 1) ↔ ((bit_at word b ≡ 1) × (bit_at bits b ≡ 1 → ⊥)) }
     ensures kept { (b : ℕ) → bit_at result b ≡ 1 → bit_at word b ≡ 1 }
 {
     word & !bits
-}
-
-/// Clears the bits of other words.
-pub fn clear_bits(words: &mut [u64], others: &[u64])
-    requires { length words.old ≡ length others.now }
-    ensures cleared { (i b : ℕ) → i < length words.old → b < 64 → HasBit words.new i b ↔ (HasBit words.old i b × (HasBit others.now i b → ⊥)) }
-    ensures kept { (i b : ℕ) → HasBit words.new i b → HasBit words.old i b }
-{
-    for i in 0..words.len() {
-        words[i] = without(words[i], others[i]);
-    }
 }

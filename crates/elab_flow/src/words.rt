@@ -65,8 +65,8 @@ pub fn set_word(alloc: Global, part: Part<'_>, shape: Shape) -> Result<u64, Allo
     }
 }
 
-// The place of the signal of a part.
-fn place_of(signals: &[Signal], names: &Names<'_>, part: Part<'_>) -> Option<usize>
+/// The place of the signal of a part.
+pub fn place_of(signals: &[Signal], names: &Names<'_>, part: Part<'_>) -> Option<usize>
     requires { names.now ≡ map signal_name signals.now }
     ensures place { result ≡ place_in (map signal_name signals.now) (part_name (part_meant part.entry)) }
     ensures within { IfSome result (λ i. i < length signals.now) }
@@ -74,7 +74,8 @@ fn place_of(signals: &[Signal], names: &Names<'_>, part: Part<'_>) -> Option<usi
     names.place(name_of(part).bytes())
 }
 
-fn shape_at(signals: &[Signal], place: usize) -> Shape
+/// The length of the signal at a place, and the number of its lowest bit.
+pub fn shape_at(signals: &[Signal], place: usize) -> Shape
     requires within { place < length signals.now }
     requires narrow { AreNarrow signals.now }
     ensures narrow { result.width ≤ 64 }
@@ -85,62 +86,4 @@ fn shape_at(signals: &[Signal], place: usize) -> Shape
         width: signal.width,
         low: signal.low,
     }
-}
-
-fn add_word(
-    words: &mut [u64],
-    alloc: Global,
-    signals: &[Signal],
-    names: &Names<'_>,
-    part: Part<'_>,
-) -> Result<(), AllocError>
-    requires room { length words.old ≡ length signals.now }
-    requires names { names.now ≡ map signal_name signals.now }
-    requires narrow { AreNarrow signals.now }
-    requires ready { IsPartReady (part_meant part) }
-    ensures { OnOk result ((i b : ℕ) → HasBit words.new i b ↔ (HasBit words.old i b ⊎ IsSetAt signals.now (part_meant part.entry) i b)) }
-{
-    if let Some(place) = place_of(signals, names, part) {
-        let word = set_word(alloc, part, shape_at(signals, place))?;
-        words[place] = words[place] | word;
-    }
-    Ok(())
-}
-
-fn add_words(
-    words: &mut [u64],
-    alloc: Global,
-    signals: &[Signal],
-    names: &Names<'_>,
-    parts: &[Part<'_>],
-) -> Result<(), AllocError>
-    requires room { length words.old ≡ length signals.now }
-    requires names { names.now ≡ map signal_name signals.now }
-    requires narrow { AreNarrow signals.now }
-    requires ready { (q : Left) → Among (map part_meant parts.now) q → IsPartReady q }
-    ensures { OnOk result ((i b : ℕ) → HasBit words.new i b ↔ (HasBit words.old i b ⊎ AnySetAt signals.now (map part_meant parts.now) i b)) }
-{
-    for part in parts {
-        add_word(words, alloc, signals, names, *part)?;
-    }
-    Ok(())
-}
-
-/// For each signal a 1 for each bit that a left side surely sets. Refused only for want of memory.
-pub fn set_words(
-    alloc: Global,
-    signals: &[Signal],
-    names: &Names<'_>,
-    left: &Lval,
-) -> Result<Vec<u64>, AllocError>
-    requires names { names.now ≡ map signal_name signals.now }
-    requires narrow { AreNarrow signals.now }
-    requires ready { (q : Left) → Among (parts_of left.now) q → IsPartReady q }
-    ensures size { IfOk result (λ r. length r.items ≡ length signals.now) }
-    ensures words { IfOk result (λ r. (i b : ℕ) → HasBit r.items i b ↔ AnySetAt signals.now (parts_of left.now) i b) }
-{
-    let mut words = no_bits(alloc, signals.len())?;
-    let parts = parts_of(alloc, left)?;
-    add_words(&mut words, alloc, signals, names, &parts)?;
-    Ok(words)
 }

@@ -1,4 +1,4 @@
-use Rattle.std.proofs.Common.{sym, ap, ◌∙◌, subst}
+use Rattle.std.proofs.Common.{ℕ, List, get_or, sym, ap, ◌∙◌, subst}
 use Rattle.vlog_runs.specs.Blocks.{lefts}
 use Rattle.elab_faults.specs.Drivers.{Block}
 use Rattle.elab_drive.specs.Claims.{IsClaimed}
@@ -19,9 +19,9 @@ clash-requires c =
 pub returns-in-Some-clause-some : goal.returns-in-Some-clause-some
 returns-in-Some-clause-some c =
     missed c.args.scope.now c.args.body.now (tables c.in_ok-flow.flow) c.in_ok-flow.ensures.shows c.in_ok-claims.claims.items (c.in_ok-claims.ensures ∙ ap (λ gs. driver_claims gs (Block (lefts c.args.body.now))) c.requires.same)
-    c.in-Some.bit.place c.in-Some.bit.number (subst (λ z. IsClaimed z c.in-Some.bit.place c.in-Some.bit.number) c.deref-2.ensures.value c.in-Some.ensures.some) (subst (λ z. HasBit z c.in-Some.bit.place c.in-Some.bit.number) c.deref.ensures.value c.in-Some.ensures.set)
+    c.in-Some.bit.place c.in-Some.bit.number (subst (λ z. IsClaimed z c.in-Some.bit.place c.in-Some.bit.number) c.deref-2.ensures.value c.in-Some.ensures.some) (subst (λ (z : List ℕ). HasBit (λ i. get_or z i 0) c.in-Some.bit.place c.in-Some.bit.number) c.deref.ensures.value c.in-Some.ensures.set)
 
 pub returns-clause-none : goal.returns-clause-none
 returns-clause-none c =
     none_missed c.args.scope.now c.args.body.now (tables c.in_ok-flow.flow) c.in_ok-flow.ensures.shows c.in_ok-claims.claims.items (c.in_ok-claims.ensures ∙ ap (λ gs. driver_claims gs (Block (lefts c.args.body.now))) c.requires.same)
-    (λ i b h g. c.in-None.ensures.none i b (subst (λ z. IsClaimed z i b) (sym c.deref-2.ensures.value) h) (subst (λ z. HasBit z i b) (sym c.deref.ensures.value) g))
+    (λ i b h g. c.in-None.ensures.none i b (subst (λ z. IsClaimed z i b) (sym c.deref-2.ensures.value) h) (subst (λ (z : List ℕ). HasBit (λ i. get_or z i 0) i b) (sym c.deref.ensures.value) g))

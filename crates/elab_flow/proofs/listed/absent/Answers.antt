@@ -1,23 +1,18 @@
-use Rattle.std.proofs.Common.{◌<◌, length, sym, ap, ◌∙◌, arith}
-use Rattle.vlog_runs.specs.declared.flat.Signal.{Signal}
-use Rattle.vlog_runs.specs.Contents.{is_among}
-use Rattle.elab_flow.proofs.Finding.{signal_named, absent_next, named_among, unset_place}
-use Rattle.elab_flow.proofs.listed.absent.Goals.{else-set-i-via-then-set-i+else-not-has, else-set-i-via-else-set-i}
+use Rattle.std.proofs.Common.{get_or, sym, ◌∙◌}
+use Rattle.elab_drive.proofs.Marking.{among_at}
+use Rattle.elab_flow.proofs.Finding.{absent_next}
+use Rattle.elab_flow.proofs.Showing.{named_at}
 use Rattle.elab_flow.proofs.listed.absent.Goals as goal
 
-pub returns-then-not-has-clause-some : goal.returns-then-not-has-clause-some
-returns-then-not-has-clause-some c =
-    let gs = c.args.signals.now in
-    let g = c.index-signals-i.result in
-    let lt : c.loop-i.i < length gs = omega (arith, c.loop-i-test.true, c.loop-i.auto.i-end) in
-    (g.name, signal_named gs c.loop-i.i g lt c.index-signals-i.is, (c.if-set-i.true, ap (is_among c.args.listed.now) (sym (c.bytes.ensures ∙ ap (λ (z : Signal). z.name) (sym c.index-signals-i.is))) ∙ (sym c.has.ensures ∙ c.if-not-has.true)))
+pub is_listed-requires : goal.is_listed-requires
+is_listed-requires c = c.requires _ (among_at c.args.places.now c.loop-place.place-index 0 c.loop-place-test.true)
 
-pub loop-i-preserved : goal.loop-i-preserved
-loop-i-preserved c =
-    let gs = c.args.signals.now in
-    let lt : c.loop-i.i < length gs = omega (arith, c.loop-i-test.true, c.loop-i.auto.i-end) in
-    absent_next gs c.args.set.now c.args.listed.now c.loop-i.i c.loop-i.invariant
-    (λ x a h. elim c.else-set-i.branch [
-      | else-set-i-via-then-set-i+else-not-has w ↦ named_among gs c.args.listed.now c.loop-i.i w.index-signals-i.result lt w.index-signals-i.is (ap (is_among c.args.listed.now) (sym (w.bytes.ensures ∙ ap (λ (z : Signal). z.name) (sym w.index-signals-i.is))) ∙ (sym w.has.ensures ∙ w.if-not-has.false)) x a
-      | else-set-i-via-else-set-i w ↦ absurd (unset_place c.args.set.now c.loop-i.i w.if-set-i.false h)
-    ])
+pub returns-then-not-is_listed-clause-some : goal.returns-then-not-is_listed-clause-some
+returns-then-not-is_listed-clause-some c =
+    let here = among_at c.args.places.now c.loop-place.place-index 0 c.loop-place-test.true in
+    let x = named_at c.args.signals.now (get_or c.args.places.now c.loop-place.place-index 0) (c.requires _ here) in
+    (x.0, x.1, (here, sym (c.is_listed.ensures x.0 x.1) ∙ c.if-not-is_listed.true))
+
+pub loop-place-preserved : goal.loop-place-preserved
+loop-place-preserved c =
+    absent_next c.args.signals.now c.args.places.now c.args.listed.now c.loop-place.place-index c.is_listed.result c.loop-place-test.true c.is_listed.ensures c.if-not-is_listed.false c.loop-place.invariant

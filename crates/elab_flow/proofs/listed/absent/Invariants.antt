@@ -1,9 +1,8 @@
-use Rattle.std.proofs.Common.{◌≡◌, ℕ, ◌<◌, true}
-use Rattle.vlog_runs.specs.Places.{Name}
+use Rattle.std.proofs.Common.{◌≡◌, ℕ, true, take}
+use Rattle.vlog_runs.specs.Places.{Name, Among}
 use Rattle.vlog_runs.specs.Contents.{is_among}
-use Rattle.elab_flow.specs.Sets.{Has}
 use Rattle.elab_flow.specs.Shows.{IsAt}
 use Rattle.elab_flow.proofs.listed.absent.Given as goal
 
-abbrev pub invariant-loop-i : goal.invariant-loop-i
-invariant-loop-i l = (j : ℕ) (x : Name) → j < l.i → IsAt l.signals j x → Has l.set j → is_among l.listed x ≡ true
+abbrev pub invariant-loop-place : goal.invariant-loop-place
+invariant-loop-place l = (i : ℕ) (x : Name) → IsAt l.signals i x → Among (take l.place-index l.places) i → is_among l.listed x ≡ true

@@ -1,4 +1,4 @@
-use Rattle.std.proofs.Common.{ℕ, ◌↔◌, List, map, subst, sym, ap, ◌∙◌}
+use Rattle.std.proofs.Common.{ℕ, List, map, subst, sym, ap, ◌∙◌}
 use Rattle.vlog_runs.specs.Places.{Name, Among}
 use Rattle.elab_drive.specs.Parts.{part_meant}
 use Rattle.elab_drive.specs.Spots.{signal_name}

@@ -1,4 +1,4 @@
-use Rattle.std.proofs.Common.{◌<◌, length, List, subst, sym, ap}
+use Rattle.std.proofs.Common.{◌<◌, length, List, subst, sym}
 use Rattle.vlog_runs.specs.declared.flat.Signal.{Signal}
 use Rattle.vlog_runs.specs.Places.{Among}
 use Rattle.elab_flow.specs.Own.{AreSignalsAt}

@@ -1,31 +1,30 @@
-use Rattle.std.proofs.Common.{ℕ, ◌↔◌, ◌∷◌, List, length, subst, sym, ap, ◌∙◌}
-use Rattle.vlog_runs.specs.Places.{Among}
-use Rattle.vlog_runs.specs.Blocks.{left_names}
+use Rattle.std.proofs.Common.{ℕ, List, ◌∷◌, sym, subst}
 use Rattle.flat_faults.specs.Texts.{numbers_in}
+use Rattle.elab_drive.proofs.Growing.{ok_then}
 use Rattle.elab_faults.specs.Drivers.{parts_of}
-use Rattle.elab_flow.specs.Sets.{tables, HasBit}
-use Rattle.elab_flow.specs.Shows.{Marks}
-use Rattle.elab_flow.specs.Words.{AnySetAt}
+use Rattle.elab_flow.specs.Sets.{tables}
 use Rattle.elab_flow.specs.Passes.{ReadsAt, CountTo}
-use Rattle.elab_flow.proofs.Assigning.{assigned}
+use Rattle.elab_flow.proofs.Assigning.{assigned, assignment_changes}
 use Rattle.elab_flow.proofs.pass.pass_assignment.Goals as goal
 
 pub returns-clause-assigned : goal.returns-clause-assigned
 returns-clause-assigned c =
-    let gs = c.args.signals.now in
+    let gs = c.args.scope.now in
     let around = c.args.around.now in
     let left = c.args.left.now in
     let right = c.args.right.now in
     let read = c.deref.result.now in
-    let words = c.deref-2.result.now in
-    let rows = c.deref-3.result.now in
-    let sources = c.deref-4.result.now in
-    assigned gs c.requires.distinct c.requires.narrow around left right (length around) (length sources) (tables c.args.flow.now) (tables c.enter.new.self) (tables c.assign.new.self) read rows sources words
-    c.requires.around
-    (ap length c.deref-4.ensures.value ∙ (c.in_ok-sources.ensures.inner ∙ c.requires.around))
-    (subst (λ z. ReadsAt gs (right ∷ numbers_in left) z) (sym c.deref.ensures.value) c.in_ok-read.ensures.marks)
-    (subst (λ z. Marks gs z (λ x. Among (left_names left) x)) (sym c.deref-3.ensures.value) c.in_ok-rows.ensures.marks)
-    (subst (λ (z : List ℕ). (i b : ℕ) → HasBit z i b ↔ AnySetAt gs (parts_of left) i b) (sym c.deref-2.ensures.value) c.in_ok-words.ensures.words)
-    c.in_ok-sources.ensures.reads
-    (subst (λ z. CountTo (length around) around read (tables c.args.flow.now) z) (sym c.deref-4.ensures.value) c.in_ok-sources.ensures.counts)
-    c.assign.ensures.cleared c.assign.ensures.kept c.assign.ensures.through c.assign.ensures.outside
+    let before = tables c.args.flow.now in
+    ok_then c.assign_left.result _ _ c.assign_left.ensures.set
+    (λ h. assigned gs c.requires.distinct c.requires.narrow around read c.deref-2.result.now left right before (tables c.enter.new.self) (tables c.assign_left.new.flow)
+    (subst (λ z. ReadsAt gs (right ∷ numbers_in left) z) (sym c.deref.ensures.value) c.in_ok-read.ensures) c.in_ok-sources.ensures.reads
+    (subst (λ (z : List ℕ). CountTo around read before z) (sym c.deref-2.ensures.value) c.in_ok-sources.ensures.counts) h)
+
+pub returns-clause-changes : goal.returns-clause-changes
+returns-clause-changes c =
+    let s = tables c.args.flow.now in
+    let t = tables c.enter.new.self in
+    let grows = c.in_ok-sources.ensures.grows in
+    let reads = c.in_ok-sources.ensures.reads in
+    ok_then c.assign_left.result _ _ c.assign_left.ensures.set
+    (λ h. assignment_changes c.args.scope.now (parts_of c.args.left.now) c.deref-2.result.now grows.0 s t (tables c.assign_left.new.flow) reads.unset reads.through grows.1 h)

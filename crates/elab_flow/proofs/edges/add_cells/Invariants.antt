@@ -1,8 +1,0 @@
-use Rattle.std.proofs.Common.{◌⊎◌, ◌↔◌}
-use Rattle.vlog_runs.specs.Places.{Among}
-use Rattle.elab_flow.specs.declared.edges.Edge.{Edge}
-use Rattle.elab_flow.specs.Edges.{IsCellBelow}
-use Rattle.elab_flow.proofs.edges.add_cells.Given as goal
-
-abbrev pub invariant-loop-from : goal.invariant-loop-from
-invariant-loop-from l = (e : Edge) → Among l.all.items e ↔ (Among l.initial.all.items e ⊎ IsCellBelow l.count l.from l.table e)
