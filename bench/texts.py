@@ -132,11 +132,42 @@ def driven_back(size):
     return module(names + chain + f"assign w{count - 1} = i;\n"), SET
 
 
-def one_block(size):
-    """A combinational block that assigns many signals."""
-    count = size // 35
+def one_block(unit):
+    """A kind whose combinational block does this with each of as many signals as its size allows."""
+
+    def text(size):
+        count = size // (len(f"reg [7:0] c1000;\n{unit}") - 2 * unit.count("NUMBER"))
+        many = "".join(unit.replace("NUMBER", str(k)) for k in range(count))
+        names = "".join(f"reg [7:0] c{k};\n" for k in range(count))
+        return module(f"{names}always @* begin\n{many}end\n"), SET
+
+    return text
+
+
+def block_from_its_end(size):
+    """A combinational block that gives each signal the next one's value, so that each has to be solved before the one before it."""
+    count = size // 33
     names = "".join(f"reg [7:0] c{k};\n" for k in range(count))
-    return module(names + "always @* begin\n" + "".join(f"c{k} = i;\n" for k in range(count)) + "end\n"), SET
+    given = "".join(f"c{k} = c{k + 1};\n" for k in range(count - 1))
+    return module(f"{names}always @* begin\n{given}c{count - 1} = i;\nend\n"), SET
+
+
+def block_of_pairs(size):
+    """A combinational block each of whose signals depends on each of as many wires: the pairs are quadratic in the text."""
+    count = size // 56
+    names = "".join(f"wire a{k} = i[0];\nreg c{k};\n" for k in range(count))
+    joined = "".join(f"s = s ^ a{k};\n" for k in range(count))
+    given = "".join(f"c{k} = s;\n" for k in range(count))
+    return module(f"{names}reg s;\nalways @* begin\ns = 1'b0;\n{joined}{given}end\n"), SET
+
+
+def case_of_block(size):
+    """A combinational block whose case has an item for each of many signals."""
+    count = size // 60
+    names = "".join(f"reg [7:0] c{k};\n" for k in range(count))
+    zero = "".join(f"c{k} = 8'd0;\n" for k in range(count))
+    chosen = "".join(f"16'd{k}: c{k} = i;\n" for k in range(count))
+    return module(f"{names}always @* begin\n{zero}case ({{i, i}})\n{chosen}endcase\nend\n"), SET
 
 
 def many_blocks(size):
@@ -322,7 +353,12 @@ KINDS = {
     "clocked blocks": items(lambda k: f"reg r{k};\nalways @(posedge clk) r{k} <= i[0];\n"),
     "one clocked block": clocked_block,
     "combinational blocks": many_blocks,
-    "one combinational block": one_block,
+    "one combinational block": one_block("cNUMBER = i;\n"),
+    "one combinational block, an if each": one_block("cNUMBER = i;\nif (i[0]) cNUMBER = 8'd1;\n"),
+    "one combinational block, an if and else each": one_block("if (i[0]) cNUMBER = i; else cNUMBER = 8'd1;\n"),
+    "one combinational block, an item of a case each": case_of_block,
+    "one combinational block, a chain from its end": block_from_its_end,
+    "one combinational block, each signal by all others": block_of_pairs,
     "one signal assigned again and again": one_signal,
     "a list of events": events,
     # statements
