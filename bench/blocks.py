@@ -3,6 +3,8 @@
 
 blocks.py write FAMILY N FOLDER                       puts m.v, m.set and yosys.v into FOLDER, and the script yosys.ys
 blocks.py run PROGRAM [FAMILY..] [--limit S]          doubles the size from 4 on, and puts tables in Markdown
+blocks.py compare PROGRAM SOLVER FAMILY:N.. [--limit S]    SOLVER (which reads DIMACS, as bench_sat does) beside minisat on the clauses of each line
+                                                      for which minisat needs at least 6 ms, a start included; the least of two runs
 
 It needs what `apt-get install time minisat cadical yosys` installs. The families, with what N is:
 
@@ -769,6 +771,47 @@ def measure(program, family, limit):
     print(f"\nThe largest N is {largest}, for {bound}.\n" if size > largest else "")
 
 
+def mean(ratios):
+    """The geometric mean."""
+    return math.exp(sum(map(math.log, ratios)) / len(ratios))
+
+
+def least(words, limit):
+    """The least seconds of two runs, and their megabytes."""
+    runs = [run(words, limit) for _ in range(2)]
+    return min(max(it.seconds, 0.001) for it in runs), min(it.megabytes for it in runs)
+
+
+def compared(program, solver, family, size, limit):
+    """Puts the row of a family's lines, and gives for each line how many times minisat's seconds and memory the solver takes."""
+    rows = []
+    with tempfile.TemporaryDirectory() as folder:
+        files = written(FAMILIES[family][0](size), folder)
+        names = subprocess.run([program, "lines", *files], capture_output=True, text=True, check=True).stdout.splitlines()
+        for name in names:
+            with open(f"{folder}/line.cnf", "w", encoding="utf-8") as clauses:
+                subprocess.run([program, "clauses", *files, name], stdout=clauses, check=True)
+            theirs = least([*SOLVERS["minisat"], f"{folder}/line.cnf"], limit)
+            if 0.006 <= theirs[0] < math.inf:
+                rows.append((least(["sh", "-c", f"exec {solver} < {folder}/line.cnf"], limit), theirs))
+    ratios = [(ours[0] / theirs[0], ours[1] / theirs[1]) for ours, theirs in rows]
+    sums = [f"{sum(it[k][0] for it in rows):.2f}" for k in (0, 1)]
+    row([family, size, len(names), len(rows), *sums, *(f"{mean([it[k] for it in ratios]):.2f}" if ratios else "" for k in (0, 1))])
+    return ratios
+
+
+def compare(program, solver, blocks, limit):
+    """Puts a row for each block, and the means over all lines."""
+    row(["family", "N", "lines", "compared", "signoff: s", "minisat: s", "times minisat's time", "memory"])
+    print("|---" * 8 + "|")
+    ratios = []
+    for block in blocks:
+        family, _, size = block.partition(":")
+        ratios += compared(program, solver, family, int(size), limit)
+    if ratios:
+        row(["all", "", "", len(ratios), "", "", *(f"{mean([it[k] for it in ratios]):.2f}" for k in (0, 1))])
+
+
 def main():
     reader = argparse.ArgumentParser(description=__doc__, formatter_class=argparse.RawDescriptionHelpFormatter)
     commands = reader.add_subparsers(dest="command", required=True)
@@ -780,7 +823,15 @@ def main():
     table.add_argument("program")
     table.add_argument("family", nargs="*", default=list(FAMILIES))
     table.add_argument("--limit", type=float, default=10)
+    beside = commands.add_parser("compare")
+    beside.add_argument("program")
+    beside.add_argument("solver")
+    beside.add_argument("block", nargs="+")
+    beside.add_argument("--limit", type=float, default=30)
     args = reader.parse_args()
+    if args.command == "compare":
+        compare(args.program, args.solver, args.block, args.limit)
+        return
     if args.command == "run":
         for family in args.family:
             measure(args.program, family, args.limit)
