@@ -13,7 +13,7 @@ use Rattle.vlog_tree.specs.declared.expr.Unary.{Unary}
 use Rattle.vlog_tree.specs.declared.token.Number.{Number}
 use Rattle.vlog_tree.specs.declared.valuation.Entry.{Entry}
 use Rattle.vlog_tree.specs.Valuation.{IsLength, named, depth_of}
-use Rattle.vlog_tree.specs.Value.{Operand, operand_of, own_integer, natural, extend, integer, moved_down, bits_of, bit_of, word_of, part_of, part_low, part_width, number_width, width_of, value_of, Stands, NamesOnly, HasConstantParts, IsPartConstant}
+use Rattle.vlog_tree.specs.Value.{Operand, operand_of, own_integer, natural, extend, integer, moved_down, bits_of, bit_of, word_of, part_of, part_low, part_width, number_width, width_of, sign_of, value_of, IsFormed, Stands, NamesOnly, HasConstantParts, IsPartConstant}
 use Rattle.word_core.specs.Words.{Bits}
 use Rattle.word_dag.specs.declared.node.Node.{Node}
 use Rattle.word_dag.specs.Nodes.{Naming, word_at}
@@ -33,6 +33,7 @@ use Rattle.elab_node.specs.Terms.{nothing, IsTaken, IsAlone, IsInner, AreOperand
 use Rattle.elab_node.specs.Vectors.{IsVector}
 use Rattle.elab_node.proofs.Alike.{constant_same}
 use Rattle.elab_node.proofs.Kept.{made_node, node_kept, valued_kept}
+use Rattle.elab_node.proofs.Lengths.{formed_shape}
 use Rattle.elab_node.proofs.Parts.{binary_constant, part_constant, constant_part_constant, binary_names, constant_part_names}
 use Rattle.elab_node.proofs.Read.{depth_is}
 use Rattle.elab_node.proofs.Shaped.{shape_valued, defined_valued}
@@ -217,7 +218,7 @@ inner_fits op L m p pn test = rw test at pn
 pub unary_done : (ls : List Leaf) (m new : List Node) (op : Unary) (a tree y : Expr) (L : ℕ) (s : Bool) (p : ℕ) (q : Bool) (j i : ℕ) → AreReady ls m → Keeps m new → tree ≡ e.Unary op a → y ≡ a → IsTaken ls y p q → IsInner ls op a L s p q → HasNode ls m m y p q j →
     Makes new i L (λ x. made_number op p (number_at x m j)) → HasNode ls new new tree L s i
 unary_done ls m new op a tree y L s p q j i ready keeps is ya taken place h made =
-    settled ls m new tree L s i ready keeps (unary_has ls m m new op a tree a y L place.own p s place.own_sign q j i is refl ya taken place.shape place.width place.sign h made)
+    settled ls m new tree L s i ready keeps (unary_has ls m m new op a tree a y L (width_of (declared ls) a) p s (sign_of (declared ls) a) q j i is refl ya taken (formed_shape (declared ls) a (subst (IsFormed (declared ls)) ya taken.ready.formed)) place.width place.sign h made)
 
 places : (k : Family) (L m n : ℕ) → PlacesFit k L (left_width k L m n) (right_width k L m n)
 places f.Arithmetic L m n = (refl, refl)
@@ -227,15 +228,15 @@ places f.Order L m n = refl
 places f.Equality L m n = refl
 places f.Logic L m n = tt
 
-pub operands_fit : (ls : List Leaf) (op : Binary) (a b : Expr) (L : ℕ) (s : Bool) (j : ℕ) (p : Bool) (k : ℕ) (q : Bool) → AreOperands ls op a b L s j p k q → PlacesFit (family_of op) L j k
-operands_fit ls op a b L s j p k q h = rw (h.left, h.right) (places (family_of op) L h.first h.second)
+pub operands_fit : (ls : List Leaf) (op : Binary) (a b : Expr) (L : ℕ) (s : Bool) (j : ℕ) (p : Bool) (k : ℕ) (q : Bool) → AreOperands ls (family_of op) a b L s j p k q → PlacesFit (family_of op) L j k
+operands_fit ls op a b L s j p k q h = rw (h.left, h.right) (places (family_of op) L (width_of (declared ls) a) (width_of (declared ls) b))
 
 pub binary_done : (ls : List Leaf) (one m new : List Node) (op : Binary) (a b tree y u : Expr) (L : ℕ) (s : Bool) (j : ℕ) (p : Bool) (k : ℕ) (q : Bool) (g h i : ℕ) → AreReady ls one → Keeps one m → AreReady ls m → Keeps m new → tree ≡ e.Binary op a b → y ≡ a → u ≡ b →
-    IsTaken ls y j p → IsTaken ls u k q → AreOperands ls op a b L s j p k q → (family_of op ≡ f.Division → ⊥) → HasNode ls one one y j p g → HasNode ls m m u k q h →
+    IsTaken ls y j p → IsTaken ls u k q → AreOperands ls (family_of op) a b L s j p k q → (family_of op ≡ f.Division → ⊥) → HasNode ls one one y j p g → HasNode ls m m u k q h →
     Makes new i L (λ x. joined_number (family_of op) op L s j p (number_at x m g) (number_at x m h)) → HasNode ls new new tree L s i
 binary_done ls one m new op a b tree y u L s j p k q g h i r kept ready keeps is ya ub left right o apart x z made =
     settled ls m new tree L s i ready keeps
-    (binary_has ls m m new op a b tree y u L o.first o.second j k s o.first_sign o.second_sign p q g h i is ya ub left right o.first_shape o.second_shape o.left o.left_signed o.right o.right_signed apart (node_still ls one m y j p g r kept x) z made)
+    (binary_has ls m m new op a b tree y u L (width_of (declared ls) a) (width_of (declared ls) b) j k s (sign_of (declared ls) a) (sign_of (declared ls) b) p q g h i is ya ub left right (formed_shape (declared ls) a (subst (IsFormed (declared ls)) ya left.ready.formed)) (formed_shape (declared ls) b (subst (IsFormed (declared ls)) ub right.ready.formed)) o.left o.left_signed o.right o.right_signed apart (node_still ls one m y j p g r kept x) z made)
 
 pub choice_done : (ls : List Leaf) (one two m new : List Node) (c a b tree x y u : Expr) (L : ℕ) (s t : Bool) (w : Wire) (p q i : ℕ) → AreReady ls one → Keeps one two → AreReady ls two → Keeps two m → AreReady ls m → Keeps m new → tree ≡ e.Choice c a b → x ≡ c → y ≡ a → u ≡ b →
     HasOwnNode ls one one x w t → HasNode ls two two y L s p → HasNode ls m m u L s q → Makes new i L (λ e. if nat_eq (number_at e m w.node) 0 then number_at e m q else number_at e m p) → HasNode ls new new tree L s i

@@ -1,3 +1,5 @@
+pub mod Lengths
+pub mod Measured
 pub mod Leaving
 pub mod Placed
 pub mod Fits
@@ -12,6 +14,7 @@ pub mod Codes
 pub mod Positions
 pub mod Shaped
 pub mod Parts
+pub mod Taken
 pub mod Whole
 pub mod Forms
 pub mod Rows

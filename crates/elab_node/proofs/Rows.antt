@@ -5,12 +5,12 @@ use Rattle.std.proofs.lemmas.Bool.Decides.{nat_tests}
 use Rattle.vlog_tree.specs.declared.expr.Expr.{Expr}
 use Rattle.vlog_tree.specs.declared.expr.Expr.TheVariants as e
 use Rattle.vlog_tree.specs.Valuation.{IsLength}
-use Rattle.vlog_tree.specs.Value.{Operand, operand_of, own, own_defined, own_integer, natural, extend, copies, width_of, value_of, HasConstantParts}
+use Rattle.vlog_tree.specs.Value.{Operand, operand_of, own, own_defined, own_integer, natural, extend, copies, width_of, sign_of, value_of, HasConstantParts}
 use Rattle.word_core.specs.Words.{Bits}
 use Rattle.word_dag.specs.declared.node.Node.{Node}
 use Rattle.word_dag.specs.Nodes.{Naming, word_at}
 use Rattle.word_dag.specs.Adding.{Keeps}
-use Rattle.vlog_value.specs.Shapes.{HasRowWord, each_row, copy_number}
+use Rattle.vlog_value.specs.Shapes.{HasShape, HasRowWord, each_row, copy_number}
 use Rattle.vlog_value.proofs.Facts.{and_true, copies_width}
 use Rattle.vlog_value.proofs.Forms.{concat_operand, repeat_operand}
 use Rattle.vlog_value.proofs.Rows.{next_number}
@@ -23,9 +23,11 @@ use Rattle.elab_node.specs.Terms.{nothing, IsTaken, IsAlone, EachAlone, IsRow, H
 use Rattle.elab_node.proofs.Alike.{same_operand, constant_same}
 use Rattle.elab_node.proofs.Forms.{settled}
 use Rattle.elab_node.proofs.Kept.{made_node, made_number, made_same, number_kept, valued_kept}
-use Rattle.elab_node.proofs.Parts.{EachConstant, each_constant, repeat_constant}
+use Rattle.elab_node.proofs.Lengths.{formed_shape}
+use Rattle.elab_node.proofs.Measured.{concat_shape}
+use Rattle.elab_node.proofs.Parts.{EachConstant, each_constant, repeat_constant, concat_row}
 use Rattle.elab_node.proofs.Read.{alike_valued}
-use Rattle.elab_node.proofs.Shaped.{defined_valued, own_defined_valued}
+use Rattle.elab_node.proofs.Shaped.{alone_taken, defined_valued, own_defined_valued, shape_valued}
 use Rattle.elab_node.proofs.Whole.{own_wide}
 
 abbrev at : ℕ → ℕ → Bits
@@ -130,6 +132,27 @@ concat_done ls m new items row tree L s w i ready keeps is ri h made = settled l
   node = made_node new i L _ made;
   word = λ x. concat_value (valued ls (words x m)) items row tree L s (word_at (words x m) w.node) (word_at (words x new) i) is ri (h.word x) (made.word x);
 })
+
+-- a concatenation that is taken by itself has the bits of its row
+pub alone_row : (ls : List Leaf) (items : List Expr) (tree : Expr) → tree ≡ e.Concat items → IsAlone ls tree → IsRow ls items
+alone_row ls items tree is h = concat_row ls tree (width_of (declared ls) tree) (sign_of (declared ls) tree) (alone_taken ls tree _ _ h (formed_shape (declared ls) tree h.formed)) items is
+
+pub row_alone : (ls : List Leaf) (m : List Node) (items row : List Expr) (tree : Expr) (w : Wire) → tree ≡ e.Concat items → row ≡ items → IsAlone ls tree → HasRowNode ls m m row w → HasOwnNode ls m m tree w false
+row_alone ls m items row tree w is ri alone h =
+    let wide : w.width ≡ (each_row (declared ls) items).width = h.width ∙ ap (λ z. (each_row (declared ls) z).width) ri in
+    let shape : HasShape (declared ls) tree w.width false = concat_shape ls items tree w.width is alone.formed wide in
+    record {
+      node = h.node;
+      shape = shape;
+      word = λ x.
+          let v = valued ls (words x m) in
+          let word = subst (λ z. HasRowWord v z (word_at (words x m) w.node)) ri (h.word x) in
+          record {
+            shape = subst (λ z. HasShape v tree z false) (wide ∙ row_wide ls (words x m) items (each_constant ls items (alone_row ls items tree is alone).alone) ∙ sym word.width) (shape_valued ls (words x m) tree alone.constant w.width false shape);
+            defined = own_defined_valued ls (words x m) tree alone.constant alone.defined;
+            value = word.value ∙ sym (ap (λ (o : Operand). own o) (ap (λ z. operand_of v z) is ∙ concat_operand v items));
+          };
+    }
 
 copies_number : (n : ℕ) (o : Operand) → own (copies n o) ≡ copy_number n o.width (own o)
 copies_number zero o = refl

@@ -1,11 +1,11 @@
 -- What is asked of an expression that becomes a node, and what is known then.
 use Rattle.std.specs.Prelude.{ℕ, ◌≡◌, Bool, false, List, [], ◌∷◌, IsTrue, nat_eq, if◌then◌else◌}
-use Rattle.vlog_tree.specs.declared.expr.Binary.{Binary}
 use Rattle.vlog_tree.specs.declared.expr.Expr.{Expr}
 use Rattle.vlog_tree.specs.declared.expr.Unary.{Unary}
 use Rattle.vlog_tree.specs.Valuation.{IsLength}
-use Rattle.vlog_tree.specs.Value.{IsFormed, IsDefined, HasConstantParts, operand_of, own_defined}
-use Rattle.vlog_value.specs.Operators.{family_of, left_width, right_width, left_sign, right_sign, inner_width, inner_sign}
+use Rattle.vlog_tree.specs.Value.{IsFormed, IsDefined, HasConstantParts, operand_of, own_defined, width_of, sign_of}
+use Rattle.vlog_value.specs.declared.operators.Family.{Family}
+use Rattle.vlog_value.specs.Operators.{left_width, right_width, left_sign, right_sign, inner_width, inner_sign}
 use Rattle.vlog_value.specs.Shapes.{IsReady, HasShape, HasValue, HasOwn, HasRowWord, each_row}
 use Rattle.word_dag.specs.declared.node.Node.{Node}
 use Rattle.word_dag.specs.Nodes.{Naming, word_at}
@@ -41,24 +41,15 @@ pub record IsRow (ls : List Leaf) (row : List Expr) : Type 0 where
 
 -- a unary operator takes its operand at the length p and the sign q
 pub record IsInner (ls : List Leaf) (op : Unary) (a : Expr) (L : ℕ) (s : Bool) (p : ℕ) (q : Bool) : Type 0 where
-  pub own : ℕ
-  pub own_sign : Bool
-  pub shape : HasShape (declared ls) a own own_sign
-  pub width : p ≡ inner_width op L own
-  pub sign : q ≡ inner_sign op s own_sign
+  pub width : p ≡ inner_width op L (width_of (declared ls) a)
+  pub sign : q ≡ inner_sign op s (sign_of (declared ls) a)
 
--- a binary operator takes its operands at the lengths j and k and the signs p and q
-pub record AreOperands (ls : List Leaf) (op : Binary) (a b : Expr) (L : ℕ) (s : Bool) (j : ℕ) (p : Bool) (k : ℕ) (q : Bool) : Type 0 where
-  pub first : ℕ
-  pub first_sign : Bool
-  pub second : ℕ
-  pub second_sign : Bool
-  pub first_shape : HasShape (declared ls) a first first_sign
-  pub second_shape : HasShape (declared ls) b second second_sign
-  pub left : j ≡ left_width (family_of op) L first second
-  pub left_signed : p ≡ left_sign (family_of op) s first_sign second_sign
-  pub right : k ≡ right_width (family_of op) L first second
-  pub right_signed : q ≡ right_sign (family_of op) s first_sign second_sign
+-- an operator of this family takes its operands at the lengths i and j and the signs p and q
+pub record AreOperands (ls : List Leaf) (k : Family) (a b : Expr) (L : ℕ) (s : Bool) (i : ℕ) (p : Bool) (j : ℕ) (q : Bool) : Type 0 where
+  pub left : i ≡ left_width k L (width_of (declared ls) a) (width_of (declared ls) b)
+  pub left_signed : p ≡ left_sign k s (sign_of (declared ls) a) (sign_of (declared ls) b)
+  pub right : j ≡ right_width k L (width_of (declared ls) a) (width_of (declared ls) b)
+  pub right_signed : q ≡ right_sign k s (sign_of (declared ls) a) (sign_of (declared ls) b)
 
 -- node i has its value at this length and sign, whatever the free words are
 pub record HasNode (ls : List Leaf) (old new : List Node) (a : Expr) (L : ℕ) (s : Bool) (i : ℕ) : Type 0 where

@@ -13,10 +13,11 @@ mod operands;
 mod operators;
 mod pieces;
 mod reductions;
+mod shapes;
 
 pub use indexed::{Own, code_of, hit};
 pub use leaves::{Leaf, Leaves};
 pub use node::{assigned_node, holds_node, node_of, value_node};
 pub use nodes::{Wire, choice, constant, slice, two};
-pub use operands::shape;
 pub use operators::length_of;
+pub use shapes::shape;

@@ -13,13 +13,14 @@ use crate::joins::{appended, copies};
 use crate::leaves::Leaves;
 use crate::nodes::{Wire, extended, slice};
 use crate::operands::{
-    alone, binary_places, constant_integer, count_of, is_division, is_fixed, operand, own_place,
-    part, row, shape, unary_place,
+    alone, binary_places, constant_integer, count_of, is_division, operand, own_place, part, row,
+    unary_place,
 };
 use crate::operators::truth;
 use crate::pieces::{
     based_bits, constant_node, constant_vector, fixed_bits, name_node, name_vector, number_node,
 };
+use crate::shapes::{is_fixed, shape};
 use std::alloc::AllocError;
 use vlog_tree::{Expr, Span};
 use word_dag::Dag;
@@ -155,6 +156,13 @@ fn own_node(dag: &mut Dag, expr: &Expr, leaves: &Leaves) -> Result<Own, AllocErr
     ensures ready { AreReady leaves.now dag.new }
     ensures node { IfOk result (λ o. HasOwnNode leaves.now dag.new dag.new expr.now o.wire o.signed) }
 {
+    if let Expr::Concat(items) = expr {
+        let wire = row_node(dag, row(items, leaves), leaves)?;
+        return Ok(Own {
+            wire,
+            signed: false,
+        });
+    }
     let here = own_place(expr, leaves)?;
     let node = node_at(dag, expr, here, leaves)?;
     let wire = Wire {

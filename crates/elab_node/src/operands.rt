@@ -9,15 +9,13 @@ ghost use Rattle.vlog_value.specs.Shapes.{HasShape};
 ghost use Rattle.elab_node.specs.Leaves.{declared};
 ghost use Rattle.elab_node.specs.Terms.{IsTaken, IsAlone, IsRow, IsInner, AreOperands};
 
-use crate::counts::nests_counts;
 use crate::leaves::Leaves;
 use crate::nodes::Wire;
+use crate::shapes::{longer, own_number, shape};
 use sqlite_items::{Boxed, Items};
 use std::alloc::AllocError;
-use vlog_tree::{Binary, Expr, Span, Unary};
-use vlog_value::{
-    evaluated, family_of, inner_place, integer, left_place, measured, right_place, shape_of,
-};
+use vlog_tree::{Binary, Expr, Unary};
+use vlog_value::{Family, family_of, is_reduction};
 
 /// The bits of a vector, and the number of the lowest one.
 #[derive(Clone, Copy)]
@@ -31,23 +29,6 @@ pub struct Vector {
 pub struct Places {
     pub left: (u8, bool),
     pub right: (u8, bool),
-}
-
-/// The length and the sign that an expression has by itself. It is refused for want of memory alone. A copy of the expression, in which each count is taken
-/// once, is made only where counts stand within one another.
-pub fn shape(expr: &Expr, leaves: &Leaves) -> Result<(u8, bool), AllocError>
-    requires { IsFormed (declared leaves.now) expr.now }
-    ensures { IfOk result (λ s. HasShape (declared leaves.now) expr.now s.0 s.1) }
-{
-    let found = if nests_counts(expr) {
-        measured(leaves.allocator(), expr, leaves.declared())?
-    } else {
-        shape_of(expr, leaves.declared())
-    };
-    match found {
-        Some(shape) => Ok(shape),
-        None => unreachable!(),
-    }
 }
 
 /// A part of an expression that is taken at a length and a sign.
@@ -101,7 +82,7 @@ pub fn own_place(expr: &Expr, leaves: &Leaves) -> Result<(u8, bool), AllocError>
     shape(expr, leaves)
 }
 
-/// Where a unary operator takes its operand.
+/// Where a unary operator takes its operand. It is looked at only where its own length counts.
 pub fn unary_place(
     expr: &Expr,
     op: Unary,
@@ -115,8 +96,49 @@ pub fn unary_place(
     ensures taken { IfOk result (λ p. IsTaken leaves.now inner.now p.0 p.1) }
 {
     let _expr = expr;
-    let own = shape(inner.get(), leaves)?;
-    Ok(inner_place(op, here, own))
+    if is_reduction(op) {
+        let own = shape(inner.get(), leaves)?;
+        return Ok(own);
+    }
+    Ok(here)
+}
+
+// Where an operator of a family takes its operands. One that it takes at the length and the sign of the whole isn't looked at.
+fn operand_places(
+    family: Family,
+    a: &Expr,
+    b: &Expr,
+    here: (u8, bool),
+    leaves: &Leaves,
+) -> Result<Places, AllocError>
+    requires left { IsFormed (declared leaves.now) a.now }
+    requires right { IsFormed (declared leaves.now) b.now }
+    ensures { IfOk result (λ p. AreOperands leaves.now family a.now b.now here.0 here.1 p.left.0 p.left.1 p.right.0 p.right.1) }
+{
+    match family {
+        Family::Arithmetic | Family::Division => Ok(Places {
+            left: here,
+            right: here,
+        }),
+        Family::Shift => {
+            let right = shape(b, leaves)?;
+            Ok(Places { left: here, right })
+        }
+        Family::Order | Family::Equality => {
+            let left = shape(a, leaves)?;
+            let right = shape(b, leaves)?;
+            let both = longer(left, right);
+            Ok(Places {
+                left: both,
+                right: both,
+            })
+        }
+        Family::Logic => {
+            let left = shape(a, leaves)?;
+            let right = shape(b, leaves)?;
+            Ok(Places { left, right })
+        }
+    }
 }
 
 /// Where a binary operator takes its operands.
@@ -130,17 +152,13 @@ pub fn binary_places(
 ) -> Result<Places, AllocError>
     requires is { expr.now ≡ Expr.Binary op a.now b.now }
     requires taken { IsTaken leaves.now expr.now here.0 here.1 }
-    ensures places { IfOk result (λ p. AreOperands leaves.now op a.now b.now here.0 here.1 p.left.0 p.left.1 p.right.0 p.right.1) }
+    ensures places { IfOk result (λ p. AreOperands leaves.now (family_of op) a.now b.now here.0 here.1 p.left.0 p.left.1 p.right.0 p.right.1) }
     ensures left { IfOk result (λ p. IsTaken leaves.now a.now p.left.0 p.left.1) }
     ensures right { IfOk result (λ p. IsTaken leaves.now b.now p.right.0 p.right.1) }
 {
     let _expr = expr;
-    let first = shape(a.get(), leaves)?;
-    let second = shape(b.get(), leaves)?;
-    Ok(Places {
-        left: left_place(family_of(op), here, first, second),
-        right: right_place(family_of(op), here, first, second),
-    })
+    let places = operand_places(family_of(op), a.get(), b.get(), here, leaves)?;
+    Ok(places)
 }
 
 /// Whether an operator divides.
@@ -150,13 +168,6 @@ pub fn is_division(op: Binary) -> bool
     matches!(op, Binary::Div | Binary::Rem)
 }
 
-/// Whether a part-select is `[high:low]`.
-pub fn is_fixed(span: Span) -> bool
-    ensures { MatchBool result (span ≡ Span.Fixed) (span ≡ Span.Fixed → ⊥) }
-{
-    matches!(span, Span::Fixed)
-}
-
 /// The integer of a part that is the same whatever the names' values are.
 pub fn constant_integer(boxed: &Boxed<Expr>, leaves: &Leaves) -> Result<i128, AllocError>
     requires { IsAlone leaves.now boxed.now }
@@ -164,10 +175,7 @@ pub fn constant_integer(boxed: &Boxed<Expr>, leaves: &Leaves) -> Result<i128, Al
     ensures low { IfOk result (λ i. negsuc (2 ^ 64) ≤ℤ i) }
     ensures high { IfOk result (λ i. i <ℤ pos (2 ^ 64)) }
 {
-    match evaluated(leaves.allocator(), boxed.get(), leaves.declared())? {
-        Some((word, signed)) => Ok(integer(word, signed)),
-        None => unreachable!(),
-    }
+    own_number(boxed, leaves)
 }
 
 /// How many copies of so many bits there are.

@@ -13,7 +13,7 @@ use Rattle.elab_node.proofs.Parts.{select_index, part_first, part_second, consta
 use Rattle.elab_node.proofs.Shaped.{alone_node}
 use Rattle.elab_node.proofs.Whole.{name_has, paren_has}
 use Rattle.elab_node.proofs.Forms.{settled, own_still, bits_has, fixed_has, select_bits, constant_select_bits, based_bits_are, constant_bits_are, constant_has, division_constant, fixed_constant, cast_wide, cast_done, unary_done, binary_done, choice_done}
-use Rattle.elab_node.proofs.Rows.{row_step, next_alone, next_bits, itself, row_has, concat_wide, concat_done, repeat_wide, repeat_length, counted, repeat_done}
+use Rattle.elab_node.proofs.Rows.{row_step, next_alone, next_bits, itself, row_has, alone_row, row_alone, concat_wide, concat_done, repeat_wide, repeat_length, counted, repeat_done}
 use Rattle.elab_node.proofs.node.+nodes.Goals as goal
 
 -- ---- what is asked of the parts
@@ -412,6 +412,13 @@ node_at-returns-in_ok-node-in-Choice-clause-ready t c = ready_kept c.args.leaves
 pub own_node-returns-clause-node : goal.own_node-returns-clause-node
 own_node-returns-clause-node t c =
     alone_node c.args.leaves.now c.node_at.new.dag c.node_at.new.dag c.args.expr.now c.in_ok-here.here.0 c.in_ok-here.here.1 c.in_ok-node.node (record { node = c.in_ok-node.node; width = c.in_ok-here.here.0 }) c.requires.alone c.in_ok-here.ensures.shape c.in_ok-node.ensures.node refl
+
+pub own_node-row-requires : goal.own_node-row-requires
+own_node-row-requires t c = alone_row c.args.leaves.now c.in-Concat.items c.args.expr.now c.in-Concat.is c.requires.alone
+
+pub own_node-returns-in-Concat-clause-node : goal.own_node-returns-in-Concat-clause-node
+own_node-returns-in-Concat-clause-node t c =
+    row_alone c.args.leaves.now c.row_node.new.dag c.in-Concat.items c.row.result.now c.args.expr.now c.in_ok-wire.wire c.in-Concat.is c.row.ensures.same c.requires.alone c.in_ok-wire.ensures.node
 
 -- ---- concatenations
 
