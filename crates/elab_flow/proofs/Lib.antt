@@ -22,6 +22,7 @@ pub mod Owning
 pub mod Keeping
 pub mod Reading
 pub mod Counting
+pub mod Adding
 pub mod Spotting
 pub mod Branching
 pub mod Ending

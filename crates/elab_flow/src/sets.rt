@@ -2,7 +2,8 @@
 
 ghost use Rattle.std.specs.Prelude.{◌≡◌, ℕ, ◌<◌, ◌⊎◌, ◌↔◌, [], length, replicate, false, IfOk, OnOk, MatchBool};
 ghost use Rattle.std.specs.Int.{bit_at};
-ghost use Rattle.std.specs.List.Sorted.{IsStrictlyIncreasing};
+ghost use Rattle.std.specs.List.Sorted.{IsPermutation, IsSorted, IsStrictlyIncreasing};
+ghost use Rattle.std.specs.Ordering.{nat_cmp};
 ghost use Rattle.vlog_runs.specs.Places.{Among};
 ghost use Rattle.elab_order.specs.Graphs.{graph_of};
 
@@ -27,19 +28,60 @@ pub fn empty_rows(alloc: Global, count: usize) -> Result<Vec<Vec<usize>>, AllocE
     Ok(rows)
 }
 
+// Sorts places, in linear time where they are a few rising lists, one after another.
+fn sort(places: &mut Vec<usize>)
+    ensures permutation { IsPermutation places.old.items places.new.items }
+    ensures sorted { IsSorted nat_cmp places.new.items }
+{
+    match places.sort() {
+        Ok(()) => (),
+        // the other sort needs memory, and this one none
+        Err(_) => places.sort_unstable(),
+    }
+}
+
 /// Puts places in their order, each once.
 pub fn put_in_order(places: &mut Vec<usize>)
     ensures rises { IsStrictlyIncreasing places.new.items }
     ensures same { (i : ℕ) → Among places.new.items i ↔ Among places.old.items i }
 {
-    places.sort_unstable();
+    sort(places);
     places.dedup();
 }
+
+// Adds a place to a list of places in their order, if it doesn't stand there.
+fn add_place(all: &mut Vec<usize>, place: usize) -> Result<(), AllocError>
+    ensures { OnOk result ((i : ℕ) → Among all.new.items i ↔ (Among all.old.items i ⊎ (place ≡ i))) }
+{
+    match all.binary_search(&place) {
+        Ok(_) => Ok(()),
+        Err(at) => {
+            all.insert(at, place)?;
+            Ok(())
+        }
+    }
+}
+
+// Adds places, one by one.
+fn add_each(all: &mut Vec<usize>, places: &[usize]) -> Result<(), AllocError>
+    ensures { OnOk result ((i : ℕ) → Among all.new.items i ↔ (Among all.old.items i ⊎ Among places.now i)) }
+{
+    for place in places {
+        add_place(all, *place)?;
+    }
+    Ok(())
+}
+
+// So many places are added one by one, which only moves those above them. For more, a pass over the whole list takes less time.
+const FEW: usize = 16;
 
 /// Adds places to a list of places, in which each stands once. Refused only for want of memory.
 pub fn add_places(all: &mut Vec<usize>, places: &[usize]) -> Result<(), AllocError>
     ensures { OnOk result ((i : ℕ) → Among all.new.items i ↔ (Among all.old.items i ⊎ Among places.now i)) }
 {
+    if places.len() <= FEW {
+        return add_each(all, places);
+    }
     all.extend_from_slice(places)?;
     put_in_order(all);
     Ok(())

@@ -8,9 +8,9 @@ use Rattle.elab_flow.proofs.sets.put_in_order.Goals as goal
 pub returns : goal.returns
 returns c =
     let is = dedup_is _ _ _ c.dedup.ensures.filtered in
-    let moved = c.sort_unstable.ensures.permutation in
+    let moved = c.sort.ensures.permutation in
     record {
-      rises = rw is (IsStrictlyIncreasing-dedup _ c.sort_unstable.ensures.sorted);
+      rises = rw is (IsStrictlyIncreasing-dedup _ c.sort.ensures.sorted);
       same = λ i. (
         λ h. contains_among _ i (Contains-permutation _ _ i (IsPermutation-sym _ _ moved) (Contains-from_dedup _ _ i (rw is at (among_contains _ i h)))),
         λ h. contains_among _ i (rw is (Contains-dedup_nat _ i (Contains-permutation _ _ i moved (among_contains _ i h)))),
