@@ -42,6 +42,16 @@ fn satisfied(cnf: &Cnf, budget: u64, values: Vec<bool>) -> Option<End>
     }
 }
 
+/// Refutes the formula where propagation, or a search with one learnt clause, does, which costs far less than to simplify it.
+fn refuted_at_once(alloc: Global, cnf: &Cnf, budget: u64) -> Result<Option<End>, AllocError>
+    ensures { IfOk result (λ r. IfSome r (Decides cnf.now budget)) }
+{
+    match cdcl::solve(alloc, cnf, 1)? {
+        End::Unsat(steps) => Ok(Some(End::Unsat(steps))),
+        End::Sat(_) | End::Spent(_) => Ok(None),
+    }
+}
+
 /// Whether so many clauses of these are few enough that they are searched in the place of all: a tenth is gone.
 fn is_gain(left: usize, all: usize) -> bool {
     left <= all - all / 10
@@ -102,9 +112,9 @@ fn simplified(alloc: Global, cnf: &Cnf, budget: u64) -> Result<Option<End>, Allo
     }
 }
 
-/// Decides the formula, or learns as many clauses as the budget has, as `cdcl::solve` does, with the same evidence. First it
-/// simplifies: what single literals force, variables that are equal, and gates that are the same function of the same inputs; then
-/// subsumption, and the elimination of variables by resolution.
+/// Decides the formula, or learns as many clauses as the budget has, as `cdcl::solve` does, with the same evidence. Where one learnt
+/// clause doesn't refute it, it is simplified: what single literals force, variables that are equal, and gates that are the same
+/// function of the same inputs; then subsumption, and the elimination of variables by resolution.
 ///
 /// Where a tenth of the clauses goes, `cdcl::solve` decides what is left within the budget, and its answer is taken back to the
 /// input formula and checked there, by `accept` or `holds`. If that budget is spent, the input formula is searched with the same
@@ -117,6 +127,9 @@ pub fn solve(alloc: Global, cnf: &Cnf, budget: u64) -> Result<End, AllocError>
     ensures end { IfOk result (IsEnd cnf.now budget) }
     ensures decided { 3 ^ cnf.now.vars ≤ budget → IfOk result IsDecided }
 {
+    if let Some(end) = refuted_at_once(alloc, cnf, budget)? {
+        return Ok(end);
+    }
     match simplified(alloc, cnf, budget)? {
         Some(end) => Ok(end),
         None => cdcl::solve(alloc, cnf, budget),

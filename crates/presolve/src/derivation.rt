@@ -116,6 +116,14 @@ impl<'a> Derivation<'a> {
         self.cnf
     }
 
+    /// Whether the empty clause is derived.
+    pub fn is_refuted(&self) -> bool {
+        match self.steps.last() {
+            Some(step) => step.clause.lits().is_empty(),
+            None => false,
+        }
+    }
+
     /// The steps.
     pub fn into_steps(self) -> Vec<Step> {
         let Derivation {
@@ -220,13 +228,17 @@ impl<'a> Derivation<'a> {
         }
     }
 
-    /// Adds a step. The answer is the number of its clause; none where a variable stands twice.
+    /// Adds a step. The answer is the number of its clause; none where a variable stands twice, or the empty clause is derived: a
+    /// refutation ends with it.
     pub fn add(
         &mut self,
         alloc: Global,
         lits: Vec<Lit>,
         hints: Vec<u32>,
     ) -> Result<Option<u32>, AllocError> {
+        if self.is_refuted() {
+            return Ok(None);
+        }
         let inputs = self.cnf.clauses.len();
         let number = in_32_bits(inputs.saturating_add(self.steps.len()))?;
         match Clause::of(alloc, lits)? {

@@ -22,8 +22,6 @@ pub struct Facts<'a> {
     classes: Classes,
     // the signs of the literals that are kept of a clause; blank between calls
     signs: Vec<Option<bool>>,
-    // whether the empty clause is derived
-    refuted: bool,
     // whether anything was found since this was asked last
     changed: bool,
 }
@@ -50,7 +48,6 @@ impl<'a> Facts<'a> {
             derivation: Derivation::new(alloc, cnf)?,
             classes: Classes::new(alloc, cnf.vars)?,
             signs: vec![in alloc; None; cnf.vars as usize]?,
-            refuted: false,
             changed: false,
         })
     }
@@ -62,7 +59,7 @@ impl<'a> Facts<'a> {
 
     /// Whether the empty clause is derived.
     pub fn is_refuted(&self) -> bool {
-        self.refuted
+        self.derivation.is_refuted()
     }
 
     /// Whether anything was found since this was asked last.
@@ -76,7 +73,6 @@ impl<'a> Facts<'a> {
             derivation,
             classes,
             signs: _,
-            refuted: _,
             changed: _,
         } = self;
         (classes, derivation.into_steps())
@@ -117,7 +113,8 @@ impl<'a> Facts<'a> {
             .derive(alloc, clause, &[], numbers.as_slice())
     }
 
-    /// Adds a step for a clause that two clauses imply. The answer is its number; none where a variable stands twice.
+    /// Adds a step for a clause that two clauses imply. The answer is its number; none where a variable stands twice, or the empty
+    /// clause is derived.
     pub fn add_step(
         &mut self,
         alloc: Global,
@@ -125,11 +122,7 @@ impl<'a> Facts<'a> {
         hints: [u32; 2],
     ) -> Result<Option<u32>, AllocError> {
         let hints = hints.to_vec(alloc)?;
-        let number = self.derivation.add(alloc, lits.to_vec(alloc)?, hints)?;
-        if lits.is_empty() && number.is_some() {
-            self.refuted = true;
-        }
-        Ok(number)
+        self.derivation.add(alloc, lits.to_vec(alloc)?, hints)
     }
 
     /// Makes it known that the literal is true, if the clauses of these numbers imply it. The answer is whether they do.
@@ -279,15 +272,16 @@ impl<'a> Facts<'a> {
     /// What the facts leave of the input clause of this number, once they have what it says by itself: a clause with one literal
     /// is a fact, and one with none ends the search.
     pub fn rest_of(&mut self, alloc: Global, number: u32) -> Result<Rest, AllocError> {
+        if self.is_refuted() {
+            return Ok(Rest::True);
+        }
         let rest = self.rest(alloc, number)?;
         let Rest::Lits(lits) = &rest else {
             return Ok(rest);
         };
         match lits.as_slice() {
             [] => {
-                if self.derive(alloc, &[], number)?.is_some() {
-                    self.refuted = true;
-                }
+                self.derive(alloc, &[], number)?;
                 Ok(Rest::True)
             }
             [lit] => {

@@ -205,6 +205,9 @@ impl<'a> Sweep<'a> {
         self.gates = HashMap::new(alloc);
         let open = std::mem::replace(&mut self.open, Vec::new(alloc));
         for group in open.as_slice().chunk_by(|a, b| a.0 == b.0) {
+            if self.facts.is_refuted() {
+                break;
+            }
             if let Some((out, _)) = group.first() {
                 self.visit(alloc, *out, group)?;
             }
