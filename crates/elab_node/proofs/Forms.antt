@@ -33,7 +33,7 @@ use Rattle.elab_node.specs.Terms.{nothing, IsTaken, IsAlone, IsInner, AreOperand
 use Rattle.elab_node.specs.Vectors.{IsVector}
 use Rattle.elab_node.proofs.Alike.{constant_same}
 use Rattle.elab_node.proofs.Kept.{made_node, node_kept, valued_kept}
-use Rattle.elab_node.proofs.Lengths.{formed_shape}
+use Rattle.vlog_value.proofs.Lengths.{formed_shape}
 use Rattle.elab_node.proofs.Parts.{binary_constant, part_constant, constant_part_constant, binary_names, constant_part_names}
 use Rattle.elab_node.proofs.Read.{depth_is}
 use Rattle.elab_node.proofs.Shaped.{shape_valued, defined_valued}

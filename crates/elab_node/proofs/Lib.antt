@@ -1,4 +1,3 @@
-pub mod Lengths
 pub mod Measured
 pub mod Leaving
 pub mod Placed

@@ -23,8 +23,8 @@ use Rattle.elab_node.specs.Terms.{nothing, IsTaken, IsAlone, EachAlone, IsRow, H
 use Rattle.elab_node.proofs.Alike.{same_operand, constant_same}
 use Rattle.elab_node.proofs.Forms.{settled}
 use Rattle.elab_node.proofs.Kept.{made_node, made_number, made_same, number_kept, valued_kept}
-use Rattle.elab_node.proofs.Lengths.{formed_shape}
-use Rattle.elab_node.proofs.Measured.{concat_shape}
+use Rattle.vlog_value.proofs.Lengths.{formed_shape}
+use Rattle.vlog_value.proofs.Shaped.{concat_shape}
 use Rattle.elab_node.proofs.Parts.{EachConstant, each_constant, repeat_constant, concat_row}
 use Rattle.elab_node.proofs.Read.{alike_valued}
 use Rattle.elab_node.proofs.Shaped.{alone_taken, defined_valued, own_defined_valued, shape_valued}
@@ -140,7 +140,7 @@ alone_row ls items tree is h = concat_row ls tree (width_of (declared ls) tree) 
 pub row_alone : (ls : List Leaf) (m : List Node) (items row : List Expr) (tree : Expr) (w : Wire) → tree ≡ e.Concat items → row ≡ items → IsAlone ls tree → HasRowNode ls m m row w → HasOwnNode ls m m tree w false
 row_alone ls m items row tree w is ri alone h =
     let wide : w.width ≡ (each_row (declared ls) items).width = h.width ∙ ap (λ z. (each_row (declared ls) z).width) ri in
-    let shape : HasShape (declared ls) tree w.width false = concat_shape ls items tree w.width is alone.formed wide in
+    let shape : HasShape (declared ls) tree w.width false = concat_shape (declared ls) items tree w.width is alone.formed wide in
     record {
       node = h.node;
       shape = shape;

@@ -6,13 +6,14 @@ use Rattle.vlog_tree.specs.declared.expr.Expr.TheVariants as e
 use Rattle.vlog_tree.specs.declared.expr.Unary.{Unary}
 use Rattle.vlog_tree.specs.Value.{width_of, sign_of}
 use Rattle.vlog_value.specs.declared.operators.Family.{Family}
-use Rattle.vlog_value.specs.Operators.{family_of, is_reduction}
+use Rattle.vlog_value.specs.Operators.{family_of, is_reduction, left_width, right_width, left_sign, right_sign, places_by_left, places_by_right}
 use Rattle.vlog_value.specs.Shapes.{HasShape}
 use Rattle.vlog_value.proofs.Forms.{unary_formed, binary_formed}
 use Rattle.elab_node.specs.declared.leaves.Leaf.{Leaf}
 use Rattle.elab_node.specs.Leaves.{declared}
 use Rattle.elab_node.specs.Terms.{IsTaken, IsInner, AreOperands}
-use Rattle.elab_node.proofs.Lengths.{formed_shape}
+use Rattle.vlog_value.proofs.Lengths.{formed_shape}
+use Rattle.vlog_value.proofs.Counted.{left_width_by, right_width_by, left_sign_by, right_sign_by}
 use Rattle.elab_node.proofs.Parts.{unary_inner, binary_first, binary_second}
 
 -- a reduction takes its operand by itself, and another unary operator at the place of the whole
@@ -24,6 +25,20 @@ reduced ls op a y L s n t test ya h = record {
 
 pub unreduced : (ls : List Leaf) (op : Unary) (a : Expr) (L : ℕ) (s : Bool) → is_reduction op ≡ false → IsInner ls op a L s L s
 unreduced ls op a L s test = record { width = rw test refl; sign = rw test refl }
+
+-- operands whose own lengths and signs don't count may have any
+pub operands_where : (ls : List Leaf) (k : Family) (l r : Bool) (a b : Expr) (L : ℕ) (s : Bool) (m n i j : ℕ) (t u p q : Bool) → l ≡ places_by_left k → r ≡ places_by_right k →
+    (l ≡ true → HasShape (declared ls) a m t) → (r ≡ true → HasShape (declared ls) b n u) → i ≡ left_width k L m n → p ≡ left_sign k s t u → j ≡ right_width k L m n → q ≡ right_sign k s t u → AreOperands ls k a b L s i p j q
+operands_where ls k l r a b L s m n i j t u p q lk rk left right iw ps jw qs =
+    let v = declared ls in
+    let wide : (places_by_left k ≡ true → m ≡ width_of v a) × (places_by_right k ≡ true → n ≡ width_of v b) = (λ c. (left (lk ∙ c)).width, λ c. (right (rk ∙ c)).width) in
+    let sign : (places_by_left k ≡ true → t ≡ sign_of v a) × (places_by_right k ≡ true → u ≡ sign_of v b) = (λ c. (left (lk ∙ c)).sign, λ c. (right (rk ∙ c)).sign) in
+    record {
+      left = iw ∙ left_width_by k L m n (width_of v a) (width_of v b) wide.0 wide.1;
+      left_signed = ps ∙ left_sign_by k s t u (sign_of v a) (sign_of v b) sign.0 sign.1;
+      right = jw ∙ right_width_by k L m n (width_of v a) (width_of v b) wide.0 wide.1;
+      right_signed = qs ∙ right_sign_by k s t u (sign_of v a) (sign_of v b) sign.0 sign.1;
+    }
 
 pub operands_of : (ls : List Leaf) (op : Binary) (k : Family) (a b y z : Expr) (L : ℕ) (s : Bool) (i j : ℕ) (p q : Bool) → k ≡ family_of op → y ≡ a → z ≡ b → AreOperands ls k y z L s i p j q → AreOperands ls (family_of op) a b L s i p j q
 operands_of ls op k a b y z L s i j p q ko ya zb h =

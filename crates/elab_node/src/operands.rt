@@ -11,11 +11,11 @@ ghost use Rattle.elab_node.specs.Terms.{IsTaken, IsAlone, IsRow, IsInner, AreOpe
 
 use crate::leaves::Leaves;
 use crate::nodes::Wire;
-use crate::shapes::{longer, own_number, shape};
+use crate::shapes::{own_number, shape, shape_where};
 use sqlite_items::{Boxed, Items};
 use std::alloc::AllocError;
 use vlog_tree::{Binary, Expr, Unary};
-use vlog_value::{Family, family_of, is_reduction};
+use vlog_value::{Family, family_of, is_reduction, left_place, placing, right_place};
 
 /// The bits of a vector, and the number of the lowest one.
 #[derive(Clone, Copy)]
@@ -103,7 +103,8 @@ pub fn unary_place(
     Ok(here)
 }
 
-// Where an operator of a family takes its operands. One that it takes at the length and the sign of the whole isn't looked at.
+// Where an operator of a family takes its operands. One whose own length and sign don't count for that isn't looked at.
+#[tactic(auto, using(crate::proofs::Taken::operands_where))]
 fn operand_places(
     family: Family,
     a: &Expr,
@@ -115,30 +116,13 @@ fn operand_places(
     requires right { IsFormed (declared leaves.now) b.now }
     ensures { IfOk result (λ p. AreOperands leaves.now family a.now b.now here.0 here.1 p.left.0 p.left.1 p.right.0 p.right.1) }
 {
-    match family {
-        Family::Arithmetic | Family::Division => Ok(Places {
-            left: here,
-            right: here,
-        }),
-        Family::Shift => {
-            let right = shape(b, leaves)?;
-            Ok(Places { left: here, right })
-        }
-        Family::Order | Family::Equality => {
-            let left = shape(a, leaves)?;
-            let right = shape(b, leaves)?;
-            let both = longer(left, right);
-            Ok(Places {
-                left: both,
-                right: both,
-            })
-        }
-        Family::Logic => {
-            let left = shape(a, leaves)?;
-            let right = shape(b, leaves)?;
-            Ok(Places { left, right })
-        }
-    }
+    let counting = placing(family);
+    let left = shape_where(a, counting.left, leaves)?;
+    let right = shape_where(b, counting.right, leaves)?;
+    Ok(Places {
+        left: left_place(family, here, left, right),
+        right: right_place(family, here, left, right),
+    })
 }
 
 /// Where a binary operator takes its operands.

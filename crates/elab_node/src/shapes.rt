@@ -1,8 +1,8 @@
 // The lengths and the signs that expressions have by themselves.
 ghost use Rattle.std.specs.Bool.{MatchBool};
-ghost use Rattle.std.specs.Prelude.{◌≡◌, ◌&&◌, max, IsTrue, IfOk, pos, negsuc, ◌≤ℤ◌, ◌<ℤ◌, ◌-ℤ◌, ◌+ℤ◌, ◌^◌};
+ghost use Rattle.std.specs.Prelude.{◌≡◌, true, IsTrue, IfOk, pos, negsuc, ◌≤ℤ◌, ◌<ℤ◌, ◌-ℤ◌, ◌+ℤ◌, ◌^◌};
 ghost use Rattle.vlog_tree.specs.Valuation.{IsLength};
-ghost use Rattle.vlog_tree.specs.Value.{IsFormed, cast_sign, operand_of, own_defined, own_integer, part_width, width_of, sign_of};
+ghost use Rattle.vlog_tree.specs.Value.{IsFormed, operand_of, own_defined, own_integer, part_width, width_of, sign_of};
 ghost use Rattle.vlog_value.specs.Shapes.{HasShape, NeedsBound};
 ghost use Rattle.elab_node.specs.Leaves.{declared};
 
@@ -10,8 +10,11 @@ use crate::counts::nests_counts;
 use crate::leaves::Leaves;
 use sqlite_items::Boxed;
 use std::alloc::AllocError;
-use vlog_tree::{Cast, Expr, Span};
-use vlog_value::{Family, evaluated, family_of, integer, is_reduction, measured, shape_of};
+use vlog_tree::{Expr, Span};
+use vlog_value::{
+    evaluated, family_of, integer, is_reduction, is_signed, joined_shape, longer, measured,
+    shape_of, sizing,
+};
 
 // The shape of an expression, of which each part is looked at. A copy of it, in which each count is taken once, is made only where counts stand within
 // one another.
@@ -84,20 +87,6 @@ fn part_length(
     Ok(second as u8)
 }
 
-/// The longer length of two, and whether both are signed.
-pub fn longer(a: (u8, bool), b: (u8, bool)) -> (u8, bool)
-    ensures width { result.0 ≡ max a.0 b.0 }
-    ensures sign { result.1 ≡ (a.1 && b.1) }
-{
-    (a.0.max(b.0), a.1 && b.1)
-}
-
-fn is_signed(cast: Cast) -> bool
-    ensures { result ≡ cast_sign cast }
-{
-    matches!(cast, Cast::Signed)
-}
-
 // A part of an expression that is well formed.
 fn formed<'a>(boxed: &'a Boxed<Expr>, leaves: &Leaves) -> &'a Expr
     requires { IsFormed (declared leaves.now) boxed.now }
@@ -141,33 +130,34 @@ pub fn shape(expr: &Expr, leaves: &Leaves) -> Result<(u8, bool), AllocError>
             let inner = shape(formed(inner, leaves), leaves)?;
             Ok(inner)
         }
-        Expr::Binary(op, a, b) => match family_of(*op) {
-            Family::Arithmetic => {
-                let left = shape(formed(a, leaves), leaves)?;
-                let right = shape(formed(b, leaves), leaves)?;
-                Ok(longer(left, right))
-            }
-            Family::Division => {
-                let left = shape(formed(a, leaves), leaves)?;
-                let right = shape(formed(b, leaves), leaves)?;
-                Ok(longer(left, right))
-            }
-            Family::Shift => {
-                let left = shape(formed(a, leaves), leaves)?;
-                Ok(left)
-            }
-            Family::Order => Ok((1, false)),
-            Family::Equality => Ok((1, false)),
-            Family::Logic => Ok((1, false)),
-        },
+        Expr::Binary(op, a, b) => {
+            let family = family_of(*op);
+            let counting = sizing(family);
+            let left = shape_where(formed(a, leaves), counting.left, leaves)?;
+            let right = shape_where(formed(b, leaves), counting.right, leaves)?;
+            Ok(joined_shape(family, left, right))
+        }
         Expr::Choice(_, a, b) => {
             let left = shape(formed(a, leaves), leaves)?;
             let right = shape(formed(b, leaves), leaves)?;
             Ok(longer(left, right))
         }
-        _ => {
+        Expr::Number(_) | Expr::Name(_) | Expr::Concat(_) | Expr::Repeat(_, _) => {
             let all = whole_shape(expr, leaves)?;
             Ok(all)
         }
     }
+}
+
+/// The same where it counts. Else the expression isn't looked at, and one bit stands for it.
+#[cycle(shaping)]
+pub fn shape_where(expr: &Expr, counts: bool, leaves: &Leaves) -> Result<(u8, bool), AllocError>
+    requires { IsFormed (declared leaves.now) expr.now }
+    ensures { IfOk result (λ s. counts ≡ true → HasShape (declared leaves.now) expr.now s.0 s.1) }
+{
+    if counts {
+        let own = shape(expr, leaves)?;
+        return Ok(own);
+    }
+    Ok((1, false))
 }

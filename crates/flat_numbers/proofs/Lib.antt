@@ -1,4 +1,3 @@
-pub mod Lengths
 pub mod Values
 pub mod Signals
 pub mod Numbers

@@ -27,7 +27,7 @@ use Rattle.flat_faults.specs.declared.fault.FlatFault.TheVariants as f
 use Rattle.flat_faults.specs.Constants.{alone, IsOrdered, bounds_of, BreaksBounds, BreaksRange, InRange}
 use Rattle.flat_faults.specs.Stands.{full, Stands}
 use Rattle.flat_ready.specs.Handed.{IsFlattened, AreNumbered}
-use Rattle.flat_numbers.proofs.Lengths.{formed_length}
+use Rattle.vlog_value.proofs.Lengths.{formed_length}
 use Rattle.flat_numbers.proofs.Signals.{signal_shaped}
 use Rattle.flat_numbers.proofs.Values.{own_value_fits, wider}
 

@@ -15,11 +15,11 @@ use Rattle.vlog_tree.specs.Valuation.{IsLength, named, depth_of}
 use Rattle.vlog_tree.specs.Value.{Operand, operand_of, bit_of, word_of, part_of, cast_sign, repeated, copies, own_defined, own_integer, integer, width_of, sign_of, part_width, natural, IsFormed, IsDefined, Stands, IsPart}
 use Rattle.word_core.specs.Words.{Bits}
 use Rattle.vlog_value.specs.declared.operators.Family.{Family}
-use Rattle.vlog_value.specs.declared.operators.Family.TheVariants as f
 use Rattle.vlog_value.specs.Operators.{family_of, joined_width, joined_sign, is_reduction, made_width, made_sign}
 use Rattle.vlog_value.specs.Shapes.{HasShape, HasOwn, HasBound, NeedsBound, FitsPart, HasRow, each_row}
 use Rattle.vlog_value.proofs.Forms.{select_operand, part_operand, constant_select_operand, constant_part_operand, cast_operand, paren_operand, unary_operand, binary_operand, choice_operand, concat_operand, repeat_operand, formed_select, formed_part, formed_constant_select, formed_constant_part, formed_cast, formed_paren, formed_unary, formed_binary, formed_choice, formed_concat, formed_repeat, paren_formed}
 use Rattle.vlog_value.proofs.Families.{binary_width, binary_sign, unary_width, unary_sign}
+use Rattle.vlog_value.proofs.Lengths.{made_length, joined_length}
 
 -- an answer that gives no shape, and one that gives no value
 pub unformed : (v : List Entry) (tree : Expr) (r : Option (ℕ × Bool)) → (IsFormed v tree → ⊥) → IfNone r (IsFormed v tree → ⊥)
@@ -46,10 +46,6 @@ select_sign : (b : Bool) (v : List Entry) (x : Name) (o : Operand) → (if b the
 select_sign true v x o = refl
 select_sign false v x o = refl
 
-one_or : (b : Bool) (n : ℕ) → IsLength n → IsLength (if b then 1 else n)
-one_or true n h = (omega arith, omega arith)
-one_or false n h = h
-
 pub select_has : (v : List Entry) (x : Name) (a tree y : Expr) (k : Constant) (d n : ℕ) (s : Bool) → tree ≡ e.Select x a → Stands v x → k ≡ named v x → IsLength k.width → y ≡ a → IsFormed v y → d ≡ depth_of v x →
     n ≡ (if nat_eq d 0 then 1 else k.width) → s ≡ false → HasShape v tree n s
 select_has v x a tree y k d n s is st kn len ya fy dn nn sn =
@@ -58,7 +54,7 @@ select_has v x a tree y k d n s is st kn len ya fy dn nn sn =
       formed = formed_select v x a tree is (st, rw ya at fy);
       width = rw (is, width_of, select_operand) (n' ∙ sym (select_width (nat_eq (depth_of v x) 0) v x (operand_of v a)));
       sign = rw (is, sign_of, select_operand) (sn ∙ sym (select_sign (nat_eq (depth_of v x) 0) v x (operand_of v a)));
-      length = rw nn (one_or (nat_eq d 0) k.width len);
+      length = rw nn (made_length (nat_eq d 0) k.width len);
     }
 
 pub constant_select_has : (v : List Entry) (k : Constant) (a tree y : Expr) → tree ≡ e.ConstantSelect k a → IsLength k.width → y ≡ a → IsFormed v y → HasShape v tree 1 false
@@ -94,16 +90,8 @@ unary_has v op a tree y n m s t is ya h nn sn =
       formed = formed_unary v op a tree is h'.formed;
       width = rw (is, width_of, unary_operand) (nn ∙ ap (λ j. made_width op j) h'.width ∙ sym (unary_width op (operand_of v a)));
       sign = rw (is, sign_of, unary_operand) (sn ∙ ap (λ j. made_sign op j) h'.sign ∙ sym (unary_sign op (operand_of v a)));
-      length = rw nn (one_or (is_reduction op) m h.length);
+      length = rw nn (made_length (is_reduction op) m h.length);
     }
-
-joined_length : (g : Family) (m n : ℕ) → IsLength m → IsLength n → IsLength (joined_width g m n)
-joined_length f.Arithmetic m n a b = (omega (arith, a.0), omega (arith, a.1, b.1))
-joined_length f.Division m n a b = (omega (arith, a.0), omega (arith, a.1, b.1))
-joined_length f.Shift m n a b = a
-joined_length f.Order m n a b = (omega arith, omega arith)
-joined_length f.Equality m n a b = (omega arith, omega arith)
-joined_length f.Logic m n a b = (omega arith, omega arith)
 
 pub binary_has : (v : List Entry) (op : Binary) (a b tree y z : Expr) (g : Family) (k m n : ℕ) (s t u : Bool) → tree ≡ e.Binary op a b → y ≡ a → z ≡ b → HasShape v y m t → HasShape v z n u → g ≡ family_of op → k ≡ joined_width g m n →
     s ≡ joined_sign g t u → HasShape v tree k s

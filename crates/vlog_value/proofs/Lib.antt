@@ -3,8 +3,11 @@ pub mod Signs
 pub mod Moves
 pub mod Forms
 pub mod Families
+pub mod Lengths
 pub mod Facts
+pub mod Shaped
 pub mod Values
+pub mod Counted
 pub mod WordNames
 pub mod Rows
 pub mod Meanings

@@ -150,6 +150,29 @@ joined_sign f.Division t u = t && u
 joined_sign f.Shift t u = t
 joined_sign f t u = false
 
+-- whether an operand's own length and sign count: for where the operands are taken, and for the length and the sign of the whole
+abbrev pub places_by_left : Family → Bool
+places_by_left f.Order = true
+places_by_left f.Equality = true
+places_by_left f.Logic = true
+places_by_left f = false
+
+abbrev pub places_by_right : Family → Bool
+places_by_right f.Arithmetic = false
+places_by_right f.Division = false
+places_by_right f = true
+
+abbrev pub sizes_by_left : Family → Bool
+sizes_by_left f.Arithmetic = true
+sizes_by_left f.Division = true
+sizes_by_left f.Shift = true
+sizes_by_left f = false
+
+abbrev pub sizes_by_right : Family → Bool
+sizes_by_right f.Arithmetic = true
+sizes_by_right f.Division = true
+sizes_by_right f = false
+
 -- its number, where the operands have the numbers x and y, the left one at k bits and the sign t
 abbrev pub joined_number : Family → Binary → ℕ → Bool → ℕ → Bool → ℕ → ℕ → ℕ
 joined_number f.Arithmetic op L s k t x y = arithmetic_of op L x y

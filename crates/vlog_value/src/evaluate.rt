@@ -1,14 +1,14 @@
 // Lengths, signs and values of expressions.
 
-ghost use Rattle.std.specs.Prelude.{◌≡◌, nat_eq, false, if◌then◌else◌, ℕ, ◌+◌, ◌*◌, ◌^◌, ◌≤◌, ◌<◌, Bool, IsTrue, IfSome, IfNone, List, ℤ, pos, negsuc, ◌≤ℤ◌, ◌<ℤ◌};
+ghost use Rattle.std.specs.Prelude.{◌≡◌, nat_eq, true, false, if◌then◌else◌, ℕ, ◌+◌, ◌*◌, ◌^◌, ◌≤◌, ◌<◌, Bool, IsTrue, IfSome, IfNone, List, ℤ, pos, negsuc, ◌≤ℤ◌, ◌<ℤ◌};
 ghost use Rattle.vlog_tree.specs.Valuation.{IsLength};
 ghost use Rattle.vlog_tree.specs.Value.{IsFormed, IsDefined, width_of, sign_of, value_of, own_value, own_integer, own_defined, own, operand_of, part_width, natural, cast_sign, bits_of, integer};
 ghost use Rattle.vlog_value.specs.Shapes.{HasShape, HasOwn, HasValue, IsReady, HasBound, NeedsBound, HasRow, each_formed, each_row, copy_number, HasRowWord, FitsPart, part_word, select_word, IsRow};
 
 use crate::names::{depth_of, is_length, number_width, standing, word_value};
 use crate::operators::{
-    extended, family_of, inner_place, integer, joined, joined_shape, left_place, longer, low_bits,
-    made, made_shape, right_place,
+    extended, family_of, inner_place, integer, is_reduction, joined, joined_shape, left_place,
+    longer, low_bits, made, made_shape, placing, right_place, sizing,
 };
 use crate::selects::{bits, part_low, part_width};
 use sqlite_items::{Boxed, Items};
@@ -34,7 +34,8 @@ fn select_shape(vector: Constant, depth: u8) -> (u8, bool)
     }
 }
 
-fn is_signed(cast: Cast) -> bool
+/// Whether a cast makes a value signed.
+pub fn is_signed(cast: Cast) -> bool
     ensures { result ≡ cast_sign cast }
 {
     match cast {
@@ -122,6 +123,64 @@ pub fn shape_of(expr: &Expr, valuation: &Valuation) -> Option<(u8, bool)>
             let width = copies_width(integer(count.word, count.signed), row)?;
             Some((width, false))
         }
+    }
+}
+
+// The length and the sign that a well-formed expression has by itself. A part on which they don't depend isn't looked at, as the operands of a
+// comparison.
+#[cycle(evaluation)]
+fn own_shape(expr: &Expr, valuation: &Valuation) -> (u8, bool)
+    requires { IsFormed valuation.now expr.now }
+    ensures { HasShape valuation.now expr.now result.0 result.1 }
+{
+    match expr {
+        Expr::ConstantSelect(_, _) => (1, false),
+        Expr::Cast(cast, inner) => {
+            let inner = own_shape(formed(inner, valuation), valuation);
+            (inner.0, is_signed(*cast))
+        }
+        Expr::Paren(inner) => own_shape(formed(inner, valuation), valuation),
+        Expr::Unary(op, inner) => {
+            if is_reduction(*op) {
+                return (1, false);
+            }
+            own_shape(formed(inner, valuation), valuation)
+        }
+        Expr::Binary(op, a, b) => {
+            let family = family_of(*op);
+            let counting = sizing(family);
+            let left = shape_where(formed(a, valuation), counting.left, valuation);
+            let right = shape_where(formed(b, valuation), counting.right, valuation);
+            joined_shape(family, left, right)
+        }
+        Expr::Choice(_, a, b) => {
+            let left = own_shape(formed(a, valuation), valuation);
+            let right = own_shape(formed(b, valuation), valuation);
+            longer(left, right)
+        }
+        Expr::Number(_)
+        | Expr::Name(_)
+        | Expr::Select(_, _)
+        | Expr::Part(_, _, _, _)
+        | Expr::ConstantPart(_, _, _, _)
+        | Expr::Concat(_)
+        | Expr::Repeat(_, _) => match shape_of(expr, valuation) {
+            Some(shape) => shape,
+            None => unreachable!(),
+        },
+    }
+}
+
+// The same where it counts. Else the expression isn't looked at, and one bit stands for it.
+#[cycle(evaluation)]
+fn shape_where(expr: &Expr, counts: bool, valuation: &Valuation) -> (u8, bool)
+    requires { IsFormed valuation.now expr.now }
+    ensures { counts ≡ true → HasShape valuation.now expr.now result.0 result.1 }
+{
+    if counts {
+        own_shape(expr, valuation)
+    } else {
+        (1, false)
     }
 }
 
@@ -231,15 +290,18 @@ fn value_at(expr: &Expr, here: (u8, bool), valuation: &Valuation) -> Option<Word
         }
         Expr::Paren(inner) => value_at(operand(inner, here.0, valuation), here, valuation),
         Expr::Unary(op, inner) => {
-            let place = inner_place(*op, here, shape_of(inner.get(), valuation)?);
+            let own = shape_where(formed(inner, valuation), is_reduction(*op), valuation);
+            let place = inner_place(*op, here, own);
             let inner = value_at(operand(inner, place.0, valuation), place, valuation)?;
             Some(made(*op, here.0, inner))
         }
         Expr::Binary(op, a, b) => {
-            let m = shape_of(a.get(), valuation)?;
-            let n = shape_of(b.get(), valuation)?;
-            let left = left_place(family_of(*op), here, m, n);
-            let right = right_place(family_of(*op), here, m, n);
+            let family = family_of(*op);
+            let counting = placing(family);
+            let m = shape_where(formed(a, valuation), counting.left, valuation);
+            let n = shape_where(formed(b, valuation), counting.right, valuation);
+            let left = left_place(family, here, m, n);
+            let right = right_place(family, here, m, n);
             let a = value_at(operand(a, left.0, valuation), left, valuation)?;
             let b = value_at(operand(b, right.0, valuation), right, valuation)?;
             joined(*op, here, left.1, a, b)
@@ -408,6 +470,16 @@ fn row<'a>(items: &'a Items<Expr>, valuation: &Valuation) -> &'a [Expr]
 {
     let _valuation = valuation;
     items.as_slice()
+}
+
+// A part of an expression that is well formed.
+fn formed<'a>(boxed: &'a Boxed<Expr>, valuation: &Valuation) -> &'a Expr
+    requires { IsFormed valuation.now boxed.now }
+    ensures same { result.now ≡ boxed.now }
+    ensures formed { IsFormed valuation.now result.now }
+{
+    let _valuation = valuation;
+    boxed.get()
 }
 
 // A part of an expression that is taken at a length.

@@ -9,8 +9,9 @@ mod operators;
 mod selects;
 
 pub use counts::{evaluated, evaluated_at, folded, measured};
-pub use evaluate::{checked_own_value, checked_value, own_value, shape_of, value};
+pub use evaluate::{checked_own_value, checked_value, is_signed, own_value, shape_of, value};
 pub use names::number_width;
 pub use operators::{
-    Family, cut, family_of, inner_place, integer, is_reduction, left_place, low_bits, right_place,
+    Counting, Family, cut, family_of, integer, is_reduction, joined_shape, left_place, longer,
+    low_bits, placing, right_place, sizing,
 };

@@ -3,7 +3,7 @@
 ghost use Rattle.std.specs.Prelude.{◌≡◌, ◌≢◌, ◌+◌, ◌-◌, ◌%◌, ◌^◌, ◌≤◌, ◌<◌, min, max, ◌&&◌, IfSome, IfNone, nat_eq, nat_le, not, true, false, Bool, int_lt, ℤ, pos, negsuc, ◌≤ℤ◌, ◌<ℤ◌, if◌then◌else◌};
 ghost use Rattle.word_core.specs.Words.{word, flag, IsWord};
 ghost use Rattle.vlog_tree.specs.Value.{integer, cut, bit, extend};
-ghost use Rattle.vlog_value.specs.Operators.{family_of, arithmetic_of, quotient_of, shift_of, order_of, equality_of, logic_of, is_reduction, sign_change_of, reduction_of, left_width, right_width, left_sign, right_sign, joined_width, joined_sign, joined_number, is_joined, inner_width, inner_sign, made_width, made_sign, made_number, PlacesFit};
+ghost use Rattle.vlog_value.specs.Operators.{family_of, arithmetic_of, quotient_of, shift_of, order_of, equality_of, logic_of, is_reduction, sign_change_of, reduction_of, left_width, right_width, left_sign, right_sign, joined_width, joined_sign, joined_number, is_joined, places_by_left, places_by_right, sizes_by_left, sizes_by_right, inner_width, inner_sign, made_width, made_sign, made_number, PlacesFit};
 
 use vlog_tree::{Binary, Unary};
 use word_core::Word;
@@ -279,6 +279,55 @@ pub fn quotient(op: Binary, a: Word, b: Word, signed: bool) -> Word
         Binary::Div => cut(a.width(), dividend / divisor),
         Binary::Rem => cut(a.width(), dividend % divisor),
         _ => unreachable!(),
+    }
+}
+
+/// Which operands' own lengths and signs count for something.
+#[derive(Clone, Copy)]
+pub struct Counting {
+    pub left: bool,
+    pub right: bool,
+}
+
+/// Which ones say where an operator of this family takes its operands.
+pub fn placing(family: Family) -> Counting
+    ensures left { result.left ≡ places_by_left family }
+    ensures right { result.right ≡ places_by_right family }
+{
+    match family {
+        Family::Arithmetic | Family::Division => Counting {
+            left: false,
+            right: false,
+        },
+        Family::Shift => Counting {
+            left: false,
+            right: true,
+        },
+        Family::Order | Family::Equality | Family::Logic => Counting {
+            left: true,
+            right: true,
+        },
+    }
+}
+
+/// Which ones say what length and sign its expression has by itself.
+pub fn sizing(family: Family) -> Counting
+    ensures left { result.left ≡ sizes_by_left family }
+    ensures right { result.right ≡ sizes_by_right family }
+{
+    match family {
+        Family::Arithmetic | Family::Division => Counting {
+            left: true,
+            right: true,
+        },
+        Family::Shift => Counting {
+            left: true,
+            right: false,
+        },
+        Family::Order | Family::Equality | Family::Logic => Counting {
+            left: false,
+            right: false,
+        },
     }
 }
 

@@ -1,13 +1,15 @@
 -- What each form of an expression gives.
-use Rattle.std.proofs.Common.{◌≡◌, to_z, of_z, arith}
+use Rattle.std.proofs.Common.{◌≡◌, refl, sym, ◌∙◌, to_z, of_z, arith}
 use Rattle.std.proofs.lemmas.Int.{ints}
 use mir.Syntax.{w128}
-use Rattle.vlog_value.proofs.Forms.{select_formed, part_formed, constant_select_formed, constant_part_formed, cast_formed, unary_formed, binary_formed, choice_formed, concat_formed, repeat_formed}
-use Rattle.vlog_value.proofs.Facts.{unformed, undefined, paren_some, paren_none, needs_bound, needs_second, part_fits, part_shape, part_has, constant_part_has, select_has, constant_select_has, cast_has, unary_has, binary_has, choice_has, concat_has, repeat_has, row_short, repeat_fits}
+use Rattle.vlog_value.proofs.Forms.{select_formed, part_formed, constant_select_formed, constant_part_formed, cast_formed, paren_formed, unary_formed, binary_formed, choice_formed, concat_formed, repeat_formed}
+use Rattle.vlog_value.proofs.Facts.{unformed, undefined, paren_some, paren_none, needs_bound, needs_second, part_fits, part_shape, part_has, constant_part_has, select_has, constant_select_has, cast_has, paren_has, unary_has, binary_has, choice_has, concat_has, repeat_has, row_short, repeat_fits}
+use Rattle.vlog_value.proofs.Shaped.{constant_select_shape, reduction_shape, change_shape}
+use Rattle.vlog_value.proofs.Counted.{sized_where, taken_where, ready_where, inner_where}
 use Rattle.vlog_value.proofs.Rows.{next_part, next_formed, next_defined, next_width, next_fits, next_number}
 use Rattle.vlog_tree.specs.Valuation.{named}
 use Rattle.vlog_tree.specs.Value.{operand_of}
-use Rattle.vlog_value.proofs.Values.{select_defined, constant_select_defined, part_defined, constant_part_defined, cast_defined, unary_defined_at, choice_defined, concat_defined, repeat_defined, constant_select_value, part_value_is, paren_value_some, paren_value_none, binary_some, binary_none, constant_part_value, part_ready, part_long, constant_part_long, select_value, select_long, cast_value, cast_long, paren_ready, unary_ready, made_fits_word, unary_value, binary_ready, taken_by, binary_left, binary_right, places_fit, choice_ready, choice_value, concat_value, concat_long, repeat_value, repeat_long, repeat_suits, shape_width, shape_sign, row_length}
+use Rattle.vlog_value.proofs.Values.{select_defined, constant_select_defined, part_defined, constant_part_defined, cast_defined, unary_defined_at, choice_defined, concat_defined, repeat_defined, constant_select_value, part_value_is, paren_value_some, paren_value_none, binary_some, binary_none, constant_part_value, part_ready, part_long, constant_part_long, select_value, select_long, cast_value, cast_long, paren_ready, unary_ready, made_fits_word, unary_value, binary_left, binary_right, places_fit, choice_ready, choice_value, concat_value, concat_long, repeat_value, repeat_long, repeat_suits, shape_width, shape_sign, row_length}
 use Rattle.vlog_value.proofs.evaluate.+evaluation.Goals as goal
 
 pub shape_of-returns-in_err-vector-in-Select-clause-none : goal.shape_of-returns-in_err-vector-in-Select-clause-none
@@ -198,35 +200,26 @@ value_at-extended-requires-in-Cast-clause-wider t c = cast_long _ _ _ _ _ _ _ _ 
 pub value_at-operand-requires : goal.value_at-operand-requires
 value_at-operand-requires t c = paren_ready _ _ _ _ c.in-Paren.is c.requires
 
-pub value_at-returns-in_err-shape_of-in-Unary-clause-none : goal.value_at-returns-in_err-shape_of-in-Unary-clause-none
-value_at-returns-in_err-shape_of-in-Unary-clause-none t c = undefined c.args.valuation.now c.args.expr.now c.args.here.0 c.args.here.1 c.from_residual-in_err-shape_of-in-Unary.result (λ h. c.in_err-shape_of-in-Unary.ensures.none (rw c.get-in-Unary.ensures (unary_formed _ _ _ _ c.in-Unary.is c.requires.formed)))
-
 pub value_at-operand-requires-in-Unary : goal.value_at-operand-requires-in-Unary
-value_at-operand-requires-in-Unary t c = unary_ready _ _ _ _ _ _ _ _ _ c.in-Unary.is c.requires c.get-in-Unary.ensures c.in_ok-shape_of-in-Unary.ensures.some c.inner_place-place.ensures.width
+value_at-operand-requires-in-Unary t c = unary_ready _ _ _ _ _ _ _ _ _ c.in-Unary.is c.requires c.formed.ensures.same (inner_where _ _ _ _ _ _ _ _ _ _ _ _ c.in-Unary.is c.formed.ensures.same c.requires.formed c.is_reduction.ensures c.shape_where-own.ensures c.inner_place-place.ensures.width c.inner_place-place.ensures.sign).0 (inner_where _ _ _ _ _ _ _ _ _ _ _ _ c.in-Unary.is c.formed.ensures.same c.requires.formed c.is_reduction.ensures c.shape_where-own.ensures c.inner_place-place.ensures.width c.inner_place-place.ensures.sign).1
 
 pub value_at-returns-in_err-inner-in-Unary-clause-none : goal.value_at-returns-in_err-inner-in-Unary-clause-none
-value_at-returns-in_err-inner-in-Unary-clause-none t c = undefined c.args.valuation.now c.args.expr.now c.args.here.0 c.args.here.1 c.from_residual-in_err-inner-in-Unary.result (λ h. c.in_err-inner-in-Unary.ensures.none (unary_defined_at _ _ _ _ _ _ _ _ _ _ _ c.in-Unary.is c.operand-in-Unary.ensures.same (shape_width _ _ _ _ _ c.get-in-Unary.ensures c.in_ok-shape_of-in-Unary.ensures.some) (shape_sign _ _ _ _ _ c.get-in-Unary.ensures c.in_ok-shape_of-in-Unary.ensures.some) c.inner_place-place.ensures.width c.inner_place-place.ensures.sign h))
+value_at-returns-in_err-inner-in-Unary-clause-none t c = undefined c.args.valuation.now c.args.expr.now c.args.here.0 c.args.here.1 c.from_residual-in_err-inner-in-Unary.result (λ h. c.in_err-inner-in-Unary.ensures.none (unary_defined_at _ _ _ _ _ _ _ _ _ _ _ c.in-Unary.is c.operand-in-Unary.ensures.same (shape_width _ _ _ _ _ c.formed.ensures.same (inner_where _ _ _ _ _ _ _ _ _ _ _ _ c.in-Unary.is c.formed.ensures.same c.requires.formed c.is_reduction.ensures c.shape_where-own.ensures c.inner_place-place.ensures.width c.inner_place-place.ensures.sign).0) (shape_sign _ _ _ _ _ c.formed.ensures.same (inner_where _ _ _ _ _ _ _ _ _ _ _ _ c.in-Unary.is c.formed.ensures.same c.requires.formed c.is_reduction.ensures c.shape_where-own.ensures c.inner_place-place.ensures.width c.inner_place-place.ensures.sign).0) (inner_where _ _ _ _ _ _ _ _ _ _ _ _ c.in-Unary.is c.formed.ensures.same c.requires.formed c.is_reduction.ensures c.shape_where-own.ensures c.inner_place-place.ensures.width c.inner_place-place.ensures.sign).1 (inner_where _ _ _ _ _ _ _ _ _ _ _ _ c.in-Unary.is c.formed.ensures.same c.requires.formed c.is_reduction.ensures c.shape_where-own.ensures c.inner_place-place.ensures.width c.inner_place-place.ensures.sign).2 h))
 
 pub value_at-made-requires-clause-some : goal.value_at-made-requires-clause-some
 value_at-made-requires-clause-some t c = c.requires.some
 
-pub value_at-returns-in_err-m-in-Binary-clause-none : goal.value_at-returns-in_err-m-in-Binary-clause-none
-value_at-returns-in_err-m-in-Binary-clause-none t c = undefined c.args.valuation.now c.args.expr.now c.args.here.0 c.args.here.1 c.from_residual-in_err-m-in-Binary.result (λ h. c.in_err-m-in-Binary.ensures.none (rw c.get-in-Binary.ensures (binary_formed _ _ _ _ _ c.in-Binary.is c.requires.formed).0))
-
-pub value_at-returns-in_err-n-in-Binary-clause-none : goal.value_at-returns-in_err-n-in-Binary-clause-none
-value_at-returns-in_err-n-in-Binary-clause-none t c = undefined c.args.valuation.now c.args.expr.now c.args.here.0 c.args.here.1 c.from_residual-in_err-n-in-Binary.result (λ h. c.in_err-n-in-Binary.ensures.none (rw c.get-in-Binary-2.ensures (binary_formed _ _ _ _ _ c.in-Binary.is c.requires.formed).1))
-
 pub value_at-operand-requires-in-Binary : goal.value_at-operand-requires-in-Binary
-value_at-operand-requires-in-Binary t c = rw (c.left_place-left.ensures.width, c.family_of.ensures) (binary_ready _ _ _ _ _ _ _ _ _ _ _ _ c.in-Binary.is c.requires c.get-in-Binary.ensures c.get-in-Binary-2.ensures c.in_ok-m-in-Binary.ensures.some c.in_ok-n-in-Binary.ensures.some).0
+value_at-operand-requires-in-Binary t c = (ready_where _ _ _ _ _ _ _ _ _ _ _ c.in-Binary.is c.requires (taken_where _ _ _ _ _ _ _ _ _ _ _ _ _ _ _ _ _ _ _ _ c.in-Binary.is c.formed-in-Binary.ensures.same c.formed-in-Binary-2.ensures.same c.requires.formed c.family_of-family.ensures c.placing-counting.ensures.left c.placing-counting.ensures.right c.shape_where-m.ensures c.shape_where-n.ensures c.left_place-left.ensures.width c.right_place-right.ensures.width c.left_place-left.ensures.sign c.right_place-right.ensures.sign)).0
 
 pub value_at-returns-in_err-a-in-Binary-clause-none : goal.value_at-returns-in_err-a-in-Binary-clause-none
-value_at-returns-in_err-a-in-Binary-clause-none t c = undefined c.args.valuation.now c.args.expr.now c.args.here.0 c.args.here.1 c.from_residual-in_err-a-in-Binary.result (λ h. c.in_err-a-in-Binary.ensures.none (binary_left _ _ _ _ _ _ _ _ _ _ _ _ c.in-Binary.is c.operand-in-Binary.ensures.same (taken_by _ _ _ _ _ _ _ _ _ _ _ _ _ _ _ _ _ _ c.get-in-Binary.ensures c.get-in-Binary-2.ensures c.in_ok-m-in-Binary.ensures.some c.in_ok-n-in-Binary.ensures.some c.family_of.ensures c.family_of-in-Binary.ensures c.left_place-left.ensures.width c.right_place-right.ensures.width c.left_place-left.ensures.sign c.right_place-right.ensures.sign) h))
+value_at-returns-in_err-a-in-Binary-clause-none t c = undefined c.args.valuation.now c.args.expr.now c.args.here.0 c.args.here.1 c.from_residual-in_err-a-in-Binary.result (λ h. c.in_err-a-in-Binary.ensures.none (binary_left _ _ _ _ _ _ _ _ _ _ _ _ c.in-Binary.is c.operand-in-Binary.ensures.same (taken_where _ _ _ _ _ _ _ _ _ _ _ _ _ _ _ _ _ _ _ _ c.in-Binary.is c.formed-in-Binary.ensures.same c.formed-in-Binary-2.ensures.same c.requires.formed c.family_of-family.ensures c.placing-counting.ensures.left c.placing-counting.ensures.right c.shape_where-m.ensures c.shape_where-n.ensures c.left_place-left.ensures.width c.right_place-right.ensures.width c.left_place-left.ensures.sign c.right_place-right.ensures.sign) h))
 
 pub value_at-operand-requires-in-Binary-2 : goal.value_at-operand-requires-in-Binary-2
-value_at-operand-requires-in-Binary-2 t c = rw (c.right_place-right.ensures.width, c.family_of-in-Binary.ensures) (binary_ready _ _ _ _ _ _ _ _ _ _ _ _ c.in-Binary.is c.requires c.get-in-Binary.ensures c.get-in-Binary-2.ensures c.in_ok-m-in-Binary.ensures.some c.in_ok-n-in-Binary.ensures.some).1
+value_at-operand-requires-in-Binary-2 t c = (ready_where _ _ _ _ _ _ _ _ _ _ _ c.in-Binary.is c.requires (taken_where _ _ _ _ _ _ _ _ _ _ _ _ _ _ _ _ _ _ _ _ c.in-Binary.is c.formed-in-Binary.ensures.same c.formed-in-Binary-2.ensures.same c.requires.formed c.family_of-family.ensures c.placing-counting.ensures.left c.placing-counting.ensures.right c.shape_where-m.ensures c.shape_where-n.ensures c.left_place-left.ensures.width c.right_place-right.ensures.width c.left_place-left.ensures.sign c.right_place-right.ensures.sign)).1
 
 pub value_at-returns-in_err-b-in-Binary-clause-none : goal.value_at-returns-in_err-b-in-Binary-clause-none
-value_at-returns-in_err-b-in-Binary-clause-none t c = undefined c.args.valuation.now c.args.expr.now c.args.here.0 c.args.here.1 c.from_residual-in_err-b-in-Binary.result (λ h. c.in_err-b-in-Binary.ensures.none (binary_right _ _ _ _ _ _ _ _ _ _ _ _ c.in-Binary.is c.operand-in-Binary-2.ensures.same (taken_by _ _ _ _ _ _ _ _ _ _ _ _ _ _ _ _ _ _ c.get-in-Binary.ensures c.get-in-Binary-2.ensures c.in_ok-m-in-Binary.ensures.some c.in_ok-n-in-Binary.ensures.some c.family_of.ensures c.family_of-in-Binary.ensures c.left_place-left.ensures.width c.right_place-right.ensures.width c.left_place-left.ensures.sign c.right_place-right.ensures.sign) h))
+value_at-returns-in_err-b-in-Binary-clause-none t c = undefined c.args.valuation.now c.args.expr.now c.args.here.0 c.args.here.1 c.from_residual-in_err-b-in-Binary.result (λ h. c.in_err-b-in-Binary.ensures.none (binary_right _ _ _ _ _ _ _ _ _ _ _ _ c.in-Binary.is c.operand-in-Binary-2.ensures.same (taken_where _ _ _ _ _ _ _ _ _ _ _ _ _ _ _ _ _ _ _ _ c.in-Binary.is c.formed-in-Binary.ensures.same c.formed-in-Binary-2.ensures.same c.requires.formed c.family_of-family.ensures c.placing-counting.ensures.left c.placing-counting.ensures.right c.shape_where-m.ensures c.shape_where-n.ensures c.left_place-left.ensures.width c.right_place-right.ensures.width c.left_place-left.ensures.sign c.right_place-right.ensures.sign) h))
 
 pub value_at-joined-requires-clause-some : goal.value_at-joined-requires-clause-some
 value_at-joined-requires-clause-some t c = c.requires.some
@@ -292,13 +285,13 @@ pub value_at-returns-in-Paren-clause-none : goal.value_at-returns-in-Paren-claus
 value_at-returns-in-Paren-clause-none t c = paren_value_none _ _ _ _ _ _ c.value_at.result c.in-Paren.is c.operand.ensures.same c.value_at.ensures.none
 
 pub value_at-returns-in_ok-inner-in-Unary-clause-some : goal.value_at-returns-in_ok-inner-in-Unary-clause-some
-value_at-returns-in_ok-inner-in-Unary-clause-some t c = unary_value _ _ _ _ _ _ _ _ _ _ _ _ _ _ c.in-Unary.is c.get-in-Unary.ensures c.operand-in-Unary.ensures.same c.in_ok-shape_of-in-Unary.ensures.some c.inner_place-place.ensures.width c.inner_place-place.ensures.sign c.in_ok-inner-in-Unary.ensures.some c.made.ensures
+value_at-returns-in_ok-inner-in-Unary-clause-some t c = unary_value _ _ _ _ _ _ _ _ _ _ _ _ _ _ c.in-Unary.is c.formed.ensures.same c.operand-in-Unary.ensures.same (inner_where _ _ _ _ _ _ _ _ _ _ _ _ c.in-Unary.is c.formed.ensures.same c.requires.formed c.is_reduction.ensures c.shape_where-own.ensures c.inner_place-place.ensures.width c.inner_place-place.ensures.sign).0 (inner_where _ _ _ _ _ _ _ _ _ _ _ _ c.in-Unary.is c.formed.ensures.same c.requires.formed c.is_reduction.ensures c.shape_where-own.ensures c.inner_place-place.ensures.width c.inner_place-place.ensures.sign).1 (inner_where _ _ _ _ _ _ _ _ _ _ _ _ c.in-Unary.is c.formed.ensures.same c.requires.formed c.is_reduction.ensures c.shape_where-own.ensures c.inner_place-place.ensures.width c.inner_place-place.ensures.sign).2 c.in_ok-inner-in-Unary.ensures.some c.made.ensures
 
 pub value_at-returns-in_ok-b-in-Binary-clause-some : goal.value_at-returns-in_ok-b-in-Binary-clause-some
-value_at-returns-in_ok-b-in-Binary-clause-some t c = binary_some _ _ _ _ _ _ _ _ _ _ _ _ _ _ _ c.joined.result c.in-Binary.is c.operand-in-Binary.ensures.same c.operand-in-Binary-2.ensures.same (taken_by _ _ _ _ _ _ _ _ _ _ _ _ _ _ _ _ _ _ c.get-in-Binary.ensures c.get-in-Binary-2.ensures c.in_ok-m-in-Binary.ensures.some c.in_ok-n-in-Binary.ensures.some c.family_of.ensures c.family_of-in-Binary.ensures c.left_place-left.ensures.width c.right_place-right.ensures.width c.left_place-left.ensures.sign c.right_place-right.ensures.sign) c.in_ok-a-in-Binary.ensures.some c.in_ok-b-in-Binary.ensures.some c.joined.ensures.some
+value_at-returns-in_ok-b-in-Binary-clause-some t c = binary_some _ _ _ _ _ _ _ _ _ _ _ _ _ _ _ c.joined.result c.in-Binary.is c.operand-in-Binary.ensures.same c.operand-in-Binary-2.ensures.same (taken_where _ _ _ _ _ _ _ _ _ _ _ _ _ _ _ _ _ _ _ _ c.in-Binary.is c.formed-in-Binary.ensures.same c.formed-in-Binary-2.ensures.same c.requires.formed c.family_of-family.ensures c.placing-counting.ensures.left c.placing-counting.ensures.right c.shape_where-m.ensures c.shape_where-n.ensures c.left_place-left.ensures.width c.right_place-right.ensures.width c.left_place-left.ensures.sign c.right_place-right.ensures.sign) c.in_ok-a-in-Binary.ensures.some c.in_ok-b-in-Binary.ensures.some c.joined.ensures.some
 
 pub value_at-returns-in_ok-b-in-Binary-clause-none : goal.value_at-returns-in_ok-b-in-Binary-clause-none
-value_at-returns-in_ok-b-in-Binary-clause-none t c = binary_none _ _ _ _ _ _ _ _ _ _ _ _ _ _ _ c.joined.result c.in-Binary.is c.operand-in-Binary.ensures.same c.operand-in-Binary-2.ensures.same (taken_by _ _ _ _ _ _ _ _ _ _ _ _ _ _ _ _ _ _ c.get-in-Binary.ensures c.get-in-Binary-2.ensures c.in_ok-m-in-Binary.ensures.some c.in_ok-n-in-Binary.ensures.some c.family_of.ensures c.family_of-in-Binary.ensures c.left_place-left.ensures.width c.right_place-right.ensures.width c.left_place-left.ensures.sign c.right_place-right.ensures.sign) c.in_ok-a-in-Binary.ensures.some c.in_ok-b-in-Binary.ensures.some c.joined.ensures.none
+value_at-returns-in_ok-b-in-Binary-clause-none t c = binary_none _ _ _ _ _ _ _ _ _ _ _ _ _ _ _ c.joined.result c.in-Binary.is c.operand-in-Binary.ensures.same c.operand-in-Binary-2.ensures.same (taken_where _ _ _ _ _ _ _ _ _ _ _ _ _ _ _ _ _ _ _ _ c.in-Binary.is c.formed-in-Binary.ensures.same c.formed-in-Binary-2.ensures.same c.requires.formed c.family_of-family.ensures c.placing-counting.ensures.left c.placing-counting.ensures.right c.shape_where-m.ensures c.shape_where-n.ensures c.left_place-left.ensures.width c.right_place-right.ensures.width c.left_place-left.ensures.sign c.right_place-right.ensures.sign) c.in_ok-a-in-Binary.ensures.some c.in_ok-b-in-Binary.ensures.some c.joined.ensures.none
 
 pub value_at-returns-in_ok-b-in-Choice-clause-some : goal.value_at-returns-in_ok-b-in-Choice-clause-some
 value_at-returns-in_ok-b-in-Choice-clause-some t c = choice_value _ _ _ _ _ _ _ _ _ _ _ _ _ _ _ c.in-Choice.is c.get-in-Choice.ensures c.operand-in-Choice.ensures.same c.operand-in-Choice-2.ensures.same c.in_ok-condition-in-Choice.ensures.some c.in_ok-a-in-Choice.ensures.some c.in_ok-b-in-Choice.ensures.some c.chosen.ensures
@@ -316,10 +309,10 @@ pub value_at-bit_at-requires : goal.value_at-bit_at-requires
 value_at-bit_at-requires t c = (constant_select_formed _ _ _ _ c.in-ConstantSelect.is c.requires.formed).0
 
 pub value_at-made-requires-clause-fits : goal.value_at-made-requires-clause-fits
-value_at-made-requires-clause-fits t c = λ n. made_fits_word _ _ _ _ _ _ _ _ c.inner_place-place.ensures.width c.in_ok-inner-in-Unary.ensures.some n
+value_at-made-requires-clause-fits t c = λ n. made_fits_word _ _ _ _ _ _ _ _ (inner_where _ _ _ _ _ _ _ _ _ _ _ _ c.in-Unary.is c.formed.ensures.same c.requires.formed c.is_reduction.ensures c.shape_where-own.ensures c.inner_place-place.ensures.width c.inner_place-place.ensures.sign).1 c.in_ok-inner-in-Unary.ensures.some n
 
 pub value_at-joined-requires-clause-fits : goal.value_at-joined-requires-clause-fits
-value_at-joined-requires-clause-fits t c = places_fit _ _ _ _ _ _ _ _ _ _ _ _ _ _ (taken_by _ _ _ _ _ _ _ _ _ _ _ _ _ _ _ _ _ _ c.get-in-Binary.ensures c.get-in-Binary-2.ensures c.in_ok-m-in-Binary.ensures.some c.in_ok-n-in-Binary.ensures.some c.family_of.ensures c.family_of-in-Binary.ensures c.left_place-left.ensures.width c.right_place-right.ensures.width c.left_place-left.ensures.sign c.right_place-right.ensures.sign) c.in_ok-a-in-Binary.ensures.some c.in_ok-b-in-Binary.ensures.some
+value_at-joined-requires-clause-fits t c = places_fit _ _ _ _ _ _ _ _ _ _ _ _ _ _ (taken_where _ _ _ _ _ _ _ _ _ _ _ _ _ _ _ _ _ _ _ _ c.in-Binary.is c.formed-in-Binary.ensures.same c.formed-in-Binary-2.ensures.same c.requires.formed c.family_of-family.ensures c.placing-counting.ensures.left c.placing-counting.ensures.right c.shape_where-m.ensures c.shape_where-n.ensures c.left_place-left.ensures.width c.right_place-right.ensures.width c.left_place-left.ensures.sign c.right_place-right.ensures.sign) c.in_ok-a-in-Binary.ensures.some c.in_ok-b-in-Binary.ensures.some
 
 pub value_at-row-requires : goal.value_at-row-requires
 value_at-row-requires t c = let p = (concat_formed _ _ _ c.in-Concat.is c.requires.formed) in record { formed = p.0; length = p.1 }
@@ -338,3 +331,54 @@ row_word-loop-item-preserved t c =
       fits = next_fits _ _ _ c.in_ok-low.field-0.word c.width.ensures c.appended-number.ensures.fits;
       number = next_number _ _ _ _ _ _ _ _ _ d o c.appended-number.ensures.value c.loop-item.invariant.number;
     }
+
+pub own_shape-formed-requires : goal.own_shape-formed-requires
+own_shape-formed-requires t c = cast_formed _ _ _ _ c.in-Cast.is c.requires
+
+pub own_shape-formed-requires-in-Paren : goal.own_shape-formed-requires-in-Paren
+own_shape-formed-requires-in-Paren t c = paren_formed _ _ _ c.in-Paren.is c.requires
+
+pub own_shape-formed-requires-in-Unary : goal.own_shape-formed-requires-in-Unary
+own_shape-formed-requires-in-Unary t c = unary_formed _ _ _ _ c.in-Unary.is c.requires
+
+pub own_shape-formed-requires-in-Binary : goal.own_shape-formed-requires-in-Binary
+own_shape-formed-requires-in-Binary t c = (binary_formed _ _ _ _ _ c.in-Binary.is c.requires).0
+
+pub own_shape-formed-requires-in-Binary-2 : goal.own_shape-formed-requires-in-Binary-2
+own_shape-formed-requires-in-Binary-2 t c = (binary_formed _ _ _ _ _ c.in-Binary.is c.requires).1
+
+pub own_shape-formed-requires-in-Choice : goal.own_shape-formed-requires-in-Choice
+own_shape-formed-requires-in-Choice t c = (choice_formed _ _ _ _ _ c.in-Choice.is c.requires).1
+
+pub own_shape-formed-requires-in-Choice-2 : goal.own_shape-formed-requires-in-Choice-2
+own_shape-formed-requires-in-Choice-2 t c = (choice_formed _ _ _ _ _ c.in-Choice.is c.requires).2
+
+pub own_shape-returns-in-ConstantSelect : goal.own_shape-returns-in-ConstantSelect
+own_shape-returns-in-ConstantSelect t c = constant_select_shape _ _ _ _ c.in-ConstantSelect.is c.requires
+
+pub own_shape-returns-in-Cast : goal.own_shape-returns-in-Cast
+own_shape-returns-in-Cast t c = cast_has _ _ _ _ _ _ _ _ c.in-Cast.is c.formed.ensures.same c.own_shape-inner.ensures c.is_signed.ensures
+
+pub own_shape-returns-in-Paren : goal.own_shape-returns-in-Paren
+own_shape-returns-in-Paren t c = paren_has _ _ _ _ _ _ c.in-Paren.is c.formed-in-Paren.ensures.same c.own_shape.ensures
+
+pub own_shape-returns-then-is_reduction : goal.own_shape-returns-then-is_reduction
+own_shape-returns-then-is_reduction t c = reduction_shape _ _ _ _ c.in-Unary.is (sym c.is_reduction.ensures ∙ c.if-is_reduction.true) c.requires
+
+pub own_shape-returns-else-is_reduction : goal.own_shape-returns-else-is_reduction
+own_shape-returns-else-is_reduction t c = change_shape _ _ _ _ _ _ _ c.in-Unary.is c.formed-in-Unary.ensures.same (sym c.is_reduction.ensures ∙ c.if-is_reduction.false) c.own_shape-in-Unary.ensures
+
+pub own_shape-returns-in-Binary : goal.own_shape-returns-in-Binary
+own_shape-returns-in-Binary t c = sized_where _ _ _ _ _ _ _ _ _ _ _ _ _ _ _ _ c.in-Binary.is c.formed-in-Binary.ensures.same c.formed-in-Binary-2.ensures.same c.requires c.family_of-family.ensures c.sizing-counting.ensures.left c.sizing-counting.ensures.right c.shape_where-left.ensures c.shape_where-right.ensures c.joined_shape.ensures.width c.joined_shape.ensures.sign
+
+pub own_shape-returns-in-Choice : goal.own_shape-returns-in-Choice
+own_shape-returns-in-Choice t c = choice_has _ _ _ _ _ _ _ _ _ _ _ _ _ _ c.in-Choice.is refl c.formed-in-Choice.ensures.same c.formed-in-Choice-2.ensures.same (choice_formed _ _ _ _ _ c.in-Choice.is c.requires).0 c.own_shape-left.ensures c.own_shape-right.ensures c.longer.ensures.width c.longer.ensures.sign
+
+pub value_at-formed-requires : goal.value_at-formed-requires
+value_at-formed-requires t c = unary_formed _ _ _ _ c.in-Unary.is c.requires.formed
+
+pub value_at-formed-requires-in-Binary : goal.value_at-formed-requires-in-Binary
+value_at-formed-requires-in-Binary t c = (binary_formed _ _ _ _ _ c.in-Binary.is c.requires.formed).0
+
+pub value_at-formed-requires-in-Binary-2 : goal.value_at-formed-requires-in-Binary-2
+value_at-formed-requires-in-Binary-2 t c = (binary_formed _ _ _ _ _ c.in-Binary.is c.requires.formed).1

@@ -31,14 +31,14 @@ select_length : (t : Bool) (v : List Entry) (x : Read) (a : Operand) → IsLengt
 select_length true v x a h = one
 select_length false v x a h = h
 
-made_length : (t : Bool) (n : ℕ) → IsLength n → IsLength (if t then 1 else n)
+pub made_length : (t : Bool) (n : ℕ) → IsLength n → IsLength (if t then 1 else n)
 made_length true n h = one
 made_length false n h = h
 
 pub longer : (m n : ℕ) → IsLength m → IsLength n → IsLength (max m n)
 longer m n a b = (omega (arith, a.0), omega (arith, a.1, b.1))
 
-joined_length : (g : Family) (m n : ℕ) → IsLength m → IsLength n → IsLength (joined_width g m n)
+pub joined_length : (g : Family) (m n : ℕ) → IsLength m → IsLength n → IsLength (joined_width g m n)
 joined_length f.Arithmetic m n a b = longer m n a b
 joined_length f.Division m n a b = longer m n a b
 joined_length f.Shift m n a b = a
