@@ -10,3 +10,4 @@ mod Labelling
 mod Choosing
 mod Picking
 mod Sparing
+mod Taking

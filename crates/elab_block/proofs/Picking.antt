@@ -22,7 +22,7 @@ use Rattle.elab_node.specs.declared.leaves.Leaf.{Leaf}
 use Rattle.elab_node.specs.Leaves.{declared, valued}
 use Rattle.elab_node.specs.Nodes.{number_at, words, IsNode}
 use Rattle.elab_node.proofs.Alike.{same_operand}
-use Rattle.elab_node.proofs.Kept.{keeps_then, number_kept, node_kept}
+use Rattle.elab_node.proofs.Kept.{keeps_then, keeps_same, number_kept, node_kept}
 use Rattle.elab_node.proofs.Read.{alike_valued}
 use Rattle.elab_block.specs.Standing.{flat, AreLeavesOf, AreShown}
 use Rattle.elab_block.specs.declared.branches.Saved.{Saved}
@@ -31,7 +31,7 @@ use Rattle.elab_block.specs.Sparing.{Spares, ItemsSpare, Covers, EachCovered}
 use Rattle.elab_block.specs.Targets.{name_at}
 use Rattle.elab_block.specs.Ready.{ArePlaced, IsReadyStmt, AreReadyItems, EachReadyItem}
 use Rattle.elab_block.specs.Cases.{each_labels, each_default, case_test, picked, AreMatches}
-use Rattle.elab_block.specs.Runs.{seen_by, is_at_once, AreBefore, AreSet, Runs, Tests, Branches, AreBits, AreTests, Picks, IsDefaultAt}
+use Rattle.elab_block.specs.Runs.{seen_by, is_at_once, AreBefore, AreSet, Runs, Tests, Branches, AreBits, AreTests, Picks, Chooses, IsDefaultAt}
 use Rattle.elab_block.proofs.Joins.{shown_kept, shown_same, leaves_same}
 use Rattle.elab_block.proofs.Saving.{saved_moved, back_ready, back_after, back_saved, away_agrees, covers_same}
 use Rattle.elab_block.proofs.Sides.{valuation_is}
@@ -283,19 +283,23 @@ picking_end reads items tests before ms os a b k is h = subst (λ m. Picks reads
 
 -- ---- the default
 
+pub default_is : (o : Bool) (place : Place) (items : List CaseItem) (k : ℕ) (d : CaseItem) (body : Stmt) (p q : Cycle) (x : Name) → IsDefaultAt items k → k < length items → body ≡ (get_or items k d).body → each_default o place items p q x ≡ run o place body p q x
+default_is o place items k d body p q x at lt is =
+    at.skipped o place p q x
+    ∙ (ap (λ (xs : List CaseItem). each_default o place xs p q x) (drop_at items k d lt)
+    ∙ (ap (λ t. if t then run o place (get_or items k d).body p q x else each_default o place (drop (k + 1) items) p q x) (at.default d lt)
+    ∙ ap (λ z. run o place z p q x) (sym is)))
+
+pub default_away : (o : Bool) (place : Place) (items : List CaseItem) (k : ℕ) (p q : Cycle) (x : Name) → IsDefaultAt items k → length items ≤ k → each_default o place items p q x ≡ q x
+default_away o place items k p q x at le = at.skipped o place p q x ∙ ap (λ (xs : List CaseItem). each_default o place xs p q x) (drop_all items k le)
+
 pub default_runs : (reads : Option (List Leaf)) (items : List CaseItem) (k : ℕ) (d : CaseItem) (body : Stmt) (ms os : List Leaf) (a b : List Node) → IsDefaultAt items k → k < length items → body ≡ (get_or items k d).body
     → Runs reads (λ gs. run (is_at_once reads) (flat gs) body) ms a os b → Runs reads (λ gs. each_default (is_at_once reads) (flat gs) items) ms a os b
 default_runs reads items k d body ms os a b at lt is runs gs e p q leaves before now =
-    shown_same e os b _ _
-    (λ x. at.skipped (is_at_once reads) (flat gs) p q x
-    ∙ (ap (λ (xs : List CaseItem). each_default (is_at_once reads) (flat gs) xs p q x) (drop_at items k d lt)
-    ∙ (ap (λ t. if t then run (is_at_once reads) (flat gs) (get_or items k d).body p q x else each_default (is_at_once reads) (flat gs) (drop (k + 1) items) p q x) (at.default d lt)
-    ∙ ap (λ z. run (is_at_once reads) (flat gs) z p q x) (sym is))))
-    (runs gs e p q leaves before now)
+    shown_same e os b _ _ (λ x. default_is (is_at_once reads) (flat gs) items k d body p q x at lt is) (runs gs e p q leaves before now)
 
 pub default_none : (reads : Option (List Leaf)) (items : List CaseItem) (k : ℕ) (ms : List Leaf) (a : List Node) → IsDefaultAt items k → length items ≤ k → Runs reads (λ gs. each_default (is_at_once reads) (flat gs) items) ms a ms a
-default_none reads items k ms a at le gs e p q leaves before now =
-    shown_same e ms a _ _ (λ x. at.skipped (is_at_once reads) (flat gs) p q x ∙ ap (λ (xs : List CaseItem). each_default (is_at_once reads) (flat gs) xs p q x) (drop_all items k le)) now
+default_none reads items k ms a at le gs e p q leaves before now = shown_same e ms a _ _ (λ x. default_away (is_at_once reads) (flat gs) items k p q x at le) now
 
 pub skipped_next : (items : List CaseItem) (k : ℕ) (x d : CaseItem) → k < length items → x ≡ get_or items k d → is_default x.labels ≡ false
     → ((o : Bool) (p : Place) (c e : Cycle) (y : Name) → each_default o p items c e y ≡ each_default o p (drop k items) c e y)
@@ -306,20 +310,32 @@ skipped_next items k x d lt is other h o p c e y =
 
 -- ---- a case statement
 
-pub case_runs : (reads : Option (List Leaf)) (kind : CaseKind) (subject : Expr) (items : List CaseItem) (tree : Stmt) (zs : List ℕ) (before : List Saved) (ms os ks : List Leaf) (a b d k : List Node) → tree ≡ s.Case kind subject items → AreSet reads ms a
-    → Keeps a b → Keeps b d → IsSaved ms before → EachCovered ms before items → declared os ≡ declared ms → AreBits items zs b → AreTests reads (λ gs. case_test (is_at_once reads) (flat gs) kind subject items) ms a b items zs
-    → Runs reads (λ gs. each_default (is_at_once reads) (flat gs) items) ms b os d → Picks reads items zs before os d ks k → Runs reads (λ gs. run (is_at_once reads) (flat gs) tree) ms a ks k
-case_runs reads kind subject items tree zs before ms os ks a b d k is set ab bd held covers same bits tests default picks gs e p q leaves earlier now =
+numbers_kept : (e : Naming) (a b : List Node) (is : List CaseItem) (zs : List ℕ) → Keeps a b → AreBits is zs a → map (number_at e b) zs ≡ map (number_at e a) zs
+numbers_kept e a b [] [] k h = refl
+numbers_kept e a b [] (z ∷ zs) k h = absurd h
+numbers_kept e a b (i ∷ is) [] k h = absurd h
+numbers_kept e a b (i ∷ is) (z ∷ zs) k h = λ j. number_kept e a b z 1 k h.0 j ∷ numbers_kept e a b is zs k h.1 j
+
+-- the default, and then the items on nodes saved before it
+pub joined_chooses : (reads : Option (List Leaf)) (items : List CaseItem) (zs : List ℕ) (before : List Saved) (ms os ks : List Leaf) (b d k : List Node) → AreSet reads ms b → Keeps b d → IsSaved ms before → EachCovered ms before items → declared os ≡ declared ms
+    → AreBits items zs b → Runs reads (λ gs. each_default (is_at_once reads) (flat gs) items) ms b os d → Picks reads items zs before os d ks k → Chooses reads items zs ms b ks k
+joined_chooses reads items zs before ms os ks b d k set bd held covers same bits default picks gs e p q leaves earlier now =
     let o = is_at_once reads in
-    let ad = keeps_then a b d ab bd in
-    let other = default gs e p q leaves (before_kept e reads ms a b p set ab earlier) (shown_kept e ms a b q ab set.ready now) in
-    let own : AreShown e d (put_back ms before) q = subst (λ m. AreShown e d m q) (sym (back_saved ms before held)) (shown_kept e ms a d q ad set.ready now) in
+    let other = default gs e p q leaves earlier now in
+    let own : AreShown e d (put_back ms before) q = subst (λ m. AreShown e d m q) (sym (back_saved ms before held)) (shown_kept e ms b d q bd set.ready now) in
     let shown : AreShown e d (put_back os before) q =
     back_after e d ms os before q (each_default o (flat gs) items p q) same own other (λ j in' away. default_spared ms gs o items p q (name_at ms j) leaves (covers j in' away)) in
-    let done = picks gs e p q (each_default o (flat gs) items p q) (leaves_same gs ms os same leaves) (before_kept e reads ms a d p set ad earlier) shown other in
+    let done = picks gs e p q (each_default o (flat gs) items p q) (leaves_same gs ms os same leaves) (before_kept e reads ms b d p set bd earlier) shown other in
+    subst (λ (ns : List ℕ). AreShown e k ks (picked o (flat gs) items ns p q (each_default o (flat gs) items p q))) (numbers_kept e b d items zs bd bits) done
+
+pub case_runs : (reads : Option (List Leaf)) (kind : CaseKind) (subject : Expr) (items : List CaseItem) (tree : Stmt) (zs : List ℕ) (ms ks : List Leaf) (a b k : List Node) → tree ≡ s.Case kind subject items → AreSet reads ms a
+    → Keeps a b → AreBits items zs b → AreTests reads (λ gs. case_test (is_at_once reads) (flat gs) kind subject items) ms a b items zs → Chooses reads items zs ms b ks k → Runs reads (λ gs. run (is_at_once reads) (flat gs) tree) ms a ks k
+case_runs reads kind subject items tree zs ms ks a b k is set ab bits tests chooses gs e p q leaves earlier now =
+    let o = is_at_once reads in
     shown_same e ks k _ _
     (λ x. case_run o (flat gs) kind subject items tree p q x is
-    ∙ sym (picked_is reads (λ g. case_test o (flat g) kind subject items) ms a b d items zs gs e p q (each_default o (flat gs) items p q) x (default_unmatched o (flat gs) kind subject items p q) bd bits tests leaves earlier now)) done
+    ∙ sym (picked_is reads (λ g. case_test o (flat g) kind subject items) ms a b b items zs gs e p q (each_default o (flat gs) items p q) x (default_unmatched o (flat gs) kind subject items p q) (keeps_same b) bits tests leaves earlier now))
+    (chooses gs e p q leaves (before_kept e reads ms a b p set ab earlier) (shown_kept e ms a b q ab set.ready now))
 
 get_same : (items : List CaseItem) (k : ℕ) (d i : CaseItem) → k < length items → get_or items k d ≡ get_or items k i
 get_same [] k d i lt = absurd (omega arith)

@@ -1,5 +1,5 @@
 -- Blocks that are run on nodes.
-use Rattle.std.specs.Prelude.{ℕ, ◌≡◌, Bool, true, false, List, [], ◌∷◌, Option, Some, None, map, drop, length, get_or, ◌<◌}
+use Rattle.std.specs.Prelude.{ℕ, ◌≡◌, ◌⊎◌, Bool, true, false, List, [], ◌∷◌, Option, Some, None, map, drop, length, get_or, ◌<◌}
 use Rattle.word_dag.specs.declared.node.Node.{Node}
 use Rattle.word_dag.specs.Nodes.{Naming}
 use Rattle.vlog_runs.specs.declared.flat.Signal.{Signal}
@@ -64,6 +64,12 @@ Branches reads body test before ms old ks new =
     (gs : List Signal) (e : Naming) (p q d : Cycle) → AreLeavesOf gs ms → AreBefore e old reads p → AreShown e old (put_back ms before) q → AreShown e old ms d
     → AreShown e new ks (chosen (number_at e old test) (run (is_at_once reads) (flat gs) body p q) d)
 
+-- the later leaves show what a statement makes of what was shown where a test's node is 1, else what was shown
+abbrev pub Guards : Option (List Leaf) → Stmt → ℕ → List Leaf → List Node → List Leaf → List Node → Type 0
+Guards reads body test ms old ks new =
+    (gs : List Signal) (e : Naming) (p q : Cycle) → AreLeavesOf gs ms → AreBefore e old reads p → AreShown e old ms q
+    → AreShown e new ks (chosen (number_at e old test) (run (is_at_once reads) (flat gs) body p q) q)
+
 -- each node is of one bit, one for each item
 abbrev pub AreBits : List CaseItem → List ℕ → List Node → Type 0
 AreBits [] [] ns = Unit {0}
@@ -83,6 +89,20 @@ abbrev pub Picks : Option (List Leaf) → List CaseItem → List ℕ → List Sa
 Picks reads items tests before ms old ks new =
     (gs : List Signal) (e : Naming) (p q d : Cycle) → AreLeavesOf gs ms → AreBefore e old reads p → AreShown e old (put_back ms before) q → AreShown e old ms d
     → AreShown e new ks (picked (is_at_once reads) (flat gs) items (map (number_at e old) tests) p q d)
+
+-- the later leaves show what the first item whose node is 1 makes of what was shown, and where there is none what the default makes of it
+abbrev pub Chooses : Option (List Leaf) → List CaseItem → List ℕ → List Leaf → List Node → List Leaf → List Node → Type 0
+Chooses reads items tests ms old ks new =
+    (gs : List Signal) (e : Naming) (p q : Cycle) → AreLeavesOf gs ms → AreBefore e old reads p → AreShown e old ms q
+    → AreShown e new ks (picked (is_at_once reads) (flat gs) items (map (number_at e old) tests) p q (each_default (is_at_once reads) (flat gs) items p q))
+
+-- where no item's node is 1, a later node is 0 and the leaves show what was shown; else it is 1, and they show what the first such item
+-- makes of that
+abbrev pub Takes : Option (List Leaf) → List CaseItem → List ℕ → ℕ → List Leaf → List Node → List Leaf → List Node → Type 0
+Takes reads items tests matched ms old ks new =
+    (gs : List Signal) (e : Naming) (p q d : Cycle) → AreLeavesOf gs ms → AreBefore e old reads p → AreShown e old ms q
+    → ((number_at e new matched ≡ 0) × AreShown e new ks q × ((x : Name) → picked (is_at_once reads) (flat gs) items (map (number_at e old) tests) p q d x ≡ d x))
+    ⊎ ((number_at e new matched ≡ 1) × AreShown e new ks (picked (is_at_once reads) (flat gs) items (map (number_at e old) tests) p q d))
 
 -- the place of the first item that is the default, or the number of items
 pub record IsDefaultAt (items : List CaseItem) (k : ℕ) : Type 0 where

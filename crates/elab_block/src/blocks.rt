@@ -10,27 +10,27 @@ ghost use Rattle.elab_block.specs.Sparing.{Covers, EachCovered};
 ghost use Rattle.elab_block.specs.Standing.{flat};
 ghost use Rattle.elab_block.specs.Ready.{IsReadyStmt, EachReadyStmt, EachReadyItem};
 ghost use Rattle.elab_block.specs.Cases.{each_default};
-ghost use Rattle.elab_block.specs.Runs.{is_at_once, AreSet, Runs, Branches, each_runs, AreBits, Picks, IsDefaultAt};
+ghost use Rattle.elab_block.specs.Runs.{is_at_once, AreSet, Runs, Branches, Guards, each_runs, AreBits, Picks, Takes, Chooses, IsDefaultAt};
 
 use crate::branches::{Saved, join, replaced};
+use crate::firsts::{first_of, or_matched, unmatched};
 use crate::parts::{body, listed, one, part, statements};
-use crate::places::{before_items, before_one, before_two};
+use crate::places::{are_alike, before_items, before_one, before_two};
 use crate::stores::{assign, case_tests, condition_node};
-use elab_node::Leaves;
-use sqlite_items::Items;
+use elab_node::{Leaves, constant};
 use std::alloc::{AllocError, Global};
 use vlog_tree::{CaseItem, Labels, Stmt};
 use word_dag::Dag;
 
 // A bit for each item.
-fn tested<'a>(dag: &Dag, items: &Items<CaseItem>, tests: &'a Vec<u64>) -> &'a [u64]
-    requires { AreBits items.now tests.now.items dag.now }
-    ensures same { result.now ≡ tests.now.items }
+fn tested<'a>(dag: &Dag, items: &[CaseItem], tests: &'a [u64]) -> &'a [u64]
+    requires { AreBits items.now tests.now dag.now }
+    ensures same { result.now ≡ tests.now }
     ensures bits { AreBits items.now result.now dag.now }
 {
     let _dag = dag;
     let _items = items;
-    tests.as_slice()
+    tests
 }
 
 fn is_default(labels: &Labels) -> bool
@@ -132,6 +132,16 @@ fn covered<'a>(item: &'a CaseItem, before: &[Saved], state: &Leaves) -> &'a Stmt
     &item.body
 }
 
+// The items of a case statement, which are ready for the leaves after a step as well.
+fn still<'a>(items: &'a [CaseItem], state: &Leaves) -> &'a [CaseItem]
+    requires { EachReadyItem (declared state.now) items.now }
+    ensures same { result.now ≡ items.now }
+    ensures ready { EachReadyItem (declared state.now) result.now }
+{
+    let _state = state;
+    items
+}
+
 /// Runs a statement: the leaves then have the nodes of what their names hold after it, whatever the free words are. Expressions are read
 /// from the leaves of the cycle before the edge, and where there are none, assignments take effect at once. It is refused for want of memory
 /// alone, and then the leaves are half changed.
@@ -160,16 +170,7 @@ pub fn run(
         Stmt::If(condition, body) => {
             let body = part(body, state);
             let test = condition_node(dag, condition, reads, state)?;
-            let before = before_one(alloc, body, state)?;
-            branch(
-                alloc,
-                dag,
-                body,
-                bit(dag, test),
-                held(dag, &before, body, state),
-                reads,
-                state,
-            )?;
+            run_where(alloc, dag, body, test, reads, state)?;
             Ok(())
         }
         Stmt::IfElse(condition, body, other) => {
@@ -191,12 +192,13 @@ pub fn run(
         }
         Stmt::Case(kind, subject, items) => {
             let tests = case_tests(alloc, dag, *kind, subject, items.as_slice(), reads, state)?;
-            let before = before_items(alloc, listed(items, state), state)?;
-            run_default(alloc, dag, listed(items, state), reads, state)?;
-            let bits = tested(dag, items, &tests);
             let row = listed(items, state);
-            let before = held_for(dag, &before, row, state);
-            run_items(alloc, dag, row, bits, before, reads, state)?;
+            let bits = tested(dag, row, tests.as_slice());
+            if are_alike(alloc, row, state)? {
+                run_joined(alloc, dag, row, bits, reads, state)?;
+                return Ok(());
+            }
+            run_apart(alloc, dag, row, bits, reads, state)?;
             Ok(())
         }
         Stmt::Blocking(left, right) | Stmt::Nonblocking(left, right) => {
@@ -232,6 +234,38 @@ fn branch(
     let others = swapped(alloc, dag, before, body, reads, state)?;
     run(alloc, dag, body, reads, state)?;
     join(dag, test, &others, state)?;
+    Ok(())
+}
+
+// A statement that is run where a bit is 1.
+#[cycle(run)]
+#[tactic(auto, using(elab_node::proofs::Kept::keeps_then, elab_node::proofs::Kept::keeps_same, elab_node::proofs::Kept::node_kept))]
+fn run_where(
+    alloc: Global,
+    dag: &mut Dag,
+    body: &Stmt,
+    test: u64,
+    reads: Option<&Leaves>,
+    state: &mut Leaves,
+) -> Result<(), AllocError>
+    requires set { AreSet (option_copied reads) state.old dag.old }
+    requires test { IsNode dag.old test 1 }
+    requires stmt { IsReadyStmt (declared state.old) body.now }
+    ensures keeps { Keeps dag.old dag.new }
+    ensures same { declared state.new ≡ declared state.old }
+    ensures set { IfOk result (λ u. AreSet (option_copied reads.entry) state.new dag.new) }
+    ensures guards { IfOk result (λ u. Guards (option_copied reads.entry) body.now test state.old dag.old state.new dag.new) }
+{
+    let before = before_one(alloc, body, state)?;
+    branch(
+        alloc,
+        dag,
+        body,
+        bit(dag, test),
+        held(dag, &before, body, state),
+        reads,
+        state,
+    )?;
     Ok(())
 }
 
@@ -322,6 +356,101 @@ fn run_items(
             reads,
             state,
         )?;
+    }
+    Ok(())
+}
+
+// The first item whose test is 1, or the default: the nodes of all leaves that one of them assigns are saved once, and joined for each item.
+#[cycle(run)]
+#[tactic(auto, using(elab_node::proofs::Kept::keeps_then, elab_node::proofs::Kept::keeps_same))]
+fn run_joined(
+    alloc: Global,
+    dag: &mut Dag,
+    items: &[CaseItem],
+    tests: &[u64],
+    reads: Option<&Leaves>,
+    state: &mut Leaves,
+) -> Result<(), AllocError>
+    requires set { AreSet (option_copied reads) state.old dag.old }
+    requires items { EachReadyItem (declared state.old) items.now }
+    requires tests { AreBits items.now tests.now dag.old }
+    ensures keeps { Keeps dag.old dag.new }
+    ensures same { declared state.new ≡ declared state.old }
+    ensures set { IfOk result (λ u. AreSet (option_copied reads.entry) state.new dag.new) }
+    ensures chooses { IfOk result (λ u. Chooses (option_copied reads.entry) items.now tests.now state.old dag.old state.new dag.new) }
+{
+    let before = before_items(alloc, items, state)?;
+    run_default(alloc, dag, items, reads, state)?;
+    let row = still(items, state);
+    let bits = tested(dag, row, tests);
+    let before = held_for(dag, &before, row, state);
+    run_items(alloc, dag, row, bits, before, reads, state)?;
+    Ok(())
+}
+
+// The items of a case statement, from the first to the last, each where its test is 1 and no earlier one is. The result is a bit that is 1
+// where one of them is run.
+#[cycle(run)]
+#[tactic(auto, using(elab_node::proofs::Kept::keeps_then, elab_node::proofs::Kept::keeps_same))]
+fn run_each(
+    alloc: Global,
+    dag: &mut Dag,
+    items: &[CaseItem],
+    tests: &[u64],
+    reads: Option<&Leaves>,
+    state: &mut Leaves,
+) -> Result<u64, AllocError>
+    requires set { AreSet (option_copied reads) state.old dag.old }
+    requires items { EachReadyItem (declared state.old) items.now }
+    requires tests { AreBits items.now tests.now dag.old }
+    ensures keeps { Keeps dag.old dag.new }
+    ensures same { declared state.new ≡ declared state.old }
+    ensures set { IfOk result (λ r. AreSet (option_copied reads.entry) state.new dag.new) }
+    ensures node { IfOk result (λ r. IsNode dag.new r 1) }
+    ensures takes { IfOk result (λ r. Takes (option_copied reads.entry) items.now tests.now r state.old dag.old state.new dag.new) }
+{
+    let mut matched = constant(dag, 1, 0)?;
+    for at in 0..items.len() {
+        let item = &items[at];
+        // no label of the default matches
+        if is_default(&item.labels) {
+            continue;
+        }
+        let stmt = body(item, state);
+        let test = tests[at];
+        let first = first_of(dag, matched, test, reads, state)?;
+        run_where(alloc, dag, stmt, first, reads, state)?;
+        matched = or_matched(dag, matched, test)?;
+    }
+    Ok(matched)
+}
+
+// The first item whose test is 1, or the default: each is run where no other one is, so that only what it assigns itself is joined. It takes
+// no more than the text is long, whichever leaves the items assign.
+#[cycle(run)]
+#[tactic(auto, using(elab_node::proofs::Kept::keeps_then, elab_node::proofs::Kept::keeps_same))]
+fn run_apart(
+    alloc: Global,
+    dag: &mut Dag,
+    items: &[CaseItem],
+    tests: &[u64],
+    reads: Option<&Leaves>,
+    state: &mut Leaves,
+) -> Result<(), AllocError>
+    requires set { AreSet (option_copied reads) state.old dag.old }
+    requires items { EachReadyItem (declared state.old) items.now }
+    requires tests { AreBits items.now tests.now dag.old }
+    ensures keeps { Keeps dag.old dag.new }
+    ensures same { declared state.new ≡ declared state.old }
+    ensures set { IfOk result (λ u. AreSet (option_copied reads.entry) state.new dag.new) }
+    ensures chooses { IfOk result (λ u. Chooses (option_copied reads.entry) items.now tests.now state.old dag.old state.new dag.new) }
+{
+    let matched = run_each(alloc, dag, items, tests, reads, state)?;
+    let at = default_at(items);
+    if at < items.len() {
+        let stmt = body(&items[at], state);
+        let rest = unmatched(dag, matched, reads, state)?;
+        run_where(alloc, dag, stmt, rest, reads, state)?;
     }
     Ok(())
 }

@@ -5,6 +5,7 @@ mod bits;
 mod blocks;
 mod branches;
 mod cases;
+mod firsts;
 mod indexed;
 mod items;
 mod left;

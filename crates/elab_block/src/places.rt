@@ -1,5 +1,5 @@
 // The leaves that statements assign.
-ghost use Rattle.std.specs.Prelude.{◌≡◌, ◌≢◌, ◌<◌, ◌↔◌, ℕ, IfOk};
+ghost use Rattle.std.specs.Prelude.{◌≡◌, ◌≢◌, ◌<◌, ◌≤◌, ◌*◌, ◌↔◌, ℕ, IfOk, IsTrue};
 ghost use Rattle.std.specs.List.{Contains};
 ghost use Rattle.vlog_tree.specs.declared.expr.Expr.{Expr};
 ghost use Rattle.vlog_tree.specs.declared.stmt.Stmt.TheVariants as s;
@@ -186,4 +186,27 @@ pub fn before_items(
     add_items(items, leaves, &mut places)?;
     let before = saved_once(alloc, places, leaves)?;
     Ok(before)
+}
+
+// Whether joining all leaves at each item takes at most four times as many choices as joining the items' own. So a case of up to four items
+// is always joined whole.
+fn is_dense(items: usize, all: usize, own: usize) -> bool
+    ensures { IsTrue result ↔ items * all ≤ 4 * own }
+{
+    items as u128 * all as u128 <= 4 * own as u128
+}
+
+/// Whether items mostly assign the same leaves, so that joining all of them at each item costs little more than joining what each assigns
+/// itself. Both ways are right, and this is a matter of cost alone. It is refused for want of memory alone.
+pub fn are_alike(alloc: Global, items: &[CaseItem], leaves: &Leaves) -> Result<bool, AllocError>
+    requires apart { AreApart leaves.now }
+    requires items { EachReadyItem (declared leaves.now) items.now }
+{
+    let all = before_items(alloc, items, leaves)?.len();
+    let mut own: usize = 0;
+    for item in items {
+        let assigned = before_one(alloc, body(item, leaves), leaves)?.len();
+        own = own.saturating_add(assigned);
+    }
+    Ok(is_dense(items.len(), all, own))
 }

@@ -4,18 +4,19 @@ use Rattle.std.specs.Option.{option_copied}
 use Rattle.vlog_tree.specs.declared.stmt.CaseItem.{CaseItem}
 use Rattle.vlog_runs.specs.Blocks.{is_default, run, seen, is_false, case_width, case_sign}
 use Rattle.elab_node.specs.Leaves.{declared}
-use Rattle.elab_node.proofs.Kept.{keeps_same, keeps_then, ready_kept}
-use Rattle.elab_block.specs.Ready.{IsReadyStmt, ArePlaced}
-use Rattle.elab_block.specs.Cases.{each_labels, each_default, case_test}
+use Rattle.elab_node.proofs.Kept.{keeps_same, keeps_then, ready_kept, node_kept, made_node, made_number}
+use Rattle.elab_block.specs.Ready.{IsReadyStmt, EachReadyItem, ArePlaced}
+use Rattle.elab_block.specs.Cases.{each_labels, case_test}
 use Rattle.elab_block.specs.Standing.{flat}
 use Rattle.elab_block.specs.declared.branches.Saved.{Saved}
 use Rattle.elab_block.specs.Saving.{places_of, AreSaved, IsSaved, IsAway}
-use Rattle.elab_block.specs.Sparing.{ItemsSpare, EachCovered}
+use Rattle.elab_block.specs.Sparing.{EachCovered}
 use Rattle.elab_block.specs.Targets.{name_at}
-use Rattle.elab_block.specs.Runs.{is_at_once, Runs, Branches, AreBits, AreTests, Picks}
-use Rattle.elab_block.proofs.Picking.{case_ready, case_runs, bits_kept, bits_long, bit_at, ready_item, picking_next, picking_skip, picking_end, covered_item}
+use Rattle.elab_block.specs.Runs.{is_at_once, Runs, Branches, Guards, AreBits, AreTests, Picks, Chooses}
+use Rattle.elab_block.proofs.Picking.{case_ready, case_runs, bits_kept, bits_long, bit_at, ready_item, picking_next, picking_skip, picking_end, covered_item, joined_chooses}
+use Rattle.elab_block.proofs.Taking.{where_is, guard_runs, taking_start, taking_skip, taking_next, taking_end, apart_default, apart_none}
 use Rattle.elab_block.proofs.Saving.{saved_own, saved_within, saved_is, covers_same, each_same}
-use Rattle.elab_block.proofs.Storing.{set_next, branch_is, choose_runs, stay_runs, runs_to, runs_from, tests_kept, if_runs, if_else_runs, if_ready, if_else_ready, block_runs, runs_same, each_ready, running_at, running_end}
+use Rattle.elab_block.proofs.Storing.{set_next, branch_is, choose_runs, runs_from, tests_kept, if_runs, if_else_runs, if_ready, if_else_ready, block_runs, runs_same, each_ready, running_at, running_end}
 use Rattle.elab_block.proofs.blocks.+run.Goals as goal
 
 pub branch-join-requires-clause-others : goal.branch-join-requires-clause-others
@@ -82,38 +83,16 @@ run-returns-in_ok-run_row-in-Block-clause-runs t c =
     runs_same reads _ _ c.args.state.now c.run_row.new.state c.args.dag.now c.run_row.new.dag
     (λ gs p q x. block_runs (is_at_once reads) (flat gs) _ _ c.statements.result.now c.args.stmt.now p q x c.in-Block.is c.statements.ensures.same) c.in_ok-run_row-in-Block.ensures.runs
 
-pub run-held-requires-clause-nodes : goal.run-held-requires-clause-nodes
-run-held-requires-clause-nodes t c =
-    let ms = c.args.state.now in
-    let d = c.condition_node.new.dag in
-    saved_is ms ms c.in_ok-before-in-If.before.items d refl c.in_ok-before-in-If.ensures.saved c.in_ok-test-in-If.ensures.set.ready
-
-pub run-held-requires-in-IfElse-clause-covers : goal.run-held-requires-in-IfElse-clause-covers
-run-held-requires-in-IfElse-clause-covers t c =
+pub run-held-requires-clause-covers : goal.run-held-requires-clause-covers
+run-held-requires-clause-covers t c =
     covers_same c.args.state.now c.run.new.state c.in_ok-before-in-IfElse.before.items c.part-body-in-IfElse.result.now c.in_ok-run-in-IfElse.ensures.same c.in_ok-before-in-IfElse.ensures.one
 
-pub run-held-requires-in-IfElse-clause-nodes : goal.run-held-requires-in-IfElse-clause-nodes
-run-held-requires-in-IfElse-clause-nodes t c =
+pub run-held-requires-clause-nodes : goal.run-held-requires-clause-nodes
+run-held-requires-clause-nodes t c =
     let ms = c.args.state.now in
     let d = c.condition_node-in-IfElse.new.dag in
     let r = c.in_ok-run-in-IfElse.ensures in
     saved_is ms c.run.new.state c.in_ok-before-in-IfElse.before.items c.run.new.dag r.same c.in_ok-before-in-IfElse.ensures.saved (ready_kept ms d c.run.new.dag r.keeps c.in_ok-test-in-IfElse.ensures.set.ready)
-
-pub run-returns-in_ok-branch-in-If-clause-runs : goal.run-returns-in_ok-branch-in-If-clause-runs
-run-returns-in_ok-branch-in-If-clause-runs t c =
-    let reads = option_copied c.args.reads in
-    let ms = c.args.state.now in
-    let a = c.args.dag.now in
-    let d = c.condition_node.new.dag in
-    let k = c.branch-alloc.new.dag in
-    let ks = c.branch-alloc.new.state in
-    let cond = c.in-If.condition in
-    let n = c.in_ok-test-in-If.ensures in
-    let held = c.held.result.now in
-    let b = subst (λ z. Branches reads c.in-If.body z held ms d ks k) c.bit.ensures.same (subst (λ z. Branches reads z c.bit.result held ms d ks k) c.part-body.ensures.same c.in_ok-branch-in-If.ensures.branches) in
-    if_runs reads cond c.in-If.body c.args.stmt.now ms ks a k c.in-If.is
-    (choose_runs reads c.in-If.body (λ gs p q. not (is_false (flat gs) (seen (is_at_once reads) p q) cond)) (λ gs p q. q) ms ms ks held a d k c.in_ok-test-in-If.test c.requires.set n.keeps
-    (subst (λ (z : List Saved). IsSaved ms z) (sym c.held.ensures.same) c.in_ok-before-in-If.ensures.saved) refl (λ gs p q i leaves lt away. refl) n.tests (runs_to reads (λ gs p q. q) ms ms a a d c.requires.set.ready n.keeps (stay_runs reads ms a)) b)
 
 pub run-returns-in_ok-branch-in-IfElse-clause-runs : goal.run-returns-in_ok-branch-in-IfElse-clause-runs
 run-returns-in_ok-branch-in-IfElse-clause-runs t c =
@@ -123,20 +102,20 @@ run-returns-in_ok-branch-in-IfElse-clause-runs t c =
     let d = c.condition_node-in-IfElse.new.dag in
     let f = c.run.new.dag in
     let os = c.run.new.state in
-    let k = c.branch-alloc-in-IfElse.new.dag in
-    let ks = c.branch-alloc-in-IfElse.new.state in
+    let k = c.branch-alloc.new.dag in
+    let ks = c.branch-alloc.new.state in
     let cond = c.in-IfElse.condition in
     let n = c.in_ok-test-in-IfElse.ensures in
     let r = c.in_ok-run-in-IfElse.ensures in
     let w = c.in_ok-before-in-IfElse.ensures in
-    let held = c.held-in-IfElse.result.now in
-    let b = subst (λ z. Branches reads c.in-IfElse.body z held os f ks k) c.bit-in-IfElse.ensures.same (subst (λ z. Branches reads z c.bit-in-IfElse.result held os f ks k) c.part-body-in-IfElse.ensures.same c.in_ok-branch-in-IfElse.ensures.branches) in
+    let held = c.held.result.now in
+    let b = subst (λ z. Branches reads c.in-IfElse.body z held os f ks k) c.bit.ensures.same (subst (λ z. Branches reads z c.bit.result held os f ks k) c.part-body-in-IfElse.ensures.same c.in_ok-branch-in-IfElse.ensures.branches) in
     let others = subst (λ z. Runs reads (λ gs. run (is_at_once reads) (flat gs) z) ms d os f) c.part-other.ensures.same r.runs in
     if_else_runs reads cond c.in-IfElse.body c.in-IfElse.other c.args.stmt.now ms ks a k c.in-IfElse.is
     (choose_runs reads c.in-IfElse.body (λ gs p q. not (is_false (flat gs) (seen (is_at_once reads) p q) cond)) (λ gs. run (is_at_once reads) (flat gs) c.in-IfElse.other) ms os ks held a f k c.in_ok-test-in-IfElse.test c.requires.set (keeps_then a d f n.keeps r.keeps)
-    (subst (λ (z : List Saved). IsSaved ms z) (sym c.held-in-IfElse.ensures.same) w.saved) r.same
+    (subst (λ (z : List Saved). IsSaved ms z) (sym c.held.ensures.same) w.saved) r.same
     (λ gs p q i leaves lt away.
-    subst (λ z. run (is_at_once reads) (flat gs) z p q (name_at ms i) ≡ q (name_at ms i)) c.part-other.ensures.same (w.other i lt (subst (λ (z : List Saved). IsAway z i) c.held-in-IfElse.ensures.same away) gs (is_at_once reads) p q leaves))
+    subst (λ z. run (is_at_once reads) (flat gs) z p q (name_at ms i) ≡ q (name_at ms i)) c.part-other.ensures.same (w.other i lt (subst (λ (z : List Saved). IsAway z i) c.held.ensures.same away) gs (is_at_once reads) p q leaves))
     (tests_kept reads _ ms a d f c.in_ok-test-in-IfElse.test n.node r.keeps n.tests)
     (runs_from reads (λ gs. run (is_at_once reads) (flat gs) c.in-IfElse.other) ms os a d f c.requires.set n.keeps others) b)
 
@@ -146,54 +125,8 @@ run-case_tests-requires-clause-placed t c =
     let a = c.in-Case.subject in
     subst (λ (xs : List CaseItem). ArePlaced v (a ∷ each_labels xs) (case_width v a (each_labels xs)) (case_sign v a (each_labels xs))) (sym c.as_slice.ensures) (case_ready v c.in-Case.kind a c.in-Case.items c.args.stmt.now c.in-Case.is c.requires.stmt).0
 
-pub run-listed-requires : goal.run-listed-requires
-run-listed-requires t c = (case_ready (declared c.args.state.now) c.in-Case.kind c.in-Case.subject c.in-Case.items c.args.stmt.now c.in-Case.is c.requires.stmt).1
-
-pub run-tested-bits-requires : goal.run-tested-bits-requires
-run-tested-bits-requires t c =
-    let zs = c.in_ok-tests-in-Case.tests.items in
-    bits_kept c.case_tests.new.dag c.run_default.new.dag c.in-Case.items zs c.in_ok-run_default-in-Case.ensures.keeps
-    (subst (λ (xs : List CaseItem). AreBits xs zs c.case_tests.new.dag) c.as_slice.ensures c.in_ok-tests-in-Case.ensures.bits)
-
-pub run-held_for-before-requires-clause-covers : goal.run-held_for-before-requires-clause-covers
-run-held_for-before-requires-clause-covers t c =
-    let ss = c.in_ok-before-in-Case.before.items in
-    subst (λ (xs : List CaseItem). EachCovered c.run_default.new.state ss xs) (c.listed.ensures.same ∙ sym c.listed-row.ensures.same)
-    (each_same c.args.state.now c.run_default.new.state ss c.listed.result.now c.in_ok-run_default-in-Case.ensures.same c.in_ok-before-in-Case.ensures.covers)
-
-pub run-held_for-before-requires-clause-nodes : goal.run-held_for-before-requires-clause-nodes
-run-held_for-before-requires-clause-nodes t c =
-    let ms = c.args.state.now in
-    let b = c.case_tests.new.dag in
-    let d = c.run_default.new.dag in
-    let r = c.in_ok-run_default-in-Case.ensures in
-    saved_is ms c.run_default.new.state c.in_ok-before-in-Case.before.items d r.same c.in_ok-before-in-Case.ensures.saved (ready_kept ms b d r.keeps c.in_ok-tests-in-Case.ensures.set.ready)
-
-pub run-returns-in_ok-run_items-in-Case-clause-runs : goal.run-returns-in_ok-run_items-in-Case-clause-runs
-run-returns-in_ok-run_items-in-Case-clause-runs t c =
-    let reads = option_copied c.args.reads in
-    let o = is_at_once reads in
-    let ms = c.args.state.now in
-    let a = c.args.dag.now in
-    let b = c.case_tests.new.dag in
-    let os = c.run_default.new.state in
-    let d = c.run_default.new.dag in
-    let ks = c.run_items.new.state in
-    let k = c.run_items.new.dag in
-    let kind = c.in-Case.kind in
-    let subject = c.in-Case.subject in
-    let items = c.in-Case.items in
-    let zs = c.in_ok-tests-in-Case.tests.items in
-    let held = c.held_for-before.result.now in
-    let n = c.in_ok-tests-in-Case.ensures in
-    let r = c.in_ok-run_default-in-Case.ensures in
-    let w = c.in_ok-before-in-Case.ensures in
-    let picks = subst (λ (ys : List ℕ). Picks reads items ys held os d ks k) c.tested-bits.ensures.same (subst (λ (xs : List CaseItem). Picks reads xs c.tested-bits.result.now held os d ks k) c.listed-row.ensures.same c.in_ok-run_items-in-Case.ensures.picks) in
-    case_runs reads kind subject items c.args.stmt.now zs held ms os ks a b d k c.in-Case.is c.requires.set n.keeps r.keeps (subst (λ (z : List Saved). IsSaved ms z) (sym c.held_for-before.ensures.same) w.saved)
-    (λ i lt away. subst (λ (xs : List CaseItem). ItemsSpare ms xs (name_at ms i)) c.listed.ensures.same (w.covers i lt (subst (λ (z : List Saved). IsAway z i) c.held_for-before.ensures.same away))) r.same
-    (subst (λ (xs : List CaseItem). AreBits xs zs b) c.as_slice.ensures n.bits)
-    (subst (λ (xs : List CaseItem). AreTests reads (λ gs. case_test o (flat gs) kind subject xs) ms a b xs zs) c.as_slice.ensures n.tests)
-    (subst (λ (xs : List CaseItem). Runs reads (λ gs. each_default o (flat gs) xs) ms b os d) c.listed-in-Case.ensures.same r.runs) picks
+pub run-listed-row-requires : goal.run-listed-row-requires
+run-listed-row-requires t c = (case_ready (declared c.args.state.now) c.in-Case.kind c.in-Case.subject c.in-Case.items c.args.stmt.now c.in-Case.is c.requires.stmt).1
 
 pub run_default-body-requires : goal.run_default-body-requires
 run_default-body-requires t c =
@@ -247,41 +180,20 @@ run_items-returns-clause-picks t c =
 
 -- ---- what is kept at each exit
 
-pub run-returns-in_err-branch-in-If-clause-keeps : goal.run-returns-in_err-branch-in-If-clause-keeps
-run-returns-in_err-branch-in-If-clause-keeps t c = keeps_then c.args.dag.now c.condition_node.new.dag c.branch-alloc.new.dag c.in_ok-test-in-If.ensures.keeps c.branch-alloc.ensures.keeps
-
-pub run-returns-in_ok-branch-in-If-clause-keeps : goal.run-returns-in_ok-branch-in-If-clause-keeps
-run-returns-in_ok-branch-in-If-clause-keeps t c = keeps_then c.args.dag.now c.condition_node.new.dag c.branch-alloc.new.dag c.in_ok-test-in-If.ensures.keeps c.in_ok-branch-in-If.ensures.keeps
-
 pub run-returns-in_err-run-in-IfElse-clause-keeps : goal.run-returns-in_err-run-in-IfElse-clause-keeps
 run-returns-in_err-run-in-IfElse-clause-keeps t c = keeps_then c.args.dag.now c.condition_node-in-IfElse.new.dag c.run.new.dag c.in_ok-test-in-IfElse.ensures.keeps c.run.ensures.keeps
 
 pub run-returns-in_err-branch-in-IfElse-clause-keeps : goal.run-returns-in_err-branch-in-IfElse-clause-keeps
-run-returns-in_err-branch-in-IfElse-clause-keeps t c = keeps_then c.args.dag.now c.run.new.dag c.branch-alloc-in-IfElse.new.dag (keeps_then c.args.dag.now c.condition_node-in-IfElse.new.dag c.run.new.dag c.in_ok-test-in-IfElse.ensures.keeps c.in_ok-run-in-IfElse.ensures.keeps) c.branch-alloc-in-IfElse.ensures.keeps
+run-returns-in_err-branch-in-IfElse-clause-keeps t c = keeps_then c.args.dag.now c.run.new.dag c.branch-alloc.new.dag (keeps_then c.args.dag.now c.condition_node-in-IfElse.new.dag c.run.new.dag c.in_ok-test-in-IfElse.ensures.keeps c.in_ok-run-in-IfElse.ensures.keeps) c.branch-alloc.ensures.keeps
 
 pub run-returns-in_err-branch-in-IfElse-clause-same : goal.run-returns-in_err-branch-in-IfElse-clause-same
-run-returns-in_err-branch-in-IfElse-clause-same t c = c.branch-alloc-in-IfElse.ensures.same ∙ c.in_ok-run-in-IfElse.ensures.same
+run-returns-in_err-branch-in-IfElse-clause-same t c = c.branch-alloc.ensures.same ∙ c.in_ok-run-in-IfElse.ensures.same
 
 pub run-returns-in_ok-branch-in-IfElse-clause-keeps : goal.run-returns-in_ok-branch-in-IfElse-clause-keeps
-run-returns-in_ok-branch-in-IfElse-clause-keeps t c = keeps_then c.args.dag.now c.run.new.dag c.branch-alloc-in-IfElse.new.dag (keeps_then c.args.dag.now c.condition_node-in-IfElse.new.dag c.run.new.dag c.in_ok-test-in-IfElse.ensures.keeps c.in_ok-run-in-IfElse.ensures.keeps) c.in_ok-branch-in-IfElse.ensures.keeps
+run-returns-in_ok-branch-in-IfElse-clause-keeps t c = keeps_then c.args.dag.now c.run.new.dag c.branch-alloc.new.dag (keeps_then c.args.dag.now c.condition_node-in-IfElse.new.dag c.run.new.dag c.in_ok-test-in-IfElse.ensures.keeps c.in_ok-run-in-IfElse.ensures.keeps) c.in_ok-branch-in-IfElse.ensures.keeps
 
 pub run-returns-in_ok-branch-in-IfElse-clause-same : goal.run-returns-in_ok-branch-in-IfElse-clause-same
 run-returns-in_ok-branch-in-IfElse-clause-same t c = c.in_ok-branch-in-IfElse.ensures.same ∙ c.in_ok-run-in-IfElse.ensures.same
-
-pub run-returns-in_err-run_default-in-Case-clause-keeps : goal.run-returns-in_err-run_default-in-Case-clause-keeps
-run-returns-in_err-run_default-in-Case-clause-keeps t c = keeps_then c.args.dag.now c.case_tests.new.dag c.run_default.new.dag c.in_ok-tests-in-Case.ensures.keeps c.run_default.ensures.keeps
-
-pub run-returns-in_err-run_items-in-Case-clause-keeps : goal.run-returns-in_err-run_items-in-Case-clause-keeps
-run-returns-in_err-run_items-in-Case-clause-keeps t c = keeps_then c.args.dag.now c.run_default.new.dag c.run_items.new.dag (keeps_then c.args.dag.now c.case_tests.new.dag c.run_default.new.dag c.in_ok-tests-in-Case.ensures.keeps c.in_ok-run_default-in-Case.ensures.keeps) c.run_items.ensures.keeps
-
-pub run-returns-in_err-run_items-in-Case-clause-same : goal.run-returns-in_err-run_items-in-Case-clause-same
-run-returns-in_err-run_items-in-Case-clause-same t c = c.run_items.ensures.same ∙ c.in_ok-run_default-in-Case.ensures.same
-
-pub run-returns-in_ok-run_items-in-Case-clause-keeps : goal.run-returns-in_ok-run_items-in-Case-clause-keeps
-run-returns-in_ok-run_items-in-Case-clause-keeps t c = keeps_then c.args.dag.now c.run_default.new.dag c.run_items.new.dag (keeps_then c.args.dag.now c.case_tests.new.dag c.run_default.new.dag c.in_ok-tests-in-Case.ensures.keeps c.in_ok-run_default-in-Case.ensures.keeps) c.in_ok-run_items-in-Case.ensures.keeps
-
-pub run-returns-in_ok-run_items-in-Case-clause-same : goal.run-returns-in_ok-run_items-in-Case-clause-same
-run-returns-in_ok-run_items-in-Case-clause-same t c = c.in_ok-run_items-in-Case.ensures.same ∙ c.in_ok-run_default-in-Case.ensures.same
 
 pub branch-returns-in_err-others-clause-keeps : goal.branch-returns-in_err-others-clause-keeps
 branch-returns-in_err-others-clause-keeps t c = keeps_same c.args.dag.now
@@ -312,3 +224,173 @@ run_items-returns-in_err-branch-clause-keeps t c = keeps_then c.args.dag.now c.l
 
 pub run_items-returns-in_err-branch-clause-same : goal.run_items-returns-in_err-branch-clause-same
 run_items-returns-in_err-branch-clause-same t c = c.branch-alloc.ensures.same ∙ c.loop-left.invariant.same
+
+pub run_where-held-requires-clause-nodes : goal.run_where-held-requires-clause-nodes
+run_where-held-requires-clause-nodes t c = saved_is c.args.state.now c.args.state.now c.in_ok-before.before.items c.args.dag.now refl c.in_ok-before.ensures.saved c.requires.set.ready
+
+pub run_where-returns-clause-guards : goal.run_where-returns-clause-guards
+run_where-returns-clause-guards t c =
+    let reads = option_copied c.args.reads in
+    let ms = c.args.state.now in
+    let held = c.held.result.now in
+    where_is reads c.args.body.now c.args.test held ms c.branch-alloc.new.state c.args.dag.now c.branch-alloc.new.dag (subst (λ (z : List Saved). IsSaved ms z) (sym c.held.ensures.same) c.in_ok-before.ensures.saved)
+    (subst (λ z. Branches reads c.args.body.now z held ms c.args.dag.now c.branch-alloc.new.state c.branch-alloc.new.dag) c.bit.ensures.same c.in_ok-branch.ensures.branches)
+
+-- ---- an `if`
+
+pub run-returns-in_ok-run_where-in-If-clause-runs : goal.run-returns-in_ok-run_where-in-If-clause-runs
+run-returns-in_ok-run_where-in-If-clause-runs t c =
+    let reads = option_copied c.args.reads in
+    let ms = c.args.state.now in
+    let a = c.args.dag.now in
+    let d = c.condition_node.new.dag in
+    let k = c.run_where.new.dag in
+    let ks = c.run_where.new.state in
+    let cond = c.in-If.condition in
+    let n = c.in_ok-test-in-If.ensures in
+    if_runs reads cond c.in-If.body c.args.stmt.now ms ks a k c.in-If.is
+    (guard_runs reads c.in-If.body (λ gs p q. not (is_false (flat gs) (seen (is_at_once reads) p q) cond)) ms ks a d k c.in_ok-test-in-If.test c.requires.set n.keeps n.tests
+    (subst (λ z. Guards reads z c.in_ok-test-in-If.test ms d ks k) c.part-body.ensures.same c.in_ok-run_where-in-If.ensures.guards))
+
+-- ---- a case statement
+
+pub run_joined-tested-bits-requires : goal.run_joined-tested-bits-requires
+run_joined-tested-bits-requires t c =
+    subst (λ (xs : List CaseItem). AreBits xs c.args.tests.now c.run_default.new.dag) (sym c.still-row.ensures.same) (bits_kept c.args.dag.now c.run_default.new.dag c.args.items.now c.args.tests.now c.in_ok-run_default.ensures.keeps c.requires.tests)
+
+pub run_joined-held_for-before-requires-clause-covers : goal.run_joined-held_for-before-requires-clause-covers
+run_joined-held_for-before-requires-clause-covers t c =
+    let ss = c.in_ok-before.before.items in
+    subst (λ (xs : List CaseItem). EachCovered c.run_default.new.state ss xs) (sym c.still-row.ensures.same)
+    (each_same c.args.state.now c.run_default.new.state ss c.args.items.now c.in_ok-run_default.ensures.same c.in_ok-before.ensures.covers)
+
+pub run_joined-held_for-before-requires-clause-nodes : goal.run_joined-held_for-before-requires-clause-nodes
+run_joined-held_for-before-requires-clause-nodes t c =
+    let ms = c.args.state.now in
+    let a = c.args.dag.now in
+    let d = c.run_default.new.dag in
+    let r = c.in_ok-run_default.ensures in
+    saved_is ms c.run_default.new.state c.in_ok-before.before.items d r.same c.in_ok-before.ensures.saved (ready_kept ms a d r.keeps c.requires.set.ready)
+
+pub run_joined-returns-clause-chooses : goal.run_joined-returns-clause-chooses
+run_joined-returns-clause-chooses t c =
+    let reads = option_copied c.args.reads in
+    let ms = c.args.state.now in
+    let items = c.args.items.now in
+    let os = c.run_default.new.state in
+    let d = c.run_default.new.dag in
+    let ks = c.run_items.new.state in
+    let k = c.run_items.new.dag in
+    let held = c.held_for-before.result.now in
+    let r = c.in_ok-run_default.ensures in
+    let w = c.in_ok-before.ensures in
+    joined_chooses reads items c.args.tests.now held ms os ks c.args.dag.now d k c.requires.set r.keeps (subst (λ (z : List Saved). IsSaved ms z) (sym c.held_for-before.ensures.same) w.saved)
+    (λ i lt away. w.covers i lt (subst (λ (z : List Saved). IsAway z i) c.held_for-before.ensures.same away)) r.same c.requires.tests r.runs
+    (subst (λ (ys : List ℕ). Picks reads items ys held os d ks k) c.tested-bits.ensures.same (subst (λ (xs : List CaseItem). Picks reads xs c.tested-bits.result.now held os d ks k) c.still-row.ensures.same c.in_ok-run_items.ensures.picks))
+
+pub run_each-body-stmt-requires : goal.run_each-body-stmt-requires
+run_each-body-stmt-requires t c =
+    let lt : c.loop-at.at < length c.args.items.now = omega (arith, c.loop-at-test.true) in
+    ready_item (declared c.loop-at.state) c.args.items.now c.loop-at.at c.index-items-at.result _ c.loop-at.invariant.items_ready lt c.index-items-at.is
+
+pub run_each-bounds-tests-at : goal.run_each-bounds-tests-at
+run_each-bounds-tests-at t c =
+    let long = bits_long c.args.items.now c.args.tests.now c.loop-at.dag c.loop-at.invariant.bits in
+    omega (arith, long, c.loop-at-test.true)
+
+pub run_each-first_of-requires-clause-test : goal.run_each-first_of-requires-clause-test
+run_each-first_of-requires-clause-test t c =
+    let lt : c.loop-at.at < length c.args.items.now = omega (arith, c.loop-at-test.true) in
+    bit_at c.args.items.now c.args.tests.now c.loop-at.dag c.loop-at.at 0 c.loop-at.invariant.bits lt
+
+pub run_each-or_matched-requires-clause-test : goal.run_each-or_matched-requires-clause-test
+run_each-or_matched-requires-clause-test t c =
+    let lt : c.loop-at.at < length c.args.items.now = omega (arith, c.loop-at-test.true) in
+    let keeps = keeps_then c.loop-at.dag c.first_of.new.dag c.run_where.new.dag c.in_ok-first.ensures.keeps c.in_ok-run_where.ensures.keeps in
+    node_kept c.loop-at.dag c.run_where.new.dag _ 1 keeps (bit_at c.args.items.now c.args.tests.now c.loop-at.dag c.loop-at.at 0 c.loop-at.invariant.bits lt)
+
+pub run_each-loop-at-init : goal.run_each-loop-at-init
+run_each-loop-at-init t c =
+    let m = c.in_ok-matched.ensures in
+    let b = c.constant.new.dag in
+    taking_start (option_copied c.args.reads) c.args.items.now c.args.tests.now c.in_ok-matched.matched c.args.state.now c.args.dag.now b c.requires.set m.keeps
+    (made_node b c.in_ok-matched.matched 1 _ m.makes) (λ e. made_number e b c.in_ok-matched.matched 1 _ m.makes) c.requires.tests c.requires.items
+
+pub run_each-loop-at-preserved-then-is_default : goal.run_each-loop-at-preserved-then-is_default
+run_each-loop-at-preserved-then-is_default t c =
+    let lt : c.loop-at.at < length c.args.items.now = omega (arith, c.loop-at-test.true) in
+    taking_skip (option_copied c.args.reads) c.args.items.now c.args.tests.now c.loop-at.matched c.args.state.now c.loop-at.state c.args.dag.now c.loop-at.dag c.loop-at.at c.index-items-at.result lt c.requires.tests
+    (ap (λ (i : CaseItem). is_default i.labels) (sym c.index-items-at.is) ∙ (sym c.is_default.ensures ∙ c.if-is_default.true)) c.loop-at.invariant
+
+pub run_each-loop-at-preserved : goal.run_each-loop-at-preserved
+run_each-loop-at-preserved t c =
+    let lt : c.loop-at.at < length c.args.items.now = omega (arith, c.loop-at-test.true) in
+    let f = c.in_ok-first.ensures in
+    let r = c.in_ok-run_where.ensures in
+    let m = c.in_ok-matched-2.ensures in
+    taking_next (option_copied c.args.reads) c.args.items.now c.args.tests.now c.loop-at.matched c.in_ok-first.first c.in_ok-matched-2.matched _ c.args.state.now c.loop-at.state c.run_where.new.state
+    c.args.dag.now c.loop-at.dag c.first_of.new.dag c.run_where.new.dag c.or_matched.new.dag c.loop-at.at c.index-items-at.result c.body-stmt.result.now lt c.requires.set c.requires.tests c.loop-at.invariant
+    (ap (λ (i : CaseItem). is_default i.labels) (sym c.index-items-at.is) ∙ (sym c.is_default.ensures ∙ c.if-is_default.false))
+    (c.body-stmt.ensures.same ∙ ap (λ (i : CaseItem). i.body) c.index-items-at.is) refl
+    f.keeps f.node f.number r.keeps r.same r.set r.guards m.keeps m.node m.number
+
+pub run_each-returns-clause-takes : goal.run_each-returns-clause-takes
+run_each-returns-clause-takes t c =
+    let le : length c.args.items.now ≤ c.loop-at.at = omega (arith, c.loop-at-test.false) in
+    taking_end (option_copied c.args.reads) c.args.items.now c.args.tests.now c.loop-at.matched c.args.state.now c.loop-at.state c.args.dag.now c.loop-at.dag c.loop-at.at le c.loop-at.invariant
+
+pub run_apart-body-stmt-requires : goal.run_apart-body-stmt-requires
+run_apart-body-stmt-requires t c =
+    let lt : c.default_at-at.result < length c.args.items.now = omega (arith, c.if-at-items.true) in
+    ready_item (declared c.run_each.new.state) c.args.items.now c.default_at-at.result c.index-items-at.result _ (subst (λ v. EachReadyItem v c.args.items.now) (sym c.in_ok-matched.ensures.same) c.requires.items) lt c.index-items-at.is
+
+pub run-returns-then-branch-clause-runs : goal.run-returns-then-branch-clause-runs
+run-returns-then-branch-clause-runs t c =
+    let reads = option_copied c.args.reads in
+    let o = is_at_once reads in
+    let ms = c.args.state.now in
+    let b = c.case_tests.new.dag in
+    let ks = c.run_joined.new.state in
+    let k = c.run_joined.new.dag in
+    let kind = c.in-Case.kind in
+    let subject = c.in-Case.subject in
+    let items = c.in-Case.items in
+    let zs = c.in_ok-tests-in-Case.tests.items in
+    let n = c.in_ok-tests-in-Case.ensures in
+    case_runs reads kind subject items c.args.stmt.now zs ms ks c.args.dag.now b k c.in-Case.is c.requires.set n.keeps
+    (subst (λ (xs : List CaseItem). AreBits xs zs b) c.as_slice.ensures n.bits)
+    (subst (λ (xs : List CaseItem). AreTests reads (λ gs. case_test o (flat gs) kind subject xs) ms c.args.dag.now b xs zs) c.as_slice.ensures n.tests)
+    (subst (λ (ys : List ℕ). Chooses reads items ys ms b ks k) (c.tested-bits.ensures.same ∙ c.as_slice-in-Case.ensures.value)
+    (subst (λ (xs : List CaseItem). Chooses reads xs c.tested-bits.result.now ms b ks k) c.listed-row.ensures.same c.in_ok-run_joined-in-Case.ensures.chooses))
+
+pub run-returns-in_ok-run_apart-in-Case-clause-runs : goal.run-returns-in_ok-run_apart-in-Case-clause-runs
+run-returns-in_ok-run_apart-in-Case-clause-runs t c =
+    let reads = option_copied c.args.reads in
+    let o = is_at_once reads in
+    let ms = c.args.state.now in
+    let b = c.case_tests.new.dag in
+    let ks = c.run_apart.new.state in
+    let k = c.run_apart.new.dag in
+    let kind = c.in-Case.kind in
+    let subject = c.in-Case.subject in
+    let items = c.in-Case.items in
+    let zs = c.in_ok-tests-in-Case.tests.items in
+    let n = c.in_ok-tests-in-Case.ensures in
+    case_runs reads kind subject items c.args.stmt.now zs ms ks c.args.dag.now b k c.in-Case.is c.requires.set n.keeps
+    (subst (λ (xs : List CaseItem). AreBits xs zs b) c.as_slice.ensures n.bits)
+    (subst (λ (xs : List CaseItem). AreTests reads (λ gs. case_test o (flat gs) kind subject xs) ms c.args.dag.now b xs zs) c.as_slice.ensures n.tests)
+    (subst (λ (ys : List ℕ). Chooses reads items ys ms b ks k) (c.tested-bits.ensures.same ∙ c.as_slice-in-Case.ensures.value)
+    (subst (λ (xs : List CaseItem). Chooses reads xs c.tested-bits.result.now ms b ks k) c.listed-row.ensures.same c.in_ok-run_apart-in-Case.ensures.chooses))
+
+pub run_apart-returns-in_ok-run_where-clause-chooses : goal.run_apart-returns-in_ok-run_where-clause-chooses
+run_apart-returns-in_ok-run_where-clause-chooses t c =
+    let lt : c.default_at-at.result < length c.args.items.now = omega (arith, c.if-at-items.true) in
+    let m = c.in_ok-matched.ensures in
+    let u = c.in_ok-rest.ensures in
+    apart_default (option_copied c.args.reads) c.args.items.now c.args.tests.now c.in_ok-matched.matched c.in_ok-rest.rest c.args.state.now c.run_each.new.state c.run_where.new.state c.args.dag.now c.run_each.new.dag c.unmatched.new.dag c.run_where.new.dag
+    c.default_at-at.result c.index-items-at.result c.body-stmt.result.now c.requires.set m.set m.keeps m.same m.takes c.default_at-at.ensures lt (c.body-stmt.ensures.same ∙ ap (λ (i : CaseItem). i.body) c.index-items-at.is) u.keeps u.number c.in_ok-run_where.ensures.guards
+
+pub run_apart-returns-else-at-items-clause-chooses : goal.run_apart-returns-else-at-items-clause-chooses
+run_apart-returns-else-at-items-clause-chooses t c =
+    let le : length c.args.items.now ≤ c.default_at-at.result = omega (arith, c.if-at-items.false) in
+    apart_none (option_copied c.args.reads) c.args.items.now c.args.tests.now c.in_ok-matched.matched c.args.state.now c.run_each.new.state c.args.dag.now c.run_each.new.dag c.default_at-at.result c.in_ok-matched.ensures.takes c.default_at-at.ensures le

@@ -2,6 +2,7 @@ use Rattle.std.proofs.Common.{drop}
 use Rattle.std.specs.Option.{option_copied}
 use Rattle.elab_block.proofs.Storing.{Running}
 use Rattle.elab_block.proofs.Picking.{Picking}
+use Rattle.elab_block.proofs.Taking.{Taking}
 use Rattle.elab_block.proofs.blocks.+run.Given as goal
 
 abbrev pub invariant-run_row-loop-stmt : goal.invariant-run_row-loop-stmt
@@ -12,3 +13,6 @@ invariant-run_items-loop-left l = Picking (option_copied l.reads) l.items l.test
 
 abbrev pub decreases-run_items-loop-left : goal.decreases-run_items-loop-left
 decreases-run_items-loop-left l = l.left
+
+abbrev pub invariant-run_each-loop-at : goal.invariant-run_each-loop-at
+invariant-run_each-loop-at l = Taking (option_copied l.reads) l.items l.tests l.matched l.fn.state l.fn.dag l.state l.dag l.at
