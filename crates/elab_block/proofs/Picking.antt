@@ -211,19 +211,6 @@ pub record Picking (reads : Option (List Leaf)) (items : List CaseItem) (tests :
   pub within : k ≤ length items
   pub picks : Picks reads (drop k items) (drop k tests) before ms a os b
 
-pub picking_start : (reads : Option (List Leaf)) (items : List CaseItem) (tests : List ℕ) (before : List Saved) (ms : List Leaf) (a : List Node) (k : ℕ) → k ≡ length items → Keeps a a → AreSet reads ms a → AreSaved ms before a → AreBits items tests a → EachReadyItem (declared ms) items
-    → Picking reads items tests before ms a ms a k
-picking_start reads items tests before ms a k is keeps set nodes bits ready = record {
-  keeps = keeps;
-  same = refl;
-  set = set;
-  nodes = nodes;
-  bits = bits;
-  items_ready = ready;
-  within = omega (arith, is);
-  picks = λ gs e p q d leaves earlier shown now. subst (λ (xs : List CaseItem). AreShown e a ms (picked (is_at_once reads) (flat gs) xs (map (number_at e a) (drop k tests)) p q d)) (sym (drop_all items k (omega (arith, is)))) now;
-}
-
 -- the items from place k on, by the one there and those after it
 picked_from : (e : Naming) (ks : List Leaf) (a c : List Node) (o : Bool) (gs : List Signal) (items : List CaseItem) (tests : List ℕ) (k : ℕ) (d : CaseItem) (p q other : Cycle) → k < length items → k < length tests
     → AreShown e c ks (picked o (flat gs) (get_or items k d ∷ drop (k + 1) items) (number_at e a (get_or tests k 0) ∷ map (number_at e a) (drop (k + 1) tests)) p q other)

@@ -85,9 +85,6 @@ bit_test false = refl
 pub runs_from : (reads : Option (List Leaf)) (f : List Signal → Cycle → Cycle → Cycle) (ms ks : List Leaf) (a b c : List Node) → AreSet reads ms a → Keeps a b → Runs reads f ms b ks c → Runs reads f ms a ks c
 runs_from reads f ms ks a b c set k h gs e p q leaves before now = h gs e p q leaves (before_kept e reads ms a b p set k before) (shown_kept e ms a b q k set.ready now)
 
-pub runs_to : (reads : Option (List Leaf)) (f : List Signal → Cycle → Cycle → Cycle) (ms ks : List Leaf) (a b c : List Node) → AreReady ks b → Keeps b c → Runs reads f ms a ks b → Runs reads f ms a ks c
-runs_to reads f ms ks a b c r k h gs e p q leaves before now = shown_kept e ks b c (f gs p q) k r (h gs e p q leaves before now)
-
 pub tests_kept : (reads : Option (List Leaf)) (t : List Signal → Cycle → Cycle → Bool) (ms : List Leaf) (a b c : List Node) (z : ℕ) → IsNode b z 1 → Keeps b c → Tests reads t ms a b z → Tests reads t ms a c z
 tests_kept reads t ms a b c z n k h gs e p q leaves before now = number_kept e b c z 1 k n ∙ h gs e p q leaves before now
 
@@ -151,9 +148,6 @@ if_ready v cond body tree is h = rw is at h
 pub if_else_ready : (v : List Entry) (cond : Expr) (body other tree : Stmt) → tree ≡ s.IfElse cond body other → IsReadyStmt v tree → IsSingle v cond × IsReadyStmt v body × IsReadyStmt v other
 unfolding shape-the_row-Stmt-1 hidden-the_row-Stmt-1 denote.Hole.Carrier.hidden
 if_else_ready v cond body other tree is h = rw is at h
-
-pub stay_runs : (reads : Option (List Leaf)) (ms : List Leaf) (a : List Node) → Runs reads (λ gs p q. q) ms a ms a
-stay_runs reads ms a gs e p q leaves before now = now
 
 -- ---- one statement after another
 

@@ -97,8 +97,8 @@ fn formed<'a>(boxed: &'a Boxed<Expr>, leaves: &Leaves) -> &'a Expr
     boxed.get()
 }
 
-/// The length and the sign that an expression has by itself (IEEE 1364-2005, 5.4 and 5.5). A part on which they don't depend isn't looked at, as the
-/// operands of a comparison. It is refused for want of memory alone.
+/// The length and the sign that an expression has by itself (IEEE 1364-2005, 5.4 and 5.5). Operands on which they don't depend aren't looked at: those
+/// of a comparison and of a reduction, a condition, the index of a bit. It is refused for want of memory alone.
 #[cycle(shaping)]
 pub fn shape(expr: &Expr, leaves: &Leaves) -> Result<(u8, bool), AllocError>
     requires { IsFormed (declared leaves.now) expr.now }
