@@ -1,5 +1,5 @@
 -- How often helpers were asked, and what a claim is worth.
-use Rattle.std.specs.Prelude.{◌≡◌, ℕ, ◌+◌, ◌-◌, ◌^◌, ◌<◌, ◌≤◌, List, ◌++◌, count_by, drop, length, map, max, min, take}
+use Rattle.std.specs.Prelude.{◌≡◌, ℕ, ◌+◌, ◌-◌, ◌^◌, ◌<◌, ◌≤◌, All, IfSome, List, Option, ◌++◌, count_by, drop, length, map, max, min, take}
 use Rattle.word_dag.specs.Nodes.{Parts, root_value}
 use Rattle.word_dag.specs.Given.{AllFit, is_free}
 use Rattle.clause_check.specs.declared.formula.Cnf.{Cnf}
@@ -29,3 +29,7 @@ abbrev pub Passes : Parts → Cnf → Claim → Type 0
 Passes ob cnf Nothing = Unit {0}
 Passes ob cnf (Unsat steps) = IsRefutation cnf steps.items
 Passes ob cnf (Values values) = MakesRoot1 ob values.items
+
+-- each of these claims passes, where there is one
+abbrev pub AreReady : Parts → Cnf → List (Option Claim) → Type 0
+AreReady ob cnf ready = All (λ claim. IfSome claim (Passes ob cnf)) ready

@@ -16,12 +16,25 @@ pub enum Claim {
     Values(Vec<u64>),
 }
 
+/// Claims that are made out of turn, so that many can be made side by side.
+pub trait Claims {
+    /// What it claims of an obligation, of which these are the clauses, and none where it claims in its turn alone. It is refused for its own want
+    /// of memory.
+    fn claim(&self, _alloc: Global, _ob: &Ob, _cnf: &Cnf) -> Result<Option<Claim>, AllocError> {
+        Ok(None)
+    }
+}
+
 /// One that may claim whatever it likes.
-pub trait Helper: Drop {
+pub trait Helper: Claims + Drop + Sync {
     ghost asked: { Self → ℕ };
 
     /// Its claim about an obligation, of which these are the clauses. It is refused for the helper's own want of memory.
     fn offer(&mut self, alloc: Global, ob: &Ob, cnf: &Cnf) -> Result<Claim, AllocError>
+        ensures { asked self.new ≡ one_more (asked self.old) };
+
+    /// Counts that it was asked, where it made its claim out of turn.
+    fn count(&mut self)
         ensures { asked self.new ≡ one_more (asked self.old) };
 
     /// How often it was asked, up to the greatest number of 64 bits.
@@ -29,11 +42,21 @@ pub trait Helper: Drop {
         ensures { result ≡ asked self.now };
 }
 
+impl Claims for Box<dyn Helper> {
+    fn claim(&self, alloc: Global, ob: &Ob, cnf: &Cnf) -> Result<Option<Claim>, AllocError> {
+        (**self).claim(alloc, ob, cnf)
+    }
+}
+
 impl Helper for Box<dyn Helper> {
-    ghost asked = { λ b. (Helper-box b).asked b.value };
+    ghost asked = { λ b. (Helper-box b).Helper.asked b.value };
 
     fn offer(&mut self, alloc: Global, ob: &Ob, cnf: &Cnf) -> Result<Claim, AllocError> {
         (**self).offer(alloc, ob, cnf)
+    }
+
+    fn count(&mut self) {
+        (**self).count();
     }
 
     fn offers(&self) -> u64 {

@@ -10,8 +10,8 @@ mod source;
 mod table;
 mod units;
 
-pub use claim::{Claim, Helper};
-pub use offering::offer_all;
+pub use claim::{Claim, Claims, Helper};
+pub use offering::{claims_of, offer_all, offer_ready};
 pub use sampler::Sampler;
 pub use table::Table;
 pub use units::Units;

@@ -1,25 +1,45 @@
-//! Helpers that are asked in turn.
-ghost use Rattle.std.specs.Prelude.{◌≡◌, IfOk, Ok, map};
-ghost use Rattle.helper_box.specs.Asked.{one_more, AsksSome, Passes};
+//! Helpers that are asked in turn, and their claims out of turn.
+ghost use Rattle.std.specs.Prelude.{◌≡◌, IfOk, IfSome, Ok, map};
+ghost use Rattle.std.specs.Vec.Iter.{into_iter_items};
+ghost use Rattle.helper_box.specs.Asked.{one_more, AreReady, AsksSome, Passes};
 
 use crate::claim::{Claim, Helper};
 use crate::passing::passes;
 use clause_check::Cnf;
 use std::alloc::{AllocError, Global};
+use std::vec::IntoIter;
 use word_dag::Ob;
 
-/// Asks one helper. A claim that doesn't pass is none, and so is the helper's want of memory.
-fn ask<H: Helper>(helper: &mut H, alloc: Global, ob: &Ob, cnf: &Cnf) -> Result<Claim, AllocError>
-    ensures asked { H.asked helper.new ≡ one_more (H.asked helper.old) }
-    ensures passes { IfOk result (Passes ob.now cnf.now) }
+/// The claim, where it passes.
+fn passed(alloc: Global, ob: &Ob, cnf: &Cnf, claim: Claim) -> Result<Claim, AllocError>
+    ensures { IfOk result (Passes ob.now cnf.now) }
 {
-    let Ok(claim) = helper.offer(alloc, ob, cnf) else {
-        return Ok(Claim::Nothing);
-    };
     if passes(alloc, ob, cnf, &claim)? {
         Ok(claim)
     } else {
         Ok(Claim::Nothing)
+    }
+}
+
+/// Asks one helper, or counts it where its claim is ready. A claim that doesn't pass is none, and so is the helper's want of memory.
+fn ask<H: Helper>(
+    helper: &mut H,
+    alloc: Global,
+    ob: &Ob,
+    cnf: &Cnf,
+    ready: Option<Claim>,
+) -> Result<Claim, AllocError>
+    requires ready { IfSome ready (Passes ob.now cnf.now) }
+    ensures asked { H.asked helper.new ≡ one_more (H.asked helper.old) }
+    ensures passes { IfOk result (Passes ob.now cnf.now) }
+{
+    if let Some(claim) = ready {
+        helper.count();
+        return Ok(claim);
+    }
+    match helper.offer(alloc, ob, cnf) {
+        Ok(claim) => passed(alloc, ob, cnf, claim),
+        Err(_) => Ok(Claim::Nothing),
     }
 }
 
@@ -28,13 +48,17 @@ fn ask_each<H: Helper>(
     alloc: Global,
     ob: &Ob,
     cnf: &Cnf,
+    ready: Vec<Option<Claim>>,
 ) -> Result<Claim, AllocError>
+    requires ready { AreReady ob.now cnf.now ready.items }
     ensures asked { AsksSome (map H.asked helpers.old) (map H.asked helpers.new) }
     ensures nothing { result ≡ Ok Claim.Nothing → map H.asked helpers.new ≡ map one_more (map H.asked helpers.old) }
     ensures passes { IfOk result (Passes ob.now cnf.now) }
 {
+    let mut ready = ready.into_iter();
     for helper in helpers.iter_mut() {
-        let claim = ask(helper, alloc, ob, cnf)?;
+        let made = ready.next().unwrap_or(None);
+        let claim = ask(helper, alloc, ob, cnf, made)?;
         if !matches!(claim, Claim::Nothing) {
             return Ok(claim);
         }
@@ -54,5 +78,56 @@ pub fn offer_all<H: Helper>(
     ensures nothing { result ≡ Ok Claim.Nothing → map H.asked helpers.new.items ≡ map one_more (map H.asked helpers.old.items) }
     ensures passes { IfOk result (Passes ob.now cnf.now) }
 {
-    ask_each(helpers.as_mut_slice(), alloc, ob, cnf)
+    ask_each(helpers.as_mut_slice(), alloc, ob, cnf, Vec::new(alloc))
+}
+
+/// Asks the helpers as `offer_all` does, but for those whose claims are ready, one for each helper in their order: these helpers are counted in
+/// their turn, and their claims taken.
+pub fn offer_ready<H: Helper>(
+    helpers: &mut Vec<H>,
+    alloc: Global,
+    ob: &Ob,
+    cnf: &Cnf,
+    ready: Vec<Option<Claim>>,
+) -> Result<Claim, AllocError>
+    requires ready { AreReady ob.now cnf.now ready.items }
+    ensures asked { AsksSome (map H.asked helpers.old.items) (map H.asked helpers.new.items) }
+    ensures nothing { result ≡ Ok Claim.Nothing → map H.asked helpers.new.items ≡ map one_more (map H.asked helpers.old.items) }
+    ensures passes { IfOk result (Passes ob.now cnf.now) }
+{
+    ask_each(helpers.as_mut_slice(), alloc, ob, cnf, ready)
+}
+
+/// A helper's claim out of turn. One that doesn't pass claims nothing, and so does one for which it wants memory.
+fn claim_of<H: Helper>(
+    helper: &H,
+    alloc: Global,
+    ob: &Ob,
+    cnf: &Cnf,
+) -> Result<Option<Claim>, AllocError>
+    ensures { IfOk result (λ ready. IfSome ready (Passes ob.now cnf.now)) }
+{
+    match helper.claim(alloc, ob, cnf) {
+        Ok(Some(claim)) => Ok(Some(passed(alloc, ob, cnf, claim)?)),
+        Ok(None) => Ok(None),
+        Err(_) => Ok(Some(Claim::Nothing)),
+    }
+}
+
+/// The claims of an obligation that the helpers make out of turn, in their order, and none for a helper that claims in its turn alone. It is
+/// refused only where a check of a claim, or the list, wants memory.
+pub fn claims_of<H: Helper>(
+    helpers: &[H],
+    alloc: Global,
+    ob: &Ob,
+    cnf: &Cnf,
+) -> Result<Vec<Option<Claim>>, AllocError>
+    ensures { IfOk result (λ ready. AreReady ob.now cnf.now ready.items) }
+{
+    let mut ready = Vec::new(alloc);
+    for helper in helpers {
+        let claim = claim_of(helper, alloc, ob, cnf)?;
+        ready.push(claim)?;
+    }
+    Ok(ready)
 }

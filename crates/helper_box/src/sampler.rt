@@ -1,7 +1,7 @@
 //! The helper that tries some values.
 ghost use Rattle.std.specs.Prelude.{◌≡◌};
 
-use crate::claim::{Claim, Helper};
+use crate::claim::{Claim, Claims, Helper};
 use crate::passing::makes_root_1;
 use crate::source::{Random, drawn};
 use clause_check::Cnf;
@@ -49,12 +49,18 @@ fn sample(
     Ok(Claim::Nothing)
 }
 
+impl Claims for Sampler {}
+
 impl Helper for Sampler {
     ghost asked = { λ s. s.offers };
 
     fn offer(&mut self, alloc: Global, ob: &Ob, _cnf: &Cnf) -> Result<Claim, AllocError> {
         self.offers = self.offers.saturating_add(1);
         sample(alloc, ob, &mut self.numbers, &mut self.credit)
+    }
+
+    fn count(&mut self) {
+        self.offers = self.offers.saturating_add(1);
     }
 
     fn offers(&self) -> u64 {

@@ -1,7 +1,7 @@
 //! The helper that tries all values.
 ghost use Rattle.std.specs.Prelude.{◌≡◌, ◌≤◌, IfSome};
 
-use crate::claim::{Claim, Helper};
+use crate::claim::{Claim, Claims, Helper};
 use crate::passing::makes_root_1;
 use crate::source::{Digits, drawn};
 use clause_check::Cnf;
@@ -52,6 +52,8 @@ fn try_all(alloc: Global, ob: &Ob, bits: u64) -> Result<Claim, AllocError>
     Ok(Claim::Nothing)
 }
 
+impl Claims for Table {}
+
 impl Helper for Table {
     ghost asked = { λ s. s.offers };
 
@@ -61,6 +63,10 @@ impl Helper for Table {
             Some(bits) => try_all(alloc, ob, bits),
             None => Ok(Claim::Nothing),
         }
+    }
+
+    fn count(&mut self) {
+        self.offers = self.offers.saturating_add(1);
     }
 
     fn offers(&self) -> u64 {

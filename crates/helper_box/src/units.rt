@@ -1,7 +1,7 @@
 //! The helper that propagates units.
 ghost use Rattle.std.specs.Prelude.{◌≡◌, OnOk, length};
 
-use crate::claim::{Claim, Helper};
+use crate::claim::{Claim, Claims, Helper};
 use clause_check::{Clause, Cnf, Lit, Look, Step, in_32_bits, look_at};
 use std::alloc::{AllocError, Global};
 use word_dag::Ob;
@@ -166,21 +166,36 @@ fn one_step(alloc: Global, hints: Vec<u32>) -> Result<Vec<Step>, AllocError> {
     Ok(steps)
 }
 
+/// What propagation alone shows.
+fn refuted(alloc: Global, cnf: &Cnf) -> Result<Claim, AllocError> {
+    let mut trail = Trail {
+        values: vec![in alloc; None; cnf.vars as usize]?,
+        forced: Vec::new(alloc),
+        hints: Vec::new(alloc),
+    };
+    if propagates(alloc, cnf, &mut trail)? {
+        Ok(Claim::Unsat(one_step(alloc, trail.hints)?))
+    } else {
+        Ok(Claim::Nothing)
+    }
+}
+
+impl Claims for Units {
+    fn claim(&self, alloc: Global, _ob: &Ob, cnf: &Cnf) -> Result<Option<Claim>, AllocError> {
+        Ok(Some(refuted(alloc, cnf)?))
+    }
+}
+
 impl Helper for Units {
     ghost asked = { λ s. s.offers };
 
     fn offer(&mut self, alloc: Global, _ob: &Ob, cnf: &Cnf) -> Result<Claim, AllocError> {
+        self.count();
+        refuted(alloc, cnf)
+    }
+
+    fn count(&mut self) {
         self.offers = self.offers.saturating_add(1);
-        let mut trail = Trail {
-            values: vec![in alloc; None; cnf.vars as usize]?,
-            forced: Vec::new(alloc),
-            hints: Vec::new(alloc),
-        };
-        if propagates(alloc, cnf, &mut trail)? {
-            Ok(Claim::Unsat(one_step(alloc, trail.hints)?))
-        } else {
-            Ok(Claim::Nothing)
-        }
     }
 
     fn offers(&self) -> u64 {
