@@ -3,7 +3,7 @@ ghost use Rattle.std.specs.Prelude.{◌≡◌, IfOk, IfSome, Ok, map};
 ghost use Rattle.std.specs.Vec.Iter.{into_iter_items};
 ghost use Rattle.helper_box.specs.Asked.{one_more, AreReady, AsksSome, Passes};
 
-use crate::claim::{Claim, Helper};
+use crate::claim::{Claim, Claims, Helper};
 use crate::passing::passes;
 use clause_check::Cnf;
 use std::alloc::{AllocError, Global};
@@ -99,8 +99,8 @@ pub fn offer_ready<H: Helper>(
 }
 
 /// A helper's claim out of turn. One that doesn't pass claims nothing, and so does one for which it wants memory.
-fn claim_of<H: Helper>(
-    helper: &H,
+fn claim_of<C: Claims>(
+    helper: &C,
     alloc: Global,
     ob: &Ob,
     cnf: &Cnf,
@@ -116,8 +116,8 @@ fn claim_of<H: Helper>(
 
 /// The claims of an obligation that the helpers make out of turn, in their order, and none for a helper that claims in its turn alone. It is
 /// refused only where a check of a claim, or the list, wants memory.
-pub fn claims_of<H: Helper>(
-    helpers: &[H],
+pub fn claims_of<C: Claims>(
+    helpers: &[C],
     alloc: Global,
     ob: &Ob,
     cnf: &Cnf,
