@@ -1,6 +1,6 @@
 use clause_check::{Cnf, Step};
 use cnf_build::build;
-use helper_box::{Claim, Helper, Sampler, Table, Units, offer_all};
+use helper_box::{Claim, Claims, Helper, Sampler, Table, Units, offer_all};
 use outside::Text;
 use std::alloc::{AllocError, Global};
 use std::process::Abort;
@@ -14,6 +14,8 @@ pub struct Liar {
     pub offers: u64,
 }
 
+impl Claims for Liar {}
+
 impl Helper for Liar {
     ghost asked = { λ s. s.offers };
 
@@ -21,6 +23,10 @@ impl Helper for Liar {
         self.offers = self.offers.saturating_add(1);
         let steps: Vec<Step> = Vec::new(alloc);
         Ok(Claim::Unsat(steps))
+    }
+
+    fn count(&mut self) {
+        self.offers = self.offers.saturating_add(1);
     }
 
     fn offers(&self) -> u64 {

@@ -44,8 +44,8 @@ pub rose_none : (xs : List ℕ) → FirstRose 0 xs xs
 rose_none xs = record { none_falls = none_falls_same xs; first = λ some. omega arith }
 
 -- with no helper, nobody is asked
-pub rose_nobody : (xs : List ℕ) → length xs ≡ 0 → FirstRose 1 xs xs
-rose_nobody xs none = record { none_falls = none_falls_same xs; first = λ some. absurd (omega (arith, some, none)) }
+pub rose_nobody : (k : ℕ) (xs : List ℕ) → length xs ≡ 0 → FirstRose k xs xs
+rose_nobody k xs none = record { none_falls = none_falls_same xs; first = λ some. absurd (omega (arith, some, none)) }
 
 pub rose_one : (xs ys : List ℕ) → AsksSome xs ys → FirstRose 1 xs ys
 rose_one xs ys asks = record {

@@ -1,6 +1,8 @@
 pub mod Asking
 pub mod Faults
 pub mod Single
+pub mod Finding
+pub mod Helps
 mod Lookups
 mod Ordered
 pub mod Placed

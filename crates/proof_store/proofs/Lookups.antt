@@ -14,8 +14,9 @@ use Rattle.step_records.specs.Records.{IsRecord}
 use Rattle.job_pool.specs.Shown.{IsShown}
 use Rattle.job_pool.specs.declared.evidence.Evidence.TheVariants.{Derivation}
 use Rattle.proof_store.specs.Kept.{IsBuilt, IsKept}
-use Rattle.proof_store.specs.Lookups.{AreLookedUp, Checks, ChecksRow, IsLookedUp, IsLookup, IsRowUnder}
+use Rattle.proof_store.specs.Lookups.{Checks, ChecksRow, IsChecked, IsLookedUp, IsLookup, IsRowUnder}
 use Rattle.proof_store.specs.Rows.{IsAccepted}
+use Rattle.proof_store.specs.declared.checking.Checked.{Checked}
 use Rattle.proof_store.specs.declared.checking.Lookup.{Lookup}
 use Rattle.proof_store.specs.declared.goal.Goal.{Goal}
 use Rattle.proof_store.proofs.Proving.{derivation_shown, same_refutes}
@@ -64,11 +65,16 @@ module _ {L : Type 0} where
       (subst (AllZip (IsLookup tables) (take i goals ++ goal ∷ [])) (sym pushed) (all_zipped_more (IsLookup tables) (take i goals) lookups goal lookup are here))
 
   -- the rows of goals, checked
-  pub all_looked_up : (tables : Option Tables) (goals : List (Goal L)) (lookups : List Lookup) (found : List (Option (Vec Step Global))) → AllZip (IsLookup tables) goals lookups → AllZip Checks lookups found → AreLookedUp tables goals found
-  all_looked_up tables [] [] [] are checks = tt
-  all_looked_up tables [] [] (f ∷ fs) are checks = absurd checks
-  all_looked_up tables [] (l ∷ ls) fs are checks = absurd are
-  all_looked_up tables (g ∷ gs) [] fs are checks = absurd are
-  all_looked_up tables (g ∷ gs) (l ∷ ls) [] are checks = absurd checks
-  all_looked_up tables (g ∷ gs) (l ∷ ls) (f ∷ fs) are checks =
-      (row_looked_up tables g.ob l.row f are.0.row_is (subst (λ (o : Parts). ChecksRow o l.row f) are.0.ob_is checks.0), all_looked_up tables gs ls fs are.1 checks.1)
+  pub all_checked : (tables : Option Tables) (goals : List (Goal L)) (lookups : List Lookup) (obs : List Checked) → AllZip (IsLookup tables) goals lookups → AllZip Checks lookups obs → AllZip (IsChecked tables) goals obs
+  all_checked tables [] [] [] are checks = tt
+  all_checked tables [] [] (o ∷ os) are checks = absurd checks
+  all_checked tables [] (l ∷ ls) os are checks = absurd are
+  all_checked tables (g ∷ gs) [] os are checks = absurd are
+  all_checked tables (g ∷ gs) (l ∷ ls) [] are checks = absurd checks
+  all_checked tables (g ∷ gs) (l ∷ ls) (o ∷ os) are checks = (
+    record {
+      ob_is = checks.0.ob_is ∙ are.0.ob_is;
+      looked = row_looked_up tables g.ob l.row o.kept are.0.row_is (subst (λ (p : Parts). ChecksRow p l.row o.kept) are.0.ob_is checks.0.kept);
+    },
+    all_checked tables gs ls os are.1 checks.1,
+  )

@@ -4,7 +4,6 @@ use Rattle.std.specs.Prelude.{IfSome, IsSomeAnd, IsTrue, true, false, ◌↔◌,
 use Rattle.std.specs.List.{AllZip}
 use Rattle.std.specs.declared.alloc.Global.{Global}
 use Rattle.std.proofs.lemmas.Option.{same_Some}
-use Rattle.outside.specs.Tables.{Tables}
 use Rattle.word_dag.specs.Nodes.{Parts}
 use Rattle.clause_check.specs.declared.literal.Lit.{Lit}
 use Rattle.clause_check.specs.declared.formula.Cnf.{Cnf}
@@ -19,16 +18,11 @@ use Rattle.step_records.specs.Records.{IsRecord, content, contents}
 use Rattle.job_pool.specs.declared.evidence.Evidence.{Evidence}
 use Rattle.job_pool.specs.declared.evidence.Evidence.TheVariants as e
 use Rattle.job_pool.specs.Shown.{IsShown}
-use Rattle.proof_store.specs.Goals.{IsDecided, from_keeper}
+use Rattle.proof_store.specs.Goals.{IsDecided}
 use Rattle.proof_store.specs.Kept.{IsBuilt, IsProof}
-use Rattle.proof_store.specs.Lookups.{IsLookedUp}
-use Rattle.proof_store.specs.Places.{Finds, IsPlaced, Tells, TellsKept}
+use Rattle.proof_store.specs.Places.{Tells}
 use Rattle.proof_store.specs.declared.goal.Decided.{Decided}
 use Rattle.proof_store.specs.declared.goal.Goal.{Goal}
-use Rattle.proof_store.specs.declared.goal.Source.{Source}
-use Rattle.proof_store.specs.declared.goal.Source.TheVariants.{Kept, Helped, Solved}
-use Rattle.proof_store.specs.declared.placing.Found.{Found}
-use Rattle.proof_store.specs.declared.placing.Place.TheVariants.{Done, Open}
 
 -- what refutes a formula refutes each one with the same variables and clauses
 pub same_refutes : (f g : Cnf) (steps : List Step) → f.vars ≡ g.vars → f.clauses ≡ g.clauses → IsRefutation f steps → IsRefutation g steps
@@ -141,50 +135,6 @@ module _ {L : Type 0} where
       let shown : IsShown budget goal.ob (e.Derivation steps) = subst (IsShown budget goal.ob) is decided.shown in
       subst (λ (g : Goal L). IsProof g.ob steps.items) (sym decided.goal_is)
       (record { formula = shown.formula; vars = shown.vars; clauses = shown.clauses; refutes = shown.shown })
-
--- a kept proof of an obligation is found
-pub kept_found : (tables : Option Tables) (ob : Parts) (kept : Option (Vec Step Global)) (steps : Vec Step Global) (found : Found) → IsLookedUp tables ob kept → kept ≡ Some steps → found.evidence ≡ e.Derivation steps → found.source ≡ Kept
-    → Finds tables ob (Some found)
-kept_found tables ob kept steps found looked is evidence source =
-    let here : IsLookedUp tables ob (Some steps) = subst (IsLookedUp tables ob) is looked in record {
-      shown = λ budget. subst (IsShown budget ob) (sym evidence) (here.shown budget);
-      kept = subst (λ (s : Source). TellsKept tables ob (from_keeper s)) (sym source) here.kept;
-      unsolved = λ same. let clash : Kept ≡ Solved = sym source ∙ same in absurd (cc);
-    }
-
--- where none is kept, what helpers claim is found, or nothing
-pub helped_found : (tables : Option Tables) (ob : Parts) (kept : Option (Vec Step Global)) (found : Found) → IsLookedUp tables ob kept → kept ≡ None → ((budget : ℕ) → IsShown budget ob found.evidence) → found.source ≡ Helped
-    → Finds tables ob (Some found)
-helped_found tables ob kept found looked is shown source =
-    let here : IsLookedUp tables ob None = subst (IsLookedUp tables ob) is looked in record {
-      shown = shown;
-      kept = subst (λ (s : Source). TellsKept tables ob (from_keeper s)) (sym source) here.kept;
-      unsolved = λ same. let clash : Helped ≡ Solved = sym source ∙ same in absurd (cc);
-    }
-
-pub none_found : (tables : Option Tables) (ob : Parts) (kept : Option (Vec Step Global)) → IsLookedUp tables ob kept → kept ≡ None → Finds tables ob None
-none_found tables ob kept looked is =
-    let here : IsLookedUp tables ob None = subst (IsLookedUp tables ob) is looked in
-    record { shown = tt; kept = here.kept; unsolved = tt }
-
--- no steps are kept where none are found
-pub nothing_kept : (kept : Option (Vec Step Global)) → ((steps : Vec Step Global) → kept ≡ Some steps → ⊥) → kept ≡ None
-nothing_kept None no_steps = refl
-nothing_kept (Some steps) no_steps = absurd (no_steps steps refl)
-
-module _ {L : Type 0} where
-  -- the place of a goal of which something is found, and of one of which nothing is
-  pub found_placed : (tables : Option Tables) (goal : Goal L) (found : Option Found) (f : Found) (d : Decided L) → Finds tables goal.ob found → found ≡ Some f → d ≡ record { goal = goal; evidence = f.evidence; source = f.source } → IsPlaced tables goal (Done d)
-  found_placed tables goal found f d finds is same =
-      let here : Finds tables goal.ob (Some f) = subst (Finds tables goal.ob) is finds in
-      subst (λ (x : Decided L). IsPlaced tables goal (Done x)) (sym same) (record {
-        shows = (λ budget. record { goal_is = refl; shown = here.shown budget }, here.unsolved);
-        kept = here.kept;
-      })
-
-  pub none_placed : (tables : Option Tables) (goal : Goal L) (found : Option Found) (line : L) → Finds tables goal.ob found → found ≡ None → line ≡ goal.line → IsPlaced tables goal (Open line)
-  none_placed tables goal found line finds is same =
-      let here : Finds tables goal.ob None = subst (Finds tables goal.ob) is finds in record { shows = same; kept = here.kept }
 
 -- where nothing is read, the bytes are a record of no steps
 pub none_read : (bytes : List ℕ) (read : Option (Vec Step Global)) → ((steps : List Step) → IsRecord bytes steps → option_map (λ s. contents s.items) read ≡ Some (contents steps)) → read ≡ None

@@ -8,3 +8,4 @@ pub mod Moves
 pub mod Places
 pub mod Rows
 pub mod Stored
+pub mod Helping

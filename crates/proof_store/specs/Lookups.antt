@@ -1,6 +1,6 @@
 -- Rows of kept proofs that are fetched and checked.
-use Rattle.std.specs.Prelude.{◌≡◌, ℕ, List, Option, Some, None, IfSome, Vec, is_some, option_map}
-use Rattle.std.specs.List.{AllZip}
+use Rattle.std.specs.Prelude.{◌≡◌, ℕ, Bool, List, Option, Some, None, IfSome, Vec, is_some, option_map}
+use Rattle.std.specs.Option.{is_none}
 use Rattle.std.specs.declared.alloc.Global.{Global}
 use Rattle.std.specs.FinMap.{get}
 use Rattle.outside.specs.Tables.{Tables}
@@ -11,6 +11,7 @@ use Rattle.job_pool.specs.Shown.{IsShown}
 use Rattle.job_pool.specs.declared.evidence.Evidence.TheVariants.{Derivation}
 use Rattle.proof_store.specs.Kept.{IsProof, key_of}
 use Rattle.proof_store.specs.Places.{TellsKept}
+use Rattle.proof_store.specs.declared.checking.Checked.{Checked}
 use Rattle.proof_store.specs.declared.checking.Lookup.{Lookup}
 use Rattle.proof_store.specs.declared.goal.Goal.{Goal}
 
@@ -28,14 +29,21 @@ abbrev pub ChecksRow : Parts → Option (Vec ℕ Global) → Option (Vec Step Gl
 ChecksRow ob row (Some steps) = (bytes : Vec ℕ Global) × (row ≡ Some bytes) × IsRecord bytes.items steps.items × ((budget : ℕ) → IsShown budget ob (Derivation steps))
 ChecksRow ob row None = (bytes : Vec ℕ Global) → row ≡ Some bytes → (steps : List Step) → IsRecord bytes.items steps → IsProof ob steps → ⊥
 
-abbrev pub Checks : Lookup → Option (Vec Step Global) → Type 0
-Checks lookup found = ChecksRow lookup.ob.now lookup.row found
+-- the same obligation, and what is found in its row
+pub record Checks (lookup : Lookup) (checked : Checked) : Type 0 where
+  pub ob_is : checked.ob.now ≡ lookup.ob.now
+  pub kept : ChecksRow lookup.ob.now lookup.row checked.kept
 
 -- the steps of the proof that these tables keep of an obligation, which show how it ended, whatever the budget; or nothing, and they keep none
 pub record IsLookedUp (tables : Option Tables) (ob : Parts) (found : Option (Vec Step Global)) : Type 0 where
   pub shown : IfSome found (λ steps. (budget : ℕ) → IsShown budget ob (Derivation steps))
   pub kept : TellsKept tables ob (is_some found)
 
--- the same for each of these goals
-abbrev pub AreLookedUp : {L : Type 0} → Option Tables → List (Goal L) → List (Option (Vec Step Global)) → Type 0
-AreLookedUp tables goals found = AllZip (λ goal steps. IsLookedUp tables goal.ob steps) goals found
+-- the goal's obligation, and its proof that these tables keep
+pub record IsChecked {L : Type 0} (tables : Option Tables) (goal : Goal L) (checked : Checked) : Type 0 where
+  pub ob_is : checked.ob.now ≡ goal.ob
+  pub looked : IsLookedUp tables goal.ob checked.kept
+
+-- whether no proof of it is kept
+abbrev pub lacks_proof : Checked → Bool
+lacks_proof checked = is_none checked.kept

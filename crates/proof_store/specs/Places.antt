@@ -1,7 +1,9 @@
 -- How goals stand before any is solved.
-use Rattle.std.specs.Prelude.{◌≡◌, ℕ, List, [], ◌∷◌, ◌++◌, Bool, true, false, Option, Some, None, IfSome, IsTrue, ◌↔◌}
+use Rattle.std.specs.Prelude.{◌≡◌, ℕ, List, [], ◌∷◌, ◌++◌, Bool, true, false, Option, Some, None, IfSome, IsTrue, Vec, ◌↔◌}
+use Rattle.std.specs.declared.alloc.Global.{Global}
 use Rattle.outside.specs.Tables.{Tables}
 use Rattle.word_dag.specs.Nodes.{Parts}
+use Rattle.clause_check.specs.declared.formula.Step.{Step}
 use Rattle.helper_box.specs.declared.claim.Claim.{Claim}
 use Rattle.helper_box.specs.declared.claim.Claim.TheVariants as claim
 use Rattle.job_pool.specs.Shown.{IsShown}
@@ -9,6 +11,7 @@ use Rattle.job_pool.specs.declared.evidence.Evidence.{Evidence}
 use Rattle.job_pool.specs.declared.evidence.Evidence.TheVariants.{Derivation, Values}
 use Rattle.proof_store.specs.Goals.{IsDecided, from_keeper, is_kept}
 use Rattle.proof_store.specs.Kept.{IsKept}
+use Rattle.proof_store.specs.declared.checking.Checked.{Checked}
 use Rattle.proof_store.specs.declared.goal.Decided.{Decided}
 use Rattle.proof_store.specs.declared.goal.Goal.{Goal}
 use Rattle.proof_store.specs.declared.goal.Source.{Source}
@@ -38,6 +41,20 @@ pub record Finds (tables : Option Tables) (ob : Parts) (found : Option Found) : 
   pub kept : TellsKept tables ob (found_kept found)
   pub unsolved : IfSome found (λ f. f.source ≡ Solved → ⊥)
 
+abbrev pub FindsOf : {L : Type 0} → Option Tables → Goal L → Option Found → Type 0
+FindsOf tables goal found = Finds tables goal.ob found
+
+-- the steps that are kept, or else what a helper's claim shows
+abbrev pub found_of : Option (Vec Step Global) → Option Evidence → Option Found
+found_of (Some steps) helped = Some (record { evidence = Derivation steps; source = Kept })
+found_of None None = None
+found_of None (Some evidence) = Some (record { evidence = evidence; source = Helped })
+
+abbrev pub found_each : List Checked → List (Option Evidence) → List (Option Found)
+found_each [] helped = []
+found_each (c ∷ cs) [] = []
+found_each (c ∷ cs) (h ∷ hs) = found_of c.kept h ∷ found_each cs hs
+
 -- how often the first helper is asked: once about what isn't kept
 abbrev pub asked_of : Source → ℕ
 asked_of Kept = 0
@@ -51,6 +68,16 @@ asked_about (Some found) = asked_of found.source
 abbrev pub asked_for : {L : Type 0} → Place L → ℕ
 asked_for (Done d) = asked_of d.source
 asked_for (Open line) = 1
+
+-- the place of a goal of which this is found
+abbrev pub place_of : {L : Type 0} → Goal L → Option Found → Place L
+place_of goal None = Open goal.line
+place_of goal (Some found) = Done (record { goal = goal; evidence = found.evidence; source = found.source })
+
+abbrev pub places_of : {L : Type 0} → List (Goal L) → List (Option Found) → List (Place L)
+places_of [] found = []
+places_of (g ∷ gs) [] = []
+places_of (g ∷ gs) (f ∷ fs) = place_of g f ∷ places_of gs fs
 
 -- a goal that is done is shown, whatever the budget; of an open one the line is left
 abbrev pub Shows : {L : Type 0} → Goal L → Place L → Type 0

@@ -55,7 +55,7 @@ pub(crate) fn look_up_all<'a, K: Keeper, L: Drop>(
 }
 
 // The steps of a row, where it is a record of a proof of its obligation.
-fn checked(alloc: Global, lookup: &Lookup<'_>) -> Result<Option<Vec<Step>>, AllocError>
+fn steps_of_row(alloc: Global, lookup: &Lookup<'_>) -> Result<Option<Vec<Step>>, AllocError>
     ensures { IfOk result (ChecksRow lookup.now.ob.now lookup.now.row) }
 {
     let Some(bytes) = &lookup.row else {
@@ -65,29 +65,51 @@ fn checked(alloc: Global, lookup: &Lookup<'_>) -> Result<Option<Vec<Step>>, Allo
     accepted(alloc, &built.cnf, bytes.as_slice())
 }
 
+/// As many workers as there are jobs, at least one and no more than these.
+pub(crate) fn fewer<'a, R: Threads + Sync>(crew: &Crew<'a, R>, jobs: usize) -> Crew<'a, R> {
+    Crew {
+        rt: crew.rt,
+        alloc: crew.alloc,
+        workers: u32::try_from(jobs)
+            .unwrap_or(u32::MAX)
+            .clamp(1, crew.workers),
+    }
+}
+
+/// An obligation, and the steps of its proof where one is kept.
+#[derive(Drop)]
+pub struct Checked<'a> {
+    pub ob: &'a Ob,
+    pub kept: Option<Vec<Step>>,
+}
+
 // Rows are read and checked.
 #[derive(Drop)]
 struct Checking {
     alloc: Global,
 }
 
-impl<'a> Task<Lookup<'a>, Option<Vec<Step>>> for Checking {
+impl<'a> Task<Lookup<'a>, Checked<'a>> for Checking {
     ghost use Rattle.proof_store.specs.Lookups.{Checks};
 
     ghost ends = { λ _. Checks };
 
-    fn end(&self, _number: u64, lookup: &Lookup<'a>) -> Result<Option<Vec<Step>>, AllocError> {
-        checked(self.alloc, lookup)
+    fn end(&self, _number: u64, lookup: &Lookup<'a>) -> Result<Checked<'a>, AllocError> {
+        let kept = steps_of_row(self.alloc, lookup)?;
+        Ok(Checked {
+            ob: lookup.ob,
+            kept,
+        })
     }
 }
 
-/// The steps of each row that is a record of a proof of its obligation, in order. The rows are checked by these workers.
-pub(crate) fn checked_all<R: Threads + Sync>(
+/// The obligations in order, each with the steps of its row where this is a record of a proof of it. The rows are checked by these workers.
+pub(crate) fn checked_all<'a, R: Threads + Sync>(
     crew: &Crew<'_, R>,
-    lookups: &[Lookup<'_>],
-) -> Result<Vec<Option<Vec<Step>>>, AllocError>
+    lookups: &[Lookup<'a>],
+) -> Result<Vec<Checked<'a>>, AllocError>
     requires { length lookups.now < 2 ^ 32 }
-    ensures { IfOk result (λ found. AllZip Checks lookups.now found.items) }
+    ensures { IfOk result (λ all. AllZip Checks lookups.now all.items) }
 {
     let ran = crew.run(lookups, &Checking { alloc: crew.alloc })?;
     Ok(ran.ends)

@@ -5,6 +5,7 @@
 mod checking;
 mod fault;
 mod goal;
+mod helping;
 mod keeping;
 mod moving;
 mod placing;

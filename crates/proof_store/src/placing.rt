@@ -1,20 +1,19 @@
 //! How goals stand before any is solved.
-ghost use Rattle.std.specs.Prelude.{◌≡◌, ◌^◌, ◌<◌, ℕ, true, Err, IfOk, IfSome, map, sum_by, length, filter};
+ghost use Rattle.std.specs.Prelude.{◌≡◌, ◌^◌, ◌<◌, true, Err, IfOk, sum_by, length, filter};
 ghost use Rattle.std.specs.List.{AllZip};
 ghost use Rattle.std.specs.Vec.Iter.{into_iter_items, into_iter_len};
-ghost use Rattle.job_pool.specs.Shown.{IsShown};
-ghost use Rattle.proof_store.specs.Counts.{FirstRose, NoneFalls};
-ghost use Rattle.proof_store.specs.Lookups.{AreLookedUp, IsLookedUp};
-ghost use Rattle.proof_store.specs.Places.{Finds, IsPlaced, Takes, Tells, asked_about, asked_for, filled, is_open, open_of, opened};
+ghost use Rattle.proof_store.specs.Counts.{FirstRose};
+ghost use Rattle.proof_store.specs.Lookups.{IsChecked};
+ghost use Rattle.proof_store.specs.Places.{FindsOf, IsPlaced, Takes, asked_about, asked_for, filled, found_each, found_of, is_open, open_of, opened, place_of, places_of};
 ghost use Rattle.proof_store.specs.Provers.{IsSame, Proceeds, Rises, asked_by, counts, kept_by};
 
-use crate::checking::{Lookup, checked_all, look_up_all};
+use crate::checking::{Checked, checked_all, fewer, look_up_all};
 use crate::fault::StoreFault;
 use crate::goal::{Decided, Goal, Source};
+use crate::helping::help_all;
 use crate::prover::Prover;
 use clause_check::Step;
-use cnf_build::build;
-use helper_box::{Claim, Helper, offer_all};
+use helper_box::Helper;
 use job_pool::{Crew, Evidence};
 use outside::{Gate, Keeper};
 use std::alloc::{AllocError, Global};
@@ -45,33 +44,79 @@ pub struct Placed<L> {
     pub rest: Vec<Ob>,
 }
 
-// What a claim shows.
-fn evidence_of(claim: Claim) -> Option<Evidence>
-    ensures { Tells claim result }
+// What is found of an obligation: the steps that are kept, or else what a helper's claim shows.
+fn found_of(kept: Option<Vec<Step>>, helped: Option<Evidence>) -> Option<Found>
+    ensures { result ≡ found_of kept helped }
 {
-    match claim {
-        Claim::Nothing => None,
-        Claim::Unsat(steps) => Some(Evidence::Derivation(steps)),
-        Claim::Values(values) => Some(Evidence::Values(values)),
+    if let Some(steps) = kept {
+        return Some(Found {
+            evidence: Evidence::Derivation(steps),
+            source: Source::Kept,
+        });
+    }
+    match helped {
+        Some(evidence) => Some(Found {
+            evidence,
+            source: Source::Helped,
+        }),
+        None => None,
     }
 }
 
-// Asks the helpers about an obligation. Where there is none, its clauses aren't built.
-fn offered<H: Helper>(
+// What is found of obligations, in order.
+fn found_each(
     alloc: Global,
-    ob: &Ob,
-    helpers: &mut Vec<H>,
-) -> Result<Option<Evidence>, AllocError>
-    ensures shown { IfOk result (λ found. IfSome found (λ evidence. (budget : ℕ) → IsShown budget ob.now evidence)) }
-    ensures first { IfOk result (λ _. FirstRose 1 (map H.asked helpers.old.items) (map H.asked helpers.new.items)) }
-    ensures asked { NoneFalls (map H.asked helpers.old.items) (map H.asked helpers.new.items) }
+    obs: Vec<Checked<'_>>,
+    helped: Vec<Option<Evidence>>,
+) -> Result<Vec<Option<Found>>, AllocError>
+    ensures { IfOk result (λ found. found.items ≡ found_each obs.entry.items helped.items) }
 {
-    if helpers.is_empty() {
-        return Ok(None);
+    let mut found = Vec::new(alloc);
+    for (one, evidence) in obs.into_iter().zip(helped) {
+        found.push(found_of(one.kept, evidence))?;
     }
-    let built = build(alloc, ob)?;
-    let claim = offer_all(helpers, alloc, ob, &built.cnf)?;
-    Ok(evidence_of(claim))
+    Ok(found)
+}
+
+// The place of a goal of which this is found. The obligation of an open one goes to the end of those that are open.
+fn place_one<L: Drop>(
+    goal: Goal<L>,
+    found: Option<Found>,
+    rest: &mut Vec<Ob>,
+) -> Result<Place<L>, AllocError>
+    ensures place { IfOk result (λ place. place ≡ place_of goal found) }
+    ensures rest { IfOk result (λ place. rest.new.items ≡ opened place goal.ob rest.old.items) }
+{
+    match found {
+        Some(Found { evidence, source }) => Ok(Place::Done(Decided {
+            goal,
+            evidence,
+            source,
+        })),
+        None => {
+            let Goal { line, ob } = goal;
+            rest.push(ob)?;
+            Ok(Place::Open(line))
+        }
+    }
+}
+
+// The places of goals of which this is found, in order.
+fn place_each<L: Drop>(
+    alloc: Global,
+    goals: Vec<Goal<L>>,
+    found: Vec<Option<Found>>,
+) -> Result<Placed<L>, AllocError>
+    ensures places { IfOk result (λ p. p.places.items ≡ places_of goals.items found.items) }
+    ensures rest { IfOk result (λ p. p.rest.items ≡ open_of goals.items p.places.items) }
+{
+    let mut places = Vec::new(alloc);
+    let mut rest = Vec::new(alloc);
+    for (goal, found) in goals.into_iter().zip(found) {
+        let place = place_one(goal, found, &mut rest)?;
+        places.push(place)?;
+    }
+    Ok(Placed { places, rest })
 }
 
 impl<'a, 'k, 'h, R: Threads + Sync, K: Keeper, H: Helper, G: Gate + Sync> Prover<
@@ -83,108 +128,44 @@ impl<'a, 'k, 'h, R: Threads + Sync, K: Keeper, H: Helper, G: Gate + Sync> Prover
     H,
     G,
 > {
-    // As many workers as there are rows to check, at least one and no more than the settings say.
-    fn checkers(&self, lookups: &[Lookup<'_>]) -> Crew<'a, R> {
-        let rows = lookups.iter().filter(|lookup| lookup.row.is_some()).count();
-        let workers = u32::try_from(rows)
-            .unwrap_or(u32::MAX)
-            .clamp(1, self.settings.workers);
+    // All workers that the settings allow.
+    fn crew(&self) -> Crew<'a, R> {
         Crew {
             rt: self.rt,
             alloc: self.alloc,
-            workers,
+            workers: self.settings.workers,
         }
     }
 
-    // The proofs of goals that are kept, in order: the keeper is asked for one row after another, and then workers check them side by side.
-    fn look_up<L: Drop>(&mut self, goals: &[Goal<L>]) -> Result<Vec<Option<Vec<Step>>>, StoreFault>
+    // The obligations of goals in order, each with its proof that is kept: the keeper is asked for one row after another, and then workers check
+    // them side by side.
+    fn look_up<'g, L: Drop>(&mut self, goals: &'g [Goal<L>]) -> Result<Vec<Checked<'g>>, StoreFault>
         requires jobs { length goals.now < 2 ^ 32 }
-        ensures found { IfOk result (λ found. AreLookedUp (kept_by K.tables self.old) goals.now found.items) }
+        ensures found { IfOk result (λ all. AllZip (IsChecked (kept_by K.tables self.old)) goals.now all.items) }
         ensures tables { kept_by K.tables self.new ≡ kept_by K.tables self.old }
         ensures faults { Rises (result ≡ Err StoreFault.Keeper) (K.faults self.old.keeper.now) (K.faults self.new.keeper.now) }
         ensures asked { asked_by H.asked self.new ≡ asked_by H.asked self.old }
         ensures same { IsSame self.old self.new }
     {
         let lookups = look_up_all(self.alloc, self.keeper, goals)?;
-        let crew = self.checkers(lookups.as_slice());
+        let rows = lookups.iter().filter(|lookup| lookup.row.is_some()).count();
+        let crew = fewer(&self.crew(), rows);
         Ok(checked_all(&crew, lookups.as_slice())?)
     }
 
-    // What is found of an obligation without solving: these steps of a kept proof, or where there are none what the helpers claim.
-    fn find(&mut self, ob: &Ob, kept: Option<Vec<Step>>) -> Result<Option<Found>, AllocError>
-        requires looked { IsLookedUp (kept_by K.tables self.old) ob.now kept }
-        ensures finds { IfOk result (Finds (kept_by K.tables self.old) ob.now) }
+    // What is found of goals without solving, in order: proofs that are kept, or else what the helpers claim.
+    fn find_all<L: Drop>(&mut self, goals: &[Goal<L>]) -> Result<Vec<Option<Found>>, StoreFault>
+        requires jobs { length goals.now < 2 ^ 32 }
+        ensures finds { IfOk result (λ found. AllZip (FindsOf (kept_by K.tables self.old)) goals.now found.items) }
         ensures tables { kept_by K.tables self.new ≡ kept_by K.tables self.old }
-        ensures proceeds { Proceeds ⊥ (counts K.faults H.asked self.old) (counts K.faults H.asked self.new) }
-        ensures first { IfOk result (λ found. FirstRose (asked_about found) (asked_by H.asked self.old) (asked_by H.asked self.new)) }
+        ensures proceeds { Proceeds (result ≡ Err StoreFault.Keeper) (counts K.faults H.asked self.old) (counts K.faults H.asked self.new) }
+        ensures first { IfOk result (λ found. FirstRose (sum_by asked_about found.items) (asked_by H.asked self.old) (asked_by H.asked self.new)) }
         ensures same { IsSame self.old self.new }
     {
-        if let Some(steps) = kept {
-            let evidence = Evidence::Derivation(steps);
-            return Ok(Some(Found {
-                evidence,
-                source: Source::Kept,
-            }));
-        }
-        match offered(self.alloc, ob, self.helpers)? {
-            Some(evidence) => Ok(Some(Found {
-                evidence,
-                source: Source::Helped,
-            })),
-            None => Ok(None),
-        }
-    }
-
-    // The place of a goal, of which these steps are kept. The obligation of an open one goes to the end of those that are open.
-    fn place<L: Drop>(
-        &mut self,
-        goal: Goal<L>,
-        kept: Option<Vec<Step>>,
-        rest: &mut Vec<Ob>,
-    ) -> Result<Place<L>, AllocError>
-        requires looked { IsLookedUp (kept_by K.tables self.old) goal.ob kept }
-        ensures placed { IfOk result (IsPlaced (kept_by K.tables self.old) goal) }
-        ensures rest { IfOk result (λ place. rest.new.items ≡ opened place goal.ob rest.old.items) }
-        ensures tables { kept_by K.tables self.new ≡ kept_by K.tables self.old }
-        ensures proceeds { Proceeds ⊥ (counts K.faults H.asked self.old) (counts K.faults H.asked self.new) }
-        ensures first { IfOk result (λ place. FirstRose (asked_for place) (asked_by H.asked self.old) (asked_by H.asked self.new)) }
-        ensures same { IsSame self.old self.new }
-    {
-        match self.find(&goal.ob, kept)? {
-            Some(Found { evidence, source }) => Ok(Place::Done(Decided {
-                goal,
-                evidence,
-                source,
-            })),
-            None => {
-                let Goal { line, ob } = goal;
-                rest.push(ob)?;
-                Ok(Place::Open(line))
-            }
-        }
-    }
-
-    // The places of goals, of which these steps are kept, in order.
-    fn place_each<L: Drop>(
-        &mut self,
-        goals: Vec<Goal<L>>,
-        kept: Vec<Option<Vec<Step>>>,
-    ) -> Result<Placed<L>, AllocError>
-        requires looked { AreLookedUp (kept_by K.tables self.old) goals.items kept.items }
-        ensures placed { IfOk result (λ p. AllZip (IsPlaced (kept_by K.tables self.old)) goals.items p.places.items) }
-        ensures rest { IfOk result (λ p. p.rest.items ≡ open_of goals.items p.places.items) }
-        ensures tables { kept_by K.tables self.new ≡ kept_by K.tables self.old }
-        ensures proceeds { Proceeds ⊥ (counts K.faults H.asked self.old) (counts K.faults H.asked self.new) }
-        ensures first { IfOk result (λ p. FirstRose (sum_by asked_for p.places.items) (asked_by H.asked self.old) (asked_by H.asked self.new)) }
-        ensures same { IsSame self.old self.new }
-    {
-        let mut places = Vec::new(self.alloc);
-        let mut rest = Vec::new(self.alloc);
-        for (goal, steps) in goals.into_iter().zip(kept) {
-            let place = self.place(goal, steps, &mut rest)?;
-            places.push(place)?;
-        }
-        Ok(Placed { places, rest })
+        let obs = self.look_up(goals)?;
+        let crew = self.crew();
+        let helped = help_all(&crew, self.helpers, obs.as_slice())?;
+        Ok(found_each(self.alloc, obs, helped)?)
     }
 
     /// The places of goals, in order.
@@ -200,8 +181,8 @@ impl<'a, 'k, 'h, R: Threads + Sync, K: Keeper, H: Helper, G: Gate + Sync> Prover
         ensures first { IfOk result (λ p. FirstRose (sum_by asked_for p.places.items) (asked_by H.asked self.old) (asked_by H.asked self.new)) }
         ensures same { IsSame self.old self.new }
     {
-        let kept = self.look_up(goals.as_slice())?;
-        Ok(self.place_each(goals, kept)?)
+        let found = self.find_all(goals.as_slice())?;
+        Ok(place_each(self.alloc, goals, found)?)
     }
 }
 

@@ -2,7 +2,7 @@
 use crate::examples::{COUNTER, STEP_ALONE};
 use clause_check::{Clause, Cnf, Step};
 use desk_core::{Checker, Prover, Settings};
-use helper_box::{Claim, Helper};
+use helper_box::{Claim, Claims, Helper};
 use outside::{MemKeeper, QuietGate};
 use reports::{Book, Which};
 use std::alloc::{AllocError, Global};
@@ -17,6 +17,8 @@ struct Liar {
     offers: u64,
 }
 
+impl Claims for Liar {}
+
 impl Helper for Liar {
     ghost asked = { λ s. s.offers };
 
@@ -28,6 +30,10 @@ impl Helper for Liar {
             steps.push(Step { clause, hints })?;
         }
         Ok(Claim::Unsat(steps))
+    }
+
+    fn count(&mut self) {
+        self.offers = self.offers.saturating_add(1);
     }
 
     fn offers(&self) -> u64 {

@@ -2,7 +2,7 @@
 ghost use Rattle.std.specs.Prelude.{◌≡◌};
 
 use clause_check::{Clause, Cnf, Step};
-use helper_box::{Claim, Helper};
+use helper_box::{Claim, Claims, Helper};
 use std::alloc::{AllocError, Global};
 use word_dag::{Node, Ob};
 
@@ -82,12 +82,18 @@ fn claim(alloc: Global, lie: Lie, ob: &Ob) -> Result<Claim, AllocError> {
     }
 }
 
+impl Claims for Liar {}
+
 impl Helper for Liar {
     ghost asked = { λ s. s.offers };
 
     fn offer(&mut self, alloc: Global, ob: &Ob, _cnf: &Cnf) -> Result<Claim, AllocError> {
         self.offers = self.offers.saturating_add(1);
         claim(alloc, self.lie, ob)
+    }
+
+    fn count(&mut self) {
+        self.offers = self.offers.saturating_add(1);
     }
 
     fn offers(&self) -> u64 {

@@ -1,7 +1,7 @@
 use Rattle.std.proofs.lemmas.Result.{IfOk-weaker}
 use Rattle.proof_store.specs.Kept.{IsBuilt}
 use Rattle.proof_store.proofs.Lookups.{accepted_checks}
-use Rattle.proof_store.proofs.checking.checked.Goals as goal
+use Rattle.proof_store.proofs.checking.steps_of_row.Goals as goal
 
 pub returns : goal.returns
 returns c =
