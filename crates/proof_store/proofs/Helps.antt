@@ -17,6 +17,7 @@ use Rattle.proof_store.specs.Places.{Tells}
 use Rattle.proof_store.specs.declared.checking.Checked.{Checked}
 use Rattle.proof_store.specs.declared.helping.Ready.{Ready}
 use Rattle.proof_store.proofs.Asking.{rose_none, rose_on, rose_one}
+use Rattle.proof_store.proofs.Pieces.{all_zipped_on}
 use Rattle.proof_store.proofs.Proving.{claim_shown_ever}
 
 -- ---- one obligation
@@ -125,12 +126,6 @@ none_more [] i helped more there helps pushed = absurd (omega arith)
 none_more (o ∷ os) i helped more there helps pushed = one_more_none (o ∷ os) i helped more o there helps pushed
 
 -- ---- few obligations after few
-all_zipped_on : {A B : Type 0} (R : A → B → Type 0) (xs us : List A) (ys vs : List B) → AllZip R xs ys → AllZip R us vs → AllZip R (xs ++ us) (ys ++ vs)
-all_zipped_on R [] us [] vs a b = b
-all_zipped_on R [] us (y ∷ ys) vs a b = absurd a
-all_zipped_on R (x ∷ xs) us [] vs a b = absurd a
-all_zipped_on R (x ∷ xs) us (y ∷ ys) vs a b = (a.0, all_zipped_on R xs us ys vs a.1 b)
-
 -- about those before the helpers were asked, and these are left
 pub record HelpLoop (obs left : List Checked) (helped : List (Option Evidence)) (xs ys : List ℕ) : Type 0 where
   pub before : List Checked

@@ -5,6 +5,7 @@ pub mod Finding
 pub mod Helps
 mod Lookups
 mod Ordered
+pub mod Pieces
 pub mod Placed
 mod Proving
 mod Seconds

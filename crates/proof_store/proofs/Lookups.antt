@@ -14,10 +14,12 @@ use Rattle.step_records.specs.Records.{IsRecord}
 use Rattle.job_pool.specs.Shown.{IsShown}
 use Rattle.job_pool.specs.declared.evidence.Evidence.TheVariants.{Derivation}
 use Rattle.proof_store.specs.Kept.{IsBuilt, IsKept}
-use Rattle.proof_store.specs.Lookups.{Checks, ChecksRow, IsChecked, IsLookedUp, IsLookup, IsRowUnder}
+use Rattle.proof_store.specs.Lookups.{Checks, ChecksRow, HasRow, IsChecked, IsLookedUp, IsLookup, IsNamed, IsQuery, IsRowAt, IsRowUnder, Looks}
 use Rattle.proof_store.specs.Rows.{IsAccepted}
 use Rattle.proof_store.specs.declared.checking.Checked.{Checked}
-use Rattle.proof_store.specs.declared.checking.Lookup.{Lookup}
+use Rattle.proof_store.specs.declared.looking.Lookup.{Lookup}
+use Rattle.proof_store.specs.declared.looking.Named.{Named}
+use Rattle.proof_store.specs.declared.looking.Query.{Query}
 use Rattle.proof_store.specs.declared.goal.Goal.{Goal}
 use Rattle.proof_store.proofs.Proving.{derivation_shown, same_refutes}
 
@@ -54,15 +56,46 @@ row_looked_up None ob row (Some steps) under checks = record { shown = checks.3;
 row_looked_up (Some t) ob row None under checks = record { shown = tt; kept = (λ off. absurd (cc), λ kept. absurd (not_there t ob row under checks kept)) }
 row_looked_up (Some t) ob row (Some steps) under checks = record { shown = checks.3; kept = (λ _. kept_there t ob row steps under checks, λ _. refl) }
 
+-- ---- rows under texts
+pub row_there : (tables now : Option Tables) (named : Named) (lookup : Lookup) (key : List ℕ) → lookup.ob.now ≡ named.ob.now → key ≡ named.key.items → now ≡ tables → IsRowAt now key lookup.row → HasRow tables named lookup
+row_there tables now named lookup key ob_is key_is same row = record {
+  ob_is = ob_is;
+  row_is = subst (λ (k : List ℕ). IsRowAt tables k lookup.row) key_is (subst (λ (t : Option Tables). IsRowAt t key lookup.row) same row);
+}
+
+pub rows_looked : (tables : Option Tables) (queries : List Query) (all : List Named) (lookups : List Lookup) → AllZip IsNamed queries all → AllZip (HasRow tables) all lookups → AllZip (Looks tables) queries lookups
+rows_looked tables [] [] [] are rows = tt
+rows_looked tables [] [] (l ∷ ls) are rows = absurd rows
+rows_looked tables [] (n ∷ ns) ls are rows = absurd are
+rows_looked tables (q ∷ qs) [] ls are rows = absurd are
+rows_looked tables (q ∷ qs) (n ∷ ns) [] are rows = absurd rows
+rows_looked tables (q ∷ qs) (n ∷ ns) (l ∷ ls) are rows = (
+  record { ob_is = rows.0.ob_is ∙ are.0.ob_is; row_is = subst (λ (k : List ℕ). IsRowAt tables k l.row) are.0.key_is rows.0.row_is },
+  rows_looked tables qs ns ls are.1 rows.1,
+)
+
+pub looks_then : (tables now : Option Tables) (queries : List Query) (lookups : List Lookup) → now ≡ tables → AllZip (Looks now) queries lookups → AllZip (Looks tables) queries lookups
+looks_then tables now queries lookups same looks = subst (λ (t : Option Tables). AllZip (Looks t) queries lookups) same looks
+
 module _ {L : Type 0} where
-  -- the row of one more goal
-  pub lookups_more : (tables now : Option Tables) (goals : List (Goal L)) (i : ℕ) (goal : Goal L) (lookups more : List Lookup) (lookup : Lookup) → i < length goals → goal ≡ get_or goals i goal → AllZip (IsLookup tables) (take i goals) lookups → now ≡ tables
-      → lookup.ob.now ≡ goal.ob → IsRowUnder now goal.ob lookup.row → more ≡ lookups ++ lookup ∷ [] → AllZip (IsLookup tables) (take (i + 1) goals) more
-  lookups_more tables now goals i goal lookups more lookup there one are same ob_is row_is pushed =
-      let here : IsLookup tables goal lookup = record { ob_is = ob_is; row_is = subst (λ (t : Option Tables). IsRowUnder t goal.ob lookup.row) same row_is } in
+  -- one more obligation
+  pub queries_more : (goals : List (Goal L)) (i : ℕ) (goal : Goal L) (queries more : List Query) (query : Query) → i < length goals → goal ≡ get_or goals i goal → AllZip IsQuery (take i goals) queries → query.ob.now ≡ goal.ob → more ≡ queries ++ query ∷ []
+      → AllZip IsQuery (take (i + 1) goals) more
+  queries_more goals i goal queries more query there one are here pushed =
       let whole : take i goals ++ goal ∷ [] ≡ take (i + 1) goals = ap (λ (g : Goal L). take i goals ++ g ∷ []) one ∙ sym (take_more goals i goal there) in
-      subst (λ (gs : List (Goal L)). AllZip (IsLookup tables) gs more) whole
-      (subst (AllZip (IsLookup tables) (take i goals ++ goal ∷ [])) (sym pushed) (all_zipped_more (IsLookup tables) (take i goals) lookups goal lookup are here))
+      subst (λ (gs : List (Goal L)). AllZip IsQuery gs more) whole (subst (AllZip IsQuery (take i goals ++ goal ∷ [])) (sym pushed) (all_zipped_more IsQuery (take i goals) queries goal query are here))
+
+  -- the rows of goals
+  pub all_looked_up : (tables : Option Tables) (goals : List (Goal L)) (queries : List Query) (lookups : List Lookup) → AllZip IsQuery goals queries → AllZip (Looks tables) queries lookups → AllZip (IsLookup tables) goals lookups
+  all_looked_up tables [] [] [] are looks = tt
+  all_looked_up tables [] [] (l ∷ ls) are looks = absurd looks
+  all_looked_up tables [] (q ∷ qs) ls are looks = absurd are
+  all_looked_up tables (g ∷ gs) [] ls are looks = absurd are
+  all_looked_up tables (g ∷ gs) (q ∷ qs) [] are looks = absurd looks
+  all_looked_up tables (g ∷ gs) (q ∷ qs) (l ∷ ls) are looks = (
+    record { ob_is = looks.0.ob_is ∙ are.0; row_is = subst (λ (p : Parts). IsRowUnder tables p l.row) are.0 looks.0.row_is },
+    all_looked_up tables gs qs ls are.1 looks.1,
+  )
 
   -- the rows of goals, checked
   pub all_checked : (tables : Option Tables) (goals : List (Goal L)) (lookups : List Lookup) (obs : List Checked) → AllZip (IsLookup tables) goals lookups → AllZip Checks lookups obs → AllZip (IsChecked tables) goals obs

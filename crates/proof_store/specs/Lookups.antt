@@ -12,12 +12,36 @@ use Rattle.job_pool.specs.declared.evidence.Evidence.TheVariants.{Derivation}
 use Rattle.proof_store.specs.Kept.{IsProof, key_of}
 use Rattle.proof_store.specs.Places.{TellsKept}
 use Rattle.proof_store.specs.declared.checking.Checked.{Checked}
-use Rattle.proof_store.specs.declared.checking.Lookup.{Lookup}
+use Rattle.proof_store.specs.declared.looking.Lookup.{Lookup}
+use Rattle.proof_store.specs.declared.looking.Named.{Named}
+use Rattle.proof_store.specs.declared.looking.Query.{Query}
 use Rattle.proof_store.specs.declared.goal.Goal.{Goal}
+
+-- the row that these tables have under this key
+abbrev pub IsRowAt : Option Tables → List ℕ → Option (Vec ℕ Global) → Type 0
+IsRowAt tables key row = IfSome tables (λ t. option_map (λ bytes. bytes.items) row ≡ get t.proofs key)
 
 -- the row that these tables have under the obligation's text
 abbrev pub IsRowUnder : Option Tables → Parts → Option (Vec ℕ Global) → Type 0
-IsRowUnder tables ob row = IfSome tables (λ t. option_map (λ bytes. bytes.items) row ≡ get t.proofs (key_of ob))
+IsRowUnder tables ob row = IsRowAt tables (key_of ob) row
+
+-- the goal's obligation
+abbrev pub IsQuery : {L : Type 0} → Goal L → Query → Type 0
+IsQuery goal query = query.ob.now ≡ goal.ob
+
+-- the same obligation, and its text
+pub record IsNamed (query : Query) (named : Named) : Type 0 where
+  pub ob_is : named.ob.now ≡ query.ob.now
+  pub key_is : named.key.items ≡ key_of query.ob.now
+
+-- the same obligation, and the row under its text
+pub record HasRow (tables : Option Tables) (named : Named) (lookup : Lookup) : Type 0 where
+  pub ob_is : lookup.ob.now ≡ named.ob.now
+  pub row_is : IsRowAt tables named.key.items lookup.row
+
+pub record Looks (tables : Option Tables) (query : Query) (lookup : Lookup) : Type 0 where
+  pub ob_is : lookup.ob.now ≡ query.ob.now
+  pub row_is : IsRowUnder tables query.ob.now lookup.row
 
 -- the goal's obligation, and the row under its text
 pub record IsLookup {L : Type 0} (tables : Option Tables) (goal : Goal L) (lookup : Lookup) : Type 0 where

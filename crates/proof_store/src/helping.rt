@@ -7,16 +7,14 @@ ghost use Rattle.proof_store.specs.Helping.{Helps, IfReady, Readies, ShownOf, tu
 ghost use Rattle.proof_store.specs.Lookups.{lacks_proof};
 ghost use Rattle.proof_store.specs.Places.{Tells};
 
-use crate::checking::{Checked, fewer};
+use crate::checking::Checked;
+use crate::crews::{AT_ONCE, fewer};
 use cnf_build::{Built, build};
 use helper_box::{Claim, Claims, Helper, claims_of, offer_ready};
 use job_pool::{Crew, Evidence, Task};
 use std::alloc::{AllocError, Global};
 use std::thread::Threads;
 use word_dag::Ob;
-
-/// How many obligations are made ready at a time, so that few formulas are alive at once.
-const AT_ONCE: usize = 64;
 
 /// An obligation that stands ready for the helpers: its clauses, and claims of it that were made out of turn and pass.
 #[derive(Drop)]

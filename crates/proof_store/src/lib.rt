@@ -3,10 +3,12 @@
 #![tactic(auto)]
 
 mod checking;
+mod crews;
 mod fault;
 mod goal;
 mod helping;
 mod keeping;
+mod looking;
 mod moving;
 mod placing;
 mod prover;

@@ -7,10 +7,12 @@ ghost use Rattle.proof_store.specs.Lookups.{IsChecked};
 ghost use Rattle.proof_store.specs.Places.{FindsOf, IsPlaced, Takes, asked_about, asked_for, filled, found_each, found_of, is_open, open_of, opened, place_of, places_of};
 ghost use Rattle.proof_store.specs.Provers.{IsSame, Proceeds, Rises, asked_by, counts, kept_by};
 
-use crate::checking::{Checked, checked_all, fewer, look_up_all};
+use crate::checking::{Checked, checked_all};
+use crate::crews::fewer;
 use crate::fault::StoreFault;
 use crate::goal::{Decided, Goal, Source};
 use crate::helping::help_all;
+use crate::looking::look_up_all;
 use crate::prover::Prover;
 use clause_check::Step;
 use helper_box::Helper;
@@ -137,8 +139,8 @@ impl<'a, 'k, 'h, R: Threads + Sync, K: Keeper, H: Helper, G: Gate + Sync> Prover
         }
     }
 
-    // The obligations of goals in order, each with its proof that is kept: the keeper is asked for one row after another, and then workers check
-    // them side by side.
+    // The obligations of goals in order, each with its proof that is kept: the keeper is asked for one row after another, under texts that workers
+    // make, and then workers check the rows side by side.
     fn look_up<'g, L: Drop>(&mut self, goals: &'g [Goal<L>]) -> Result<Vec<Checked<'g>>, StoreFault>
         requires jobs { length goals.now < 2 ^ 32 }
         ensures found { IfOk result (λ all. AllZip (IsChecked (kept_by K.tables self.old)) goals.now all.items) }
@@ -147,10 +149,10 @@ impl<'a, 'k, 'h, R: Threads + Sync, K: Keeper, H: Helper, G: Gate + Sync> Prover
         ensures asked { asked_by H.asked self.new ≡ asked_by H.asked self.old }
         ensures same { IsSame self.old self.new }
     {
-        let lookups = look_up_all(self.alloc, self.keeper, goals)?;
+        let crew = self.crew();
+        let lookups = look_up_all(&crew, self.keeper, goals)?;
         let rows = lookups.iter().filter(|lookup| lookup.row.is_some()).count();
-        let crew = fewer(&self.crew(), rows);
-        Ok(checked_all(&crew, lookups.as_slice())?)
+        Ok(checked_all(&fewer(&crew, rows), lookups.as_slice())?)
     }
 
     // What is found of goals without solving, in order: proofs that are kept, or else what the helpers claim.
