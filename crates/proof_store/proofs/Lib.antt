@@ -8,6 +8,7 @@ mod Ordered
 pub mod Pieces
 pub mod Placed
 mod Proving
+mod Puts
 mod Seconds
 mod Storing
 pub mod Turns

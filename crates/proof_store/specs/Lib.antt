@@ -9,3 +9,4 @@ pub mod Places
 pub mod Rows
 pub mod Stored
 pub mod Helping
+pub mod Outcomes

@@ -1,19 +1,18 @@
 //! Proofs that a keeper holds under the texts of obligations.
-ghost use Rattle.std.specs.Prelude.{◌≡◌, ◌↔◌, Err, IfOk, IfSome, IsTrue, OnErr, OnOk, All, map};
-ghost use Rattle.proof_store.specs.Kept.{IsKept};
-ghost use Rattle.proof_store.specs.Rows.{HasProofs, IsAccepted, IsRowOf};
-ghost use Rattle.proof_store.specs.Goals.{ended, is_kept};
+ghost use Rattle.std.specs.Prelude.{◌≡◌, ◌↔◌, Err, IfOk, IsTrue, OnErr, OnOk};
+ghost use Rattle.proof_store.specs.Rows.{IsAccepted, IsRowOf};
+ghost use Rattle.proof_store.specs.Goals.{ended};
 ghost use Rattle.proof_store.specs.Provers.{Rises};
-ghost use Rattle.proof_store.specs.Stored.{AddsProofs, MayKeep, Puts, StoresNew, Told, ended_ob};
+ghost use Rattle.proof_store.specs.Stored.{MayKeep, Puts, Told};
 
 use crate::fault::StoreFault;
-use crate::goal::{Decided, Source};
+use crate::goal::Decided;
 use clause_check::{Cnf, Marks, Step, accept};
 use job_pool::Evidence;
 use outside::Keeper;
 use std::alloc::{AllocError, Global};
 use step_records::{read_steps, record_fits, write_steps};
-use word_dag::text;
+use word_dag::{Ob, text};
 
 /// The most bytes that a key or the bytes of a kept proof may have.
 const LONGEST: usize = 16_777_216;
@@ -44,17 +43,21 @@ pub struct Row {
     pub bytes: Vec<u8>,
 }
 
-// The row of a proof: its obligation's text and its record, where it may be kept.
-fn row_of<L: Drop>(alloc: Global, one: &Decided<L>) -> Result<Option<Row>, AllocError>
-    ensures { IfOk result (IsRowOf (ended one.now)) }
+/// The row of a proof: its obligation's text and its record, where it may be kept.
+pub(crate) fn row_of(
+    alloc: Global,
+    ob: &Ob,
+    evidence: &Evidence,
+) -> Result<Option<Row>, AllocError>
+    ensures { IfOk result (IsRowOf (record { ob = ob.now; evidence = evidence.now })) }
 {
-    let Evidence::Derivation(steps) = &one.evidence else {
+    let Evidence::Derivation(steps) = evidence else {
         return Ok(None);
     };
     if !record_fits(steps.as_slice()) {
         return Ok(None);
     }
-    let key = text(alloc, &one.goal.ob)?;
+    let key = text(alloc, ob)?;
     let bytes = write_steps(alloc, steps.as_slice())?;
     if key.len() > LONGEST || bytes.len() > LONGEST {
         return Ok(None);
@@ -75,37 +78,11 @@ pub fn keep<K: Keeper, L: Drop>(
     ensures err { OnErr result (K.tables keeper.new ≡ K.tables keeper.old) }
     ensures faults { Rises (result ≡ Err StoreFault.Keeper) (K.faults keeper.old) (K.faults keeper.new) }
 {
-    match row_of(alloc, one)? {
+    match row_of(alloc, &one.goal.ob, &one.evidence)? {
         Some(row) => {
             keeper.put_proof(alloc, row.key.as_slice(), row.bytes.as_slice())?;
             Ok(true)
         }
         None => Ok(false),
     }
-}
-
-fn is_kept<L: Drop>(decided: &Decided<L>) -> bool
-    ensures { result ≡ is_kept decided.now }
-{
-    matches!(decided.source, Source::Kept)
-}
-
-/// Puts the proofs of the goals that weren't kept.
-pub(crate) fn put_new<K: Keeper, L: Drop>(
-    alloc: Global,
-    keeper: &mut K,
-    decided: &[Decided<L>],
-) -> Result<(), StoreFault>
-    requires kept { IfSome (K.tables keeper.old) (λ t. All (λ d. IsTrue (is_kept d) ↔ IsKept t d.goal.ob) decided.now) }
-    requires proofs { HasProofs (map ended decided.now) }
-    ensures ok { OnOk result (Told (StoresNew (map ended decided.now)) (K.tables keeper.old) (K.tables keeper.new)) }
-    ensures left { Told (AddsProofs (map ended_ob (map ended decided.now))) (K.tables keeper.old) (K.tables keeper.new) }
-    ensures faults { Rises (result ≡ Err StoreFault.Keeper) (K.faults keeper.old) (K.faults keeper.new) }
-{
-    for one in decided {
-        if !is_kept(one) {
-            keep(alloc, keeper, one)?;
-        }
-    }
-    Ok(())
 }

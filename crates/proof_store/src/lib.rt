@@ -12,6 +12,7 @@ mod looking;
 mod moving;
 mod placing;
 mod prover;
+mod putting;
 mod settings;
 mod settling;
 

@@ -130,8 +130,8 @@ impl<'a, 'k, 'h, R: Threads + Sync, K: Keeper, H: Helper, G: Gate + Sync> Prover
     H,
     G,
 > {
-    // All workers that the settings allow.
-    fn crew(&self) -> Crew<'a, R> {
+    /// All workers that the settings allow.
+    pub(crate) fn crew(&self) -> Crew<'a, R> {
         Crew {
             rt: self.rt,
             alloc: self.alloc,

@@ -11,9 +11,9 @@ ghost use Rattle.proof_store.specs.declared.goal.Source.{Source as Sources};
 
 use crate::fault::StoreFault;
 use crate::goal::{Decided, Goal, Source};
-use crate::keeping::put_new;
 use crate::placing::filled;
 use crate::prover::Prover;
+use crate::putting::put_new;
 use helper_box::Helper;
 use job_pool::{Crew, Evidence, Ran, run_jobs};
 use outside::{Gate, Keeper};
@@ -125,7 +125,7 @@ impl<'a, 'k, 'h, R: Threads + Sync, K: Keeper, H: Helper, G: Gate + Sync> Prover
         let Ran { ends, draws } = self.decide_open(placed.rest.as_slice())?;
         let decided = filled(self.alloc, placed, ends)?;
         let all = decided.as_slice();
-        put_new(self.alloc, self.keeper, all)?;
+        put_new(&self.crew(), self.keeper, all)?;
         let kept = count_kept(all);
         let helped = count_helped(all);
         let solved = count_solved(all);

@@ -5,7 +5,7 @@ use Rattle.step_records.specs.Records.{Fits, IsRecord, version_2}
 use Rattle.proof_store.proofs.keeping.row_of.Goals as goal
 
 pub returns : goal.returns
-returns g c =
+returns c =
     let steps = c.in-Derivation.steps in
     let yes : c.record_fits.result ≡ true = search rules in
     let bytes : c.in_ok-bytes.bytes.items ≡ version_2 steps.items = subst (λ (xs : List Step). c.in_ok-bytes.bytes.items ≡ version_2 xs) c.as_slice-2.ensures.value c.in_ok-bytes.ensures.bytes in (

@@ -3,10 +3,11 @@ use Rattle.std.specs.List.{AllZip}
 use Rattle.std.specs.Prelude.{IfSome}
 use Rattle.job_pool.specs.Shown.{IsShown}
 use Rattle.proof_store.specs.Counts.{draws_of}
-use Rattle.proof_store.specs.Goals.{ob_of}
+use Rattle.proof_store.specs.Goals.{IsDecided, ob_of}
 use Rattle.proof_store.specs.Kept.{CountsKept}
 use Rattle.proof_store.specs.declared.settings.Settings.{Settings}
 use Rattle.proof_store.proofs.Faults.{rises_on}
+use Rattle.proof_store.proofs.Placed.{same_length}
 use Rattle.proof_store.proofs.Wholes.{adds, asked_are, ends_long, facts, first_rose, flags_now, rest_few, rest_long}
 use Rattle.proof_store.proofs.prover.Prover.settle.Goals as goal
 
@@ -21,13 +22,19 @@ filled-requires-clause-ends g c =
     let shown : AllZip (IsShown c.args.self.now.settings.budget) c.as_slice.result.now c.in_ok-ends.field-0.ends.items = (subst (λ (s : Settings). AllZip (IsShown s.budget) c.as_slice.result.now c.in_ok-ends.field-0.ends.items) c.in_ok-placed.ensures.same.2 c.in_ok-ends.ensures.ends) in
     ends_long (g.K.Keeper.tables c.args.self.now.keeper.now) c.args.goals.items c.in_ok-placed.placed.places.items c.in_ok-placed.placed.rest.items c.as_slice.result.now c.in_ok-placed.ensures.placed c.in_ok-placed.ensures.rest c.as_slice.ensures.value c.args.self.now.settings.budget c.in_ok-ends.field-0.ends.items shown
 
+pub put_new-requires-clause-jobs : goal.put_new-requires-clause-jobs
+put_new-requires-clause-jobs g c κs within =
+    let f = facts (g.K.Keeper.tables c.args.self.now.keeper.now) c.args.goals.items c.in_ok-placed.placed.places.items c.in_ok-placed.placed.rest.items c.as_slice.result.now c.in_ok-placed.ensures.placed c.in_ok-placed.ensures.rest c.as_slice.ensures.value c.args.self.now.settings.budget c.in_ok-ends.field-0.ends.items (subst (λ (s : Settings). AllZip (IsShown s.budget) c.as_slice.result.now c.in_ok-ends.field-0.ends.items) c.in_ok-placed.ensures.same.2 c.in_ok-ends.ensures.ends) c.in_ok-decided.decided.items c.as_slice-all.result.now c.in_ok-decided.ensures c.as_slice-all.ensures.value in
+    let long = same_length (IsDecided c.args.self.now.settings.budget) c.args.goals.items c.in_ok-decided.decided.items f.decided in
+    omega (arith, c.requires.jobs, long, ap length c.as_slice-all.ensures.value)
+
 pub put_new-requires-clause-kept : goal.put_new-requires-clause-kept
-put_new-requires-clause-kept g c =
+put_new-requires-clause-kept g c κs within =
     let f = facts (g.K.Keeper.tables c.args.self.now.keeper.now) c.args.goals.items c.in_ok-placed.placed.places.items c.in_ok-placed.placed.rest.items c.as_slice.result.now c.in_ok-placed.ensures.placed c.in_ok-placed.ensures.rest c.as_slice.ensures.value c.args.self.now.settings.budget c.in_ok-ends.field-0.ends.items (subst (λ (s : Settings). AllZip (IsShown s.budget) c.as_slice.result.now c.in_ok-ends.field-0.ends.items) c.in_ok-placed.ensures.same.2 c.in_ok-ends.ensures.ends) c.in_ok-decided.decided.items c.as_slice-all.result.now c.in_ok-decided.ensures c.as_slice-all.ensures.value in
     flags_now (g.K.Keeper.tables c.args.self.now.keeper.now) (g.K.Keeper.tables c.place_all.new.self.keeper.now) c.as_slice-all.result.now c.in_ok-placed.ensures.tables f.flags
 
 pub put_new-requires-clause-proofs : goal.put_new-requires-clause-proofs
-put_new-requires-clause-proofs g c =
+put_new-requires-clause-proofs g c κs within =
     let f = facts (g.K.Keeper.tables c.args.self.now.keeper.now) c.args.goals.items c.in_ok-placed.placed.places.items c.in_ok-placed.placed.rest.items c.as_slice.result.now c.in_ok-placed.ensures.placed c.in_ok-placed.ensures.rest c.as_slice.ensures.value c.args.self.now.settings.budget c.in_ok-ends.field-0.ends.items (subst (λ (s : Settings). AllZip (IsShown s.budget) c.as_slice.result.now c.in_ok-ends.field-0.ends.items) c.in_ok-placed.ensures.same.2 c.in_ok-ends.ensures.ends) c.in_ok-decided.decided.items c.as_slice-all.result.now c.in_ok-decided.ensures c.as_slice-all.ensures.value in
     f.proofs
 
