@@ -1,12 +1,12 @@
 -- Rows that are put one after another.
-use Rattle.std.proofs.Common.{◌≡◌, ℕ, ◌+◌, ◌<◌, ⊎_elim, inr, List, [], ◌∷◌, ◌++◌, Option, Some, None, true, false, drop, get_or, length, map, take, refl, sym, ap, ap₂, ◌∙◌, subst, arith, append_assoc, append-nil}
-use Rattle.std.specs.Prelude.{All, IfSome, IsTrue, Vec, ◌↔◌, option_map}
+use Rattle.std.proofs.Common.{◌≡◌, ℕ, ◌+◌, ◌<◌, ⊎_elim, inr, List, [], ◌∷◌, ◌++◌, Option, Some, None, true, false, get_or, length, map, take, refl, sym, ap, ap₂, ◌∙◌, subst, arith, append_assoc, append-nil}
+use Rattle.std.specs.Prelude.{All, IfSome, IsTrue, Vec, ◌↔◌}
 use Rattle.std.specs.List.{AllZip}
 use Rattle.std.specs.declared.alloc.Global.{Global}
 use Rattle.std.proofs.lemmas.List.{take_more}
 use Rattle.std.proofs.lemmas.List.Elements.{All-cons, All-head, All-nil, All-tail}
 use Rattle.std.proofs.lemmas.Slice.Zip.{all_zipped_more}
-use Rattle.outside.specs.Tables.{Tables, with_proof}
+use Rattle.outside.specs.Tables.{Tables}
 use Rattle.word_dag.specs.Nodes.{Parts}
 use Rattle.clause_check.specs.declared.formula.Step.{Step}
 use Rattle.job_pool.specs.declared.evidence.Evidence.{Evidence}
@@ -15,7 +15,7 @@ use Rattle.proof_store.specs.Goals.{Ended, ended, is_kept}
 use Rattle.proof_store.specs.Kept.{IsKept, IsProof}
 use Rattle.proof_store.specs.Outcomes.{IsNewRow, IsOutcome, TellsOutcome, outcome_ended, put_one}
 use Rattle.proof_store.specs.Rows.{HasProofs, IsRowOf}
-use Rattle.proof_store.specs.Stored.{AddsProofs, MayBeKept, Puts, StoresNew, Told, ended_ob}
+use Rattle.proof_store.specs.Stored.{AddsProofs, Puts, StoresNew, Told, ended_ob}
 use Rattle.proof_store.specs.declared.goal.Decided.{Decided}
 use Rattle.proof_store.specs.declared.keeping.Row.{Row}
 use Rattle.proof_store.specs.declared.putting.Outcome.{Outcome}

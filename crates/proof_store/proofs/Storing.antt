@@ -1,7 +1,6 @@
 -- What a keeper holds while new proofs are put.
-use Rattle.std.proofs.Common.{◌≡◌, ℕ, zero, suc, ◌+◌, ◌<◌, ◌≤◌, ◌⊎◌, inl, inr, ⊎_elim, List, [], ◌∷◌, ◌++◌, Bool, true, false, cond, Option, Some, None, length, map, take, drop, get_or, refl, sym, ap, ap₂, ◌∙◌, subst, arith}
-use Rattle.std.proofs.lemmas.List.{get_or-map, length-map, take_more}
-use Rattle.std.specs.Prelude.{All, Any, Contains, IfSome, IsTrue, ◌↔◌, Vec, option_map}
+use Rattle.std.proofs.Common.{◌≡◌, ℕ, zero, suc, ◌<◌, ◌≤◌, ◌⊎◌, inl, inr, ⊎_elim, List, [], ◌∷◌, ◌++◌, Bool, true, false, cond, Option, Some, None, length, map, take, refl, sym, ap, ap₂, ◌∙◌, subst, arith}
+use Rattle.std.specs.Prelude.{Any, Contains, IfSome, Vec, option_map}
 use Rattle.std.specs.declared.alloc.Global.{Global}
 use Rattle.std.specs.declared.cmp.Ordering.{Ordering}
 use Rattle.std.specs.declared.cmp.Ordering.TheVariants.{Less, Equal, Greater}
@@ -15,10 +14,9 @@ use Rattle.word_dag.specs.Nodes.{Parts}
 use Rattle.clause_check.specs.declared.formula.Step.{Step}
 use Rattle.step_records.specs.Records.{IsRecord, version_2}
 use Rattle.job_pool.specs.declared.evidence.Evidence.TheVariants.{Derivation}
-use Rattle.proof_store.specs.Goals.{Ended, ended, is_kept}
-use Rattle.proof_store.specs.declared.goal.Decided.{Decided}
+use Rattle.proof_store.specs.Goals.{Ended}
 use Rattle.proof_store.specs.Kept.{IsKept, IsProof, key_of}
-use Rattle.proof_store.specs.Rows.{HasProofs, IsRowOf}
+use Rattle.proof_store.specs.Rows.{IsRowOf}
 use Rattle.proof_store.specs.declared.keeping.Row.{Row}
 use Rattle.proof_store.specs.Stored.{AddsProofs, IsNew, IsProved, MayBeKept, Puts, StoresNew, Told, ended_ob}
 
@@ -204,68 +202,12 @@ pub nothing_added : (obs : List Parts) (o : Option Tables) → Told (AddsProofs 
 nothing_added obs None = tt
 nothing_added obs (Some t) = record { blocks = refl; signs = refl; proofs = λ key. inl refl }
 
--- ---- one after another
-front_and_rest : {A : Type 0} (i : ℕ) (xs : List A) → take i xs ++ drop i xs ≡ xs
-front_and_rest zero xs = refl
-front_and_rest (suc i) [] = refl
-front_and_rest (suc i) (x ∷ xs) = ap (λ (ys : List _). x ∷ ys) (front_and_rest i xs)
-
+-- the first of a list, which are all
 pub whole : {A : Type 0} (i : ℕ) (xs : List A) → length xs ≤ i → take i xs ≡ xs
 whole zero [] long = refl
 whole zero (x ∷ xs) long = absurd (omega arith)
 whole (suc i) [] long = refl
 whole (suc i) (x ∷ xs) long = ap (λ (ys : List _). x ∷ ys) (whole i xs (omega arith))
-
-module _ {L : Type 0} where
-  -- the goals up to this place, as they ended
-  abbrev pub first_ended : ℕ → List (Decided L) → List Ended
-  first_ended i decided = map ended (take i decided)
-
-  more_ended : (decided : List (Decided L)) (i : ℕ) (d : Decided L) → i < length decided → d ≡ get_or decided i d → first_ended i decided ++ ended d ∷ [] ≡ first_ended (i + 1) decided
-  more_ended decided i d there one =
-      sym (map_append ended (take i decided) (d ∷ [])) ∙ ap (map ended) (ap (λ (x : Decided L). take i decided ++ x ∷ []) one ∙ sym (take_more decided i d there))
-
-module _ {L : Type 0} where
-  pub left_of : (decided : List (Decided L)) (i : ℕ) (before now after : Option Tables) → Told (StoresNew (first_ended i decided)) before now → after ≡ now → Told (AddsProofs (map ended_ob (map ended decided))) before after
-  left_of decided i before now after s same =
-      subst (λ (es : List Ended). Told (AddsProofs (map ended_ob es)) before after) (sym (map_append ended (take i decided) (drop i decided)) ∙ ap (map ended) (front_and_rest i decided))
-      (subst (λ (o : Option Tables). Told (AddsProofs (map ended_ob (first_ended i decided ++ map ended (drop i decided)))) before o) (sym same) (told_left (first_ended i decided) (map ended (drop i decided)) before now s))
-
-  abbrev FlagsTell : List (Decided L) → Tables → Type 0
-  FlagsTell decided t = All (λ (d : Decided L). IsTrue (is_kept d) ↔ IsKept t d.goal.ob) decided
-
-module _ {L : Type 0} where
-  not_kept : (decided : List (Decided L)) (i : ℕ) (d : Decided L) (before : Option Tables) → i < length decided → d ≡ get_or decided i d → IfSome before (FlagsTell decided) → is_kept d ≡ false → IfSome before (λ t. IsKept t d.goal.ob → ⊥)
-  not_kept decided i d None there one tell nowhere = tt
-  not_kept decided i d (Some t) there one tell nowhere =
-      λ kept. let flag : IsTrue (is_kept d) ↔ IsKept t d.goal.ob = subst (λ (x : Decided L). IsTrue (is_kept x) ↔ IsKept t x.goal.ob) (sym one) (tell i d there) in
-      let on : is_kept d ≡ true = flag.1 kept in absurd (cc)
-
-  is_there : (decided : List (Decided L)) (i : ℕ) (d : Decided L) (before : Option Tables) → i < length decided → d ≡ get_or decided i d → IfSome before (FlagsTell decided) → is_kept d ≡ true → IfSome before (λ t. IsKept t d.goal.ob)
-  is_there decided i d None there one tell on = tt
-  is_there decided i d (Some t) there one tell on =
-      (subst (λ (x : Decided L). IsTrue (is_kept x) ↔ IsKept t x.goal.ob) (sym one) (tell i d there)).0 on
-
-module _ {L : Type 0} where
-  -- the next one is put, and what the keeper holds then is `held`
-  pub put_next : (decided : List (Decided L)) (i : ℕ) (d : Decided L) (before now after held : Option Tables) → i < length decided → d ≡ get_or decided i d → IfSome before (FlagsTell decided) → HasProofs (map ended decided)
-      → is_kept d ≡ false → Told (StoresNew (first_ended i decided)) before now → Told (Puts (ended d)) now after → held ≡ after → Told (StoresNew (first_ended (i + 1) decided)) before held
-  put_next decided i d before now after held there one tell proofs nowhere s puts same =
-      let long : i < length (map ended decided) = let many = length-map decided ended in omega (arith, there, many) in
-      let at : get_or (map ended decided) i (ended d) ≡ ended d = get_or-map ended decided i d (ended d) there ∙ ap ended (sym one) in
-      let proof : (steps : Vec Step Global) → d.evidence ≡ Derivation steps → IsProof d.goal.ob steps.items =
-      subst (λ (x : Ended). (steps : Vec Step Global) → x.evidence ≡ Derivation steps → IsProof x.ob steps.items) at (proofs i (ended d) long) in
-      subst (λ (o : Option Tables). Told (StoresNew (first_ended (i + 1) decided)) before o) (sym same)
-      (subst (λ (es : List Ended). Told (StoresNew es) before after) (more_ended decided i d there one)
-      (told_put (first_ended i decided) (ended d) before now after s (not_kept decided i d before there one tell nowhere) proof puts))
-
-  -- the next one is kept already
-  pub past_next : (decided : List (Decided L)) (i : ℕ) (d : Decided L) (before now held : Option Tables) → i < length decided → d ≡ get_or decided i d → IfSome before (FlagsTell decided) → is_kept d ≡ true
-      → Told (StoresNew (first_ended i decided)) before now → held ≡ now → Told (StoresNew (first_ended (i + 1) decided)) before held
-  past_next decided i d before now held there one tell on s same =
-      subst (λ (o : Option Tables). Told (StoresNew (first_ended (i + 1) decided)) before o) (sym same)
-      (subst (λ (es : List Ended). Told (StoresNew es) before now) (more_ended decided i d there one)
-      (told_past (first_ended i decided) (ended d) before now s (is_there decided i d before there one tell on)))
 
 -- the row that was made is put
 pub puts_row : (d : Ended) (found : Option Row) (row : Row) (before after : Option Tables) (key bytes : List ℕ) → IsRowOf d found → found ≡ Some row → key ≡ row.key.items → bytes ≡ row.bytes.items

@@ -1,5 +1,5 @@
 -- Obligations that ended, and the rows that are put for them.
-use Rattle.std.specs.Prelude.{◌≡◌, Bool, true, false, Option, Some, None, IsTrue, ◌↔◌, ◌⊎◌, option_map}
+use Rattle.std.specs.Prelude.{◌≡◌, true, false, Option, Some, None, IsTrue, ◌↔◌, ◌⊎◌, option_map}
 use Rattle.outside.specs.Tables.{Tables, with_proof}
 use Rattle.proof_store.specs.Goals.{Ended, is_kept}
 use Rattle.proof_store.specs.Kept.{IsKept}

@@ -44,11 +44,7 @@ pub struct Row {
 }
 
 /// The row of a proof: its obligation's text and its record, where it may be kept.
-pub(crate) fn row_of(
-    alloc: Global,
-    ob: &Ob,
-    evidence: &Evidence,
-) -> Result<Option<Row>, AllocError>
+pub(crate) fn row_of(alloc: Global, ob: &Ob, evidence: &Evidence) -> Result<Option<Row>, AllocError>
     ensures { IfOk result (IsRowOf (record { ob = ob.now; evidence = evidence.now })) }
 {
     let Evidence::Derivation(steps) = evidence else {
