@@ -2,8 +2,8 @@
 """What the gate costs, and where a check's seconds go.
 
 gate.py run [WORD..]        runs `rt ci WORD..` at the top of the repository, and then prints a table: for each crate the processor seconds of
-                            its proof, of its tests' proof and of its wrong bodies (with the check that they begin with), and the most memory of
-                            one process; below it the wall time, and user and system seconds of all processes
+                            its proof, of its tests' proof, of its wrong bodies (with the check that they begin with) and of compiling its tests or
+                            its program, and the most memory of one process; below it the wall time, and user and system seconds of all processes
 gate.py where CRATE [N]     of the last `rt check --jobs 1` of a crate from nothing (its out/ removed before): the N functions and the N files that
                             took longest, by the times at which the prover wrote its files
 """
@@ -17,7 +17,7 @@ import time
 
 TOP = os.path.dirname(os.path.dirname(os.path.abspath(__file__)))
 TICK = os.sysconf("SC_CLK_TCK")
-KINDS = ("proof", "tests", "wrong bodies")
+KINDS = ("proof", "tests", "wrong bodies", "compiling")
 
 
 def stat_of(pid):
@@ -36,6 +36,19 @@ def kind_of(pid, words):
     return "tests" if "--test" in words else "proof"
 
 
+def work_of(pid):
+    """The crate and the kind of work of a process, and the fields that follow its name; none where it is neither a prover nor a compiler."""
+    name, fields, words = stat_of(pid)
+    if name.startswith("clang"):
+        # (the prover has LLVM's compiler make the machine code, which for a program takes longer than its proof)
+        words, kind = stat_of(fields[1])[2], "compiling"
+    elif name == "rattle":
+        kind = "compiling" if "--crate-checked" in words else kind_of(pid, words)
+    else:
+        return None
+    return (words[words.index("--crate-name") + 1], kind, fields) if "--crate-name" in words else None
+
+
 def below(pid, top):
     """Whether a process was started, at any remove, by another one."""
     while pid not in ("0", "1", top):
@@ -45,17 +58,16 @@ def below(pid, top):
 
 
 def sample(seen, top):
-    """Notes the processor seconds and the memory of each prover that a process started."""
+    """Notes the processor seconds and the memory of each prover and compiler that a process started."""
     for pid in filter(str.isdigit, os.listdir("/proc")):
         try:
-            name, fields, words = stat_of(pid)
-            if name != "rattle" or "--crate-name" not in words or not below(pid, top):
+            work = work_of(pid)
+            if not work or not below(pid, top):
                 continue
-            key = pid, fields[19]
-            if key not in seen:
-                seen[key] = [words[words.index("--crate-name") + 1], kind_of(pid, words), 0, 0]
-            seen[key][2] = max(seen[key][2], (int(fields[11]) + int(fields[12])) / TICK)
-            seen[key][3] = max(seen[key][3], int(fields[21]) * 4096 // 1_000_000)
+            crate, kind, fields = work
+            found = seen.setdefault((pid, fields[19]), [crate, kind, 0, 0])
+            found[2] = max(found[2], (int(fields[11]) + int(fields[12])) / TICK)
+            found[3] = max(found[3], int(fields[21]) * 4096 // 1_000_000)
         except (OSError, ValueError, IndexError):
             pass
 
