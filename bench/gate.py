@@ -42,7 +42,7 @@ def work_of(pid):
     if name.startswith("clang"):
         # (the prover has LLVM's compiler make the machine code, which for a program takes longer than its proof)
         words, kind = stat_of(fields[1])[2], "compiling"
-    elif name == "rattle":
+    elif name in ("rattle", "antt-kernel"):
         kind = "compiling" if "--crate-checked" in words else kind_of(pid, words)
     else:
         return None
