@@ -40,7 +40,7 @@ def work_of(pid):
     """The crate and the kind of work of a process, and the fields that follow its name; none where it is neither a prover nor a compiler."""
     name, fields, words = stat_of(pid)
     if name.startswith("clang"):
-        # (the prover has LLVM's compiler make the machine code, which for a program takes longer than its proof)
+        # (the prover has LLVM's compiler make the machine code, which for a program takes minutes)
         words, kind = stat_of(fields[1])[2], "compiling"
     elif name in ("rattle", "antt-kernel"):
         kind = "compiling" if "--crate-checked" in words else kind_of(pid, words)
