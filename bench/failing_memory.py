@@ -22,7 +22,7 @@ calls:
     read_set                      property_rows:sets, property_rows:lines, property_rows:windows
     read_steps                    deciding_rows:records
     settle                        deciding_rows:settling
-    check                         signoff_rows:asked
+    check                         none: `program` runs it
     act, serve_one                none but desk_rows:connections, which has those of the connection below them; `desk` runs both
 """
 import argparse
@@ -37,7 +37,7 @@ import time
 
 TOP = os.path.dirname(os.path.dirname(os.path.abspath(__file__)))
 CRATES = ["verilog_rows", "property_rows", "deciding_rows", "signoff_rows", "desk_rows"]
-CALLS = ["verilog_rows:modules", "property_rows:sets", "deciding_rows:records", "deciding_rows:settling", "signoff_rows:asked", "desk_rows:connections"]
+CALLS = ["verilog_rows:modules", "property_rows:sets", "deciding_rows:records", "deciding_rows:settling", "desk_rows:connections"]
 OUTCOME = re.compile(r"^test (\S+) \.\.\. (ok|FAILED)$")
 READS = [("GET", it, b"") for it in ("/blocks", "/blocks/b/report", "/signoffs")]
 HOWS = ("refused", "passed", "another answer", "other")

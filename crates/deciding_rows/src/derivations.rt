@@ -1,4 +1,4 @@
-use clause_check::{Clause, Clauses, Cnf, Lit, Marks, Step, accept, holds};
+use clause_check::{Clause, Clauses, Cnf, Lit, Marks, Step, accept};
 use std::alloc::{AllocError, Global};
 use std::test::Fail;
 
@@ -49,28 +49,5 @@ fn accepts_hints_in_the_order_of_propagation(rt: HostRuntime) -> Result<(), Fail
     assert!(rt; accepts(alloc, &cnf, &[3, 1, 2])?);
     assert!(rt; !accepts(alloc, &cnf, &[1, 3, 2])?);
     assert!(rt; !accepts(alloc, &cnf, &[])?);
-    Ok(())
-}
-
-#[test]
-fn takes_clauses_and_formulas_alone(rt: HostRuntime) -> Result<(), Fail> {
-    let alloc = rt.alloc();
-    assert!(rt; clause(alloc, &[3, -1, 2])?.is_some());
-    assert!(rt; clause(alloc, &[3, -1, 2, 1])?.is_none());
-    let mut clauses = Clauses::new(alloc)?;
-    push(alloc, &mut clauses, &[1, -3])?;
-    assert!(rt; Cnf::of(2, clauses).is_none());
-    Ok(())
-}
-
-#[test]
-fn holds_where_each_clause_has_a_true_literal(rt: HostRuntime) -> Result<(), Fail> {
-    let alloc = rt.alloc();
-    let mut clauses = Clauses::new(alloc)?;
-    push(alloc, &mut clauses, &[1, -2])?;
-    let cnf = Cnf::of(2, clauses).expect(&rt, "a formula");
-    assert!(rt; holds(&cnf, &[false, false]));
-    assert!(rt; !holds(&cnf, &[false, true]));
-    assert!(rt; !holds(&cnf, &[false]));
     Ok(())
 }

@@ -25,6 +25,10 @@ impl Helper for Liar {
         Ok(Claim::Unsat(steps))
     }
 
+    fn is_ahead(&self) -> bool {
+        false
+    }
+
     fn count(&mut self) {
         self.offers = self.offers.saturating_add(1);
     }

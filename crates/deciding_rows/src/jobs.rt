@@ -1,5 +1,5 @@
-use job_pool::{Crew, Evidence, Tickets, run_jobs};
-use outside::{Gate, QuietGate};
+use job_pool::{Crew, Tickets, run_jobs};
+use outside::Gate;
 use std::alloc::{AllocError, Global};
 use std::sync::atomic::Ordering::SeqCst;
 use std::sync::atomic::{AtomicBool, AtomicU64};
@@ -97,50 +97,6 @@ fn two_workers_are_at_work_at_once(rt: HostRuntime) -> Result<(), Fail> {
         meeting.first.entries.load(SeqCst) == 1 && meeting.second.entries.load(SeqCst) == 1
     );
     assert!(rt; meeting.first.saw.load(SeqCst) && meeting.second.saw.load(SeqCst));
-    Ok(())
-}
-
-#[test]
-fn ends_stand_in_the_order_of_the_jobs(rt: HostRuntime) -> Result<(), Fail> {
-    let ones = [true, false, false, true, false];
-    let obs = constants(rt.alloc(), &ones)?;
-    for workers in [1, 2, 16, 64] {
-        assert_eq!(rt; obs.len(), 5);
-        let crew = Crew {
-            rt: &rt,
-            alloc: rt.alloc(),
-            workers,
-        };
-        let ran = run_jobs(&crew, &obs, 9, &QuietGate)?;
-        assert_eq!(rt; ran.draws.len(), 5 + workers as usize);
-        assert_eq!(rt; ran.ends.len(), 5);
-        for (one, end) in ones.iter().zip(&ran.ends) {
-            match end {
-                Evidence::Derivation(_) => assert!(rt; !*one),
-                Evidence::Values(_) => assert!(rt; *one),
-                Evidence::Chain(_) => panic!(rt; "nothing is spent"),
-            }
-        }
-    }
-    Ok(())
-}
-
-#[test]
-fn one_job_is_drawn_past_by_each_worker(rt: HostRuntime) -> Result<(), Fail> {
-    let obs = constants(rt.alloc(), &[false])?;
-    assert_eq!(rt; obs.len(), 1);
-    let crew = Crew {
-        rt: &rt,
-        alloc: rt.alloc(),
-        workers: 16,
-    };
-    let ran = run_jobs(&crew, &obs, 1, &QuietGate)?;
-    let mut next = 0;
-    for number in &ran.draws {
-        assert_eq!(rt; *number, next);
-        next = number.saturating_add(1);
-    }
-    assert_eq!(rt; next, 17);
     Ok(())
 }
 

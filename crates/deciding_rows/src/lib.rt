@@ -1,8 +1,6 @@
-//! Rows of the deciding layer: words, their clauses, derivations, their records, the solver, helpers, the workers, and obligations settled over a keeper.
+//! Rows of the deciding layer: words, derivations, their records, the solver, helpers, the workers, and obligations settled over a keeper.
 #![tactic(auto)]
 
-#[cfg(test)]
-mod clauses;
 #[cfg(test)]
 mod derivations;
 #[cfg(test)]

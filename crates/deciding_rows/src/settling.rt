@@ -3,7 +3,7 @@ use crate::helpers::{Liar, zero};
 use helper_box::{Helper, Table};
 use job_pool::Evidence;
 use outside::{Keeper, MemKeeper, QuietGate, Text};
-use proof_store::{Goal, Prover, Settings, Settled, Source, StoreFault, migrate};
+use proof_store::{Goal, Prover, Settings, Settled, StoreFault, migrate};
 use set_tree::Line;
 use std::alloc::{AllocError, Global};
 use std::process::Abort;
@@ -13,20 +13,20 @@ use step_records::{fits_version_1, read_steps, write_steps_1};
 use word_core::Word;
 use word_dag::{Node, Ob, Op, text};
 
-// A word is less than another of the same cycle and also greater.
-fn between_in(alloc: Global, cycle: i16) -> Result<Ob, AllocError> {
+// A word is less than another one and also greater.
+fn between(alloc: Global) -> Result<Ob, AllocError> {
     let mut nodes = Vec::new(alloc);
     nodes.push(Node::Free {
         name: Text::copy(alloc, b"a")?,
         width: 4,
         side: 0,
-        cycle,
+        cycle: 0,
     })?;
     nodes.push(Node::Free {
         name: Text::copy(alloc, b"b")?,
         width: 4,
         side: 0,
-        cycle,
+        cycle: 0,
     })?;
     nodes.push(Node::Two {
         op: Op::Ult,
@@ -47,10 +47,6 @@ fn between_in(alloc: Global, cycle: i16) -> Result<Ob, AllocError> {
         b: 3,
     })?;
     Ok(Ob::new(nodes, 4))
-}
-
-fn between(alloc: Global) -> Result<Ob, AllocError> {
-    between_in(alloc, 0)
 }
 
 // A word is 5.
@@ -151,10 +147,8 @@ fn settles(
 
 const ENDS: &[End] = &[End::Derivation, End::Derivation, End::Values];
 
-const TWO_ENDS: &[End] = &[End::Derivation, End::Derivation];
-
-// Two goals whose root is never 1.
-fn two(alloc: Global) -> Result<Vec<Goal<Line>>, AllocError> {
+// Two goals whose root is never 1, and one whose root is 1 at one value.
+fn three(alloc: Global) -> Result<Vec<Goal<Line>>, AllocError> {
     let mut goals = Vec::new(alloc);
     goals.push(Goal {
         line: Line::Reset,
@@ -164,12 +158,6 @@ fn two(alloc: Global) -> Result<Vec<Goal<Line>>, AllocError> {
         line: Line::Operation(1),
         ob: between(alloc)?,
     })?;
-    Ok(goals)
-}
-
-// The same, and one whose root is 1 at one value.
-fn three(alloc: Global) -> Result<Vec<Goal<Line>>, AllocError> {
-    let mut goals = two(alloc)?;
     goals.push(Goal {
         line: Line::Operation(2),
         ob: five(alloc)?,
@@ -207,101 +195,6 @@ fn proofs_are_kept_and_checked_again(rt: HostRuntime) -> Result<(), Fail> {
     let alloc: Global = rt.alloc();
     let mut keeper = MemKeeper::new(alloc, Vec::new(alloc));
     settled_again(&rt, &mut keeper, &mut Vec::new(alloc))
-}
-
-// Six goals whose root is never 1, each of another cycle.
-fn six(alloc: Global) -> Result<Vec<Goal<Line>>, AllocError> {
-    let mut goals = Vec::new(alloc);
-    for cycle in 0..6 {
-        goals.push(Goal {
-            line: Line::Reset,
-            ob: between_in(alloc, cycle)?,
-        })?;
-    }
-    Ok(goals)
-}
-
-// Settles six goals by so many workers, without helpers.
-fn settled_by(
-    rt: &(impl Threads + Sync + Abort + AllocGlobal),
-    workers: u32,
-    keeper: &mut MemKeeper,
-) -> Result<Settled<Line>, StoreFault> {
-    let alloc: Global = rt.alloc();
-    let goals = six(alloc)?;
-    assert!(rt; 0 < workers && workers <= 64 && goals.len() == 6);
-    let mut prover = Prover {
-        rt,
-        alloc,
-        settings: Settings {
-            budget: 1_000,
-            workers,
-        },
-        keeper,
-        helpers: &mut Vec::<Box<dyn Helper>>::new(alloc),
-        gate: &QuietGate,
-    };
-    prover.settle(goals)
-}
-
-// Where the end of each goal comes from, and how many steps show it.
-fn shown_by(
-    alloc: Global,
-    settled: &Settled<Line>,
-) -> Result<Vec<(Source, Option<usize>)>, AllocError> {
-    let mut all = Vec::new(alloc);
-    for one in &settled.decided {
-        let steps = match &one.evidence {
-            Evidence::Derivation(steps) => Some(steps.len()),
-            Evidence::Values(_) | Evidence::Chain(_) => None,
-        };
-        all.push((one.source, steps))?;
-    }
-    Ok(all)
-}
-
-// Six proofs are kept, and the third one is damaged; then the goals are settled again by so many workers.
-fn checked_by(
-    rt: &(impl Threads + Sync + Abort + AllocGlobal),
-    workers: u32,
-) -> Result<Vec<(Source, Option<usize>)>, Fail> {
-    let alloc: Global = rt.alloc();
-    let mut keeper = MemKeeper::new(alloc, Vec::new(alloc));
-    let first = settled_by(rt, workers, &mut keeper)?;
-    assert_eq!(rt; first.solved, 6);
-    spoil(alloc, &mut keeper, &between_in(alloc, 2)?)?;
-    let again = settled_by(rt, workers, &mut keeper)?;
-    assert_eq!(rt; (again.kept, again.helped, again.solved), (5, 0, 1));
-    Ok(shown_by(alloc, &again)?)
-}
-
-#[test]
-fn rows_are_checked_alike_by_one_worker_and_by_four(rt: HostRuntime) -> Result<(), Fail> {
-    let alone = checked_by(&rt, 1)?;
-    let side_by_side = checked_by(&rt, 4)?;
-    assert!(rt; alone == side_by_side);
-    assert_eq!(rt; alone.len(), 6);
-    for (number, (source, steps)) in alone.iter().enumerate() {
-        let kept = *source == Source::Kept;
-        assert!(rt; kept == (number != 2) && steps.is_some());
-    }
-    Ok(())
-}
-
-#[test]
-fn with_all_kept_no_number_is_drawn(rt: HostRuntime) -> Result<(), Fail> {
-    let alloc: Global = rt.alloc();
-    let mut keeper = MemKeeper::new(alloc, Vec::new(alloc));
-    for want in [(0, 0, 2, 4), (2, 0, 0, 0)] {
-        settles(
-            &rt,
-            two(alloc)?,
-            &mut keeper,
-            &mut Vec::new(alloc),
-            (want, TWO_ENDS),
-        )?;
-    }
-    Ok(())
 }
 
 // Settles three goals over an empty keeper, and wants what comes of them and how often the liar was asked by then.

@@ -61,18 +61,6 @@ fn chains(alloc: Global) -> Result<Option<Cnf>, AllocError> {
 }
 
 #[test]
-fn decides_formulas_without_literals(rt: HostRuntime) -> Result<(), Fail> {
-    let alloc = rt.alloc();
-    let mut clauses = Clauses::new(alloc)?;
-    push(alloc, &mut clauses, &[])?;
-    let absurd = Cnf::of(0, clauses).expect(&rt, "a formula");
-    assert!(rt; matches!(solve(alloc, &absurd, 1)?, End::Unsat(_)));
-    let empty = Cnf::of(0, Clauses::new(alloc)?).expect(&rt, "a formula");
-    assert!(rt; matches!(solve(alloc, &empty, 1)?, End::Sat(_)));
-    Ok(())
-}
-
-#[test]
 fn refutes_five_pigeons_in_four_holes(rt: HostRuntime) -> Result<(), Fail> {
     let alloc = rt.alloc();
     let cnf = pigeons(alloc)?.expect(&rt, "a formula");

@@ -1,11 +1,8 @@
 // Connections in memory, and a desk that answers by a block's name.
 use desk_commands::{Answer, Command, DeskFault, Names, Signs};
-use http_connection::{
-    Incoming, Request, ServeFault, Served, Take, one_request, read_request, receive, reply_to,
-};
+use http_connection::{Incoming, ServeFault, Served, receive, reply_to};
 use http_reply::{PAGE_CSS, PAGE_HTML, PAGE_JS};
-use http_request::Wanted;
-use outside::{MemPort, Port, Text};
+use outside::{MemPort, Text};
 use std::alloc::{AllocError, Global};
 use std::process::Abort;
 use std::test::Fail;
@@ -508,19 +505,5 @@ fn a_port_that_fails_is_told(rt: HostRuntime) -> Result<(), Fail> {
     for (call, want, acts) in FAILS {
         fails(&rt, *call, *want, *acts)?;
     }
-    Ok(())
-}
-
-#[test]
-fn a_request_is_read(rt: HostRuntime) -> Result<(), Fail> {
-    let alloc = rt.alloc();
-    let mut port = port(alloc, PUT, &[])?;
-    assert!(rt; port.next() == Ok(()));
-    let asked = matches!(
-        read_request(alloc, &mut port),
-        Take::Whole(Request::Asked(Wanted::Act(Command::PutModule { .. })))
-    );
-    assert!(rt; asked);
-    one_request();
     Ok(())
 }

@@ -1,6 +1,6 @@
-// Keepers in memory and over SQL tables.
+// The keeper over SQL tables.
 use keeper_sql::SqlKeeper;
-use outside::{Block, Keeper, MemKeeper, OutFault, Sign, Text, TraceText, Traces};
+use outside::{Block, Keeper, OutFault, Sign, Text, TraceText, Traces};
 use std::alloc::{AllocError, Global};
 use std::fs;
 use std::process::Abort;
@@ -260,32 +260,9 @@ fn tables<K: Keeper>(rt: &impl Abort, alloc: Global, keeper: &mut K) -> Result<(
 }
 
 #[test]
-fn a_keeper_in_memory_has_what_was_put(rt: HostRuntime) -> Result<(), Fail> {
-    let alloc = rt.alloc();
-    tables(&rt, alloc, &mut MemKeeper::new(alloc, Vec::new(alloc)))
-}
-
-#[test]
 fn tables_in_memory_have_what_was_put(rt: HostRuntime) -> Result<(), Fail> {
     let alloc = rt.alloc();
     tables(&rt, alloc, &mut SqlKeeper::in_memory(alloc)?)
-}
-
-// The first call fails, and later on the second one.
-fn failing_calls(rt: &impl Abort, alloc: Global, keeper: &mut MemKeeper) -> Result<(), Fail> {
-    assert!(rt; keeper.put_proof(alloc, b"k", b"1") == Err(OutFault::Failed));
-    keeper.put_proof(alloc, b"k", b"4")?;
-    keeper.set_fails([2].as_slice().to_vec(alloc)?);
-    assert!(rt; is_kept(alloc, keeper, b"k", b"4")?);
-    assert!(rt; keeper.proof(alloc, b"k").is_err());
-    Ok(())
-}
-
-#[test]
-fn a_keeper_in_memory_fails_where_it_is_to(rt: HostRuntime) -> Result<(), Fail> {
-    let alloc = rt.alloc();
-    let mut keeper = MemKeeper::new(alloc, [1].as_slice().to_vec(alloc)?);
-    failing_calls(&rt, alloc, &mut keeper)
 }
 
 const PATH: &str = "keeper_rows.db";

@@ -1,9 +1,5 @@
-// Files, the output and the connections, in memory and real.
-use outside::{
-    Console, Failed, File, FileShelf, MemPort, MemShelf, MemSink, OutFault, Port, Shelf, Sink,
-    TcpPort, Text,
-};
-use std::alloc::{AllocError, Global};
+// Real files, the standard output, and connections.
+use outside::{Console, Failed, FileShelf, OutFault, Port, Shelf, Sink, TcpPort};
 use std::fs;
 use std::io::{Read, Write};
 use std::net::{SocketAddr, TcpListener, TcpStream};
@@ -11,125 +7,12 @@ use std::process::Abort;
 use std::test::Fail;
 use std::time::Duration;
 
-fn text(alloc: Global, bytes: &[u8]) -> Result<Text, AllocError> {
-    Text::copy(alloc, bytes)
-}
-
-fn numbers(alloc: Global, numbers: &[u64]) -> Result<Vec<u64>, AllocError> {
-    numbers.to_vec(alloc)
-}
-
-// A shelf with one file, of which the third call fails.
-fn shelf(alloc: Global) -> Result<MemShelf, AllocError> {
-    let mut name = text(alloc, b"count")?;
-    name.append(b"er.v")?;
-    let bytes = text(alloc, b"module")?;
-    let mut files = Vec::new(alloc);
-    files.push(File { name, bytes })?;
-    Ok(MemShelf::new(files, numbers(alloc, &[3])?))
-}
-
-// What a file's first bytes are. None: the call failed.
-type Shelved<'a> = (&'a str, usize, Option<&'a str>);
-
-const SHELVED: &[Shelved] = &[
-    ("counter.v", 9, Some("module")),
-    ("counter.v", 2, Some("mod")),
-    ("counter.v", 9, None),
-    ("other.v", 9, None),
-    ("counter.v", 5, Some("module")),
-];
-
 // Whether bytes that were read are these, or the call failed where there are none.
 fn are(read: &Result<Vec<u8>, OutFault>, want: Option<&str>) -> bool {
     match read {
         Ok(bytes) => want == str::from_utf8(bytes).ok(),
         Err(fault) => want.is_none() && *fault == OutFault::Failed,
     }
-}
-
-fn reads(
-    rt: &(impl Abort + AllocGlobal),
-    shelf: &mut MemShelf,
-    rows: &[Shelved],
-) -> Result<(), Fail> {
-    for (name, limit, want) in rows {
-        let read = shelf.read(rt.alloc(), name.as_bytes(), *limit);
-        assert!(rt; are(&read, *want), "{name} up to {limit}");
-    }
-    Ok(())
-}
-
-#[test]
-fn a_shelf_in_memory_gives_its_files(rt: HostRuntime) -> Result<(), Fail> {
-    reads(&rt, &mut shelf(rt.alloc())?, SHELVED)
-}
-
-// Puts bytes, and wants that they are taken or refused.
-fn puts(
-    rt: &(impl Abort + AllocGlobal),
-    sink: &mut MemSink,
-    rows: &[(&str, Result<(), OutFault>)],
-) {
-    for (bytes, want) in rows {
-        let put = sink.put(rt.alloc(), bytes.as_bytes());
-        assert!(rt; put == *want, "{bytes}");
-    }
-}
-
-#[test]
-fn a_sink_in_memory_has_what_was_put(rt: HostRuntime) -> Result<(), Fail> {
-    let mut sink = MemSink::new(rt.alloc(), numbers(rt.alloc(), &[2])?);
-    puts(
-        &rt,
-        &mut sink,
-        &[
-            ("one ", Ok(())),
-            ("two ", Err(OutFault::Failed)),
-            ("three", Ok(())),
-        ],
-    );
-    assert!(rt; sink.bytes() == b"one three".as_slice());
-    Ok(())
-}
-
-// A port with two connections, of which the fourth call fails.
-fn two_peers(alloc: Global) -> Result<MemPort, AllocError> {
-    let get = text(alloc, b"GET")?;
-    let none = text(alloc, b"")?;
-    let mut peers = Vec::new(alloc);
-    peers.push(get)?;
-    peers.push(none)?;
-    MemPort::new(alloc, peers, 4, numbers(alloc, &[4])?)
-}
-
-fn first_connection(rt: &impl Abort, port: &mut MemPort) {
-    let mut buffer = [0u8; 2];
-    assert!(rt; port.next() == Ok(()));
-    assert!(rt; port.read(&mut buffer) == Ok(2));
-    assert!(rt; buffer.as_slice() == b"GE".as_slice());
-    assert!(rt; port.write(b"a") == Ok(()));
-    assert!(rt; port.write(b"b") == Err(Failed));
-    assert!(rt; port.finish() == Ok(()));
-}
-
-fn second_connection(rt: &impl Abort, port: &mut MemPort) {
-    let mut buffer = [0u8; 2];
-    assert!(rt; port.next() == Ok(()));
-    assert!(rt; port.read(&mut buffer) == Ok(0));
-    assert!(rt; port.write(b"cdefg") == Err(Failed));
-    assert!(rt; port.write(b"cdef") == Ok(()));
-}
-
-#[test]
-fn a_port_in_memory_keeps_the_replies_apart(rt: HostRuntime) -> Result<(), Fail> {
-    let mut port = two_peers(rt.alloc())?;
-    first_connection(&rt, &mut port);
-    second_connection(&rt, &mut port);
-    assert!(rt; port.next() == Ok(()));
-    assert!(rt; port.write(b"h") == Err(Failed));
-    assert!(rt; port.reply(0) == b"a".as_slice() && port.reply(1) == b"cdef".as_slice());
-    Ok(())
 }
 
 const FILE: &str = "outside_shelf_test.txt";

@@ -1,5 +1,5 @@
 //! What helpers are and say.
-ghost use Rattle.std.specs.Prelude.{◌≡◌, ℕ};
+ghost use Rattle.std.specs.Prelude.{◌≡◌, ℕ, Bool, false, IsTrue};
 ghost use Rattle.helper_box.specs.Asked.{one_more};
 
 use clause_check::{Cnf, Step};
@@ -29,12 +29,19 @@ pub trait Claims {
 pub trait Helper: Claims + Drop + Sync {
     ghost asked: { Self → ℕ };
 
+    ghost ahead: { Self → Bool } = { λ _. false };
+
     /// Its claim about an obligation, of which these are the clauses. It is refused for the helper's own want of memory.
     fn offer(&mut self, alloc: Global, ob: &Ob, cnf: &Cnf) -> Result<Claim, AllocError>
         ensures { asked self.new ≡ one_more (asked self.old) };
 
-    /// Counts that it was asked, where it made its claim out of turn.
+    /// Whether it makes its claims out of turn.
+    fn is_ahead(&self) -> bool
+        ensures { result ≡ ahead self.now };
+
+    /// Counts that it was asked, where it makes its claims out of turn.
     fn count(&mut self)
+        requires { IsTrue (ahead self.old) }
         ensures { asked self.new ≡ one_more (asked self.old) };
 
     /// How often it was asked, up to the greatest number of 64 bits.
@@ -51,8 +58,14 @@ impl Claims for Box<dyn Helper> {
 impl Helper for Box<dyn Helper> {
     ghost asked = { λ b. (Helper-box b).Helper.asked b.value };
 
+    ghost ahead = { λ b. (Helper-box b).Helper.ahead b.value };
+
     fn offer(&mut self, alloc: Global, ob: &Ob, cnf: &Cnf) -> Result<Claim, AllocError> {
         (**self).offer(alloc, ob, cnf)
+    }
+
+    fn is_ahead(&self) -> bool {
+        (**self).is_ahead()
     }
 
     fn count(&mut self) {

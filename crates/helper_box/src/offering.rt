@@ -1,5 +1,5 @@
 //! Helpers that are asked in turn, and their claims out of turn.
-ghost use Rattle.std.specs.Prelude.{◌≡◌, IfOk, IfSome, Ok, map};
+ghost use Rattle.std.specs.Prelude.{◌≡◌, IfOk, IfSome, Ok, length, map};
 ghost use Rattle.std.specs.Vec.Iter.{into_iter_items};
 ghost use Rattle.helper_box.specs.Asked.{one_more, AreReady, AsksSome, Passes};
 
@@ -21,7 +21,8 @@ fn passed(alloc: Global, ob: &Ob, cnf: &Cnf, claim: Claim) -> Result<Claim, Allo
     }
 }
 
-/// Asks one helper, or counts it where its claim is ready. A claim that doesn't pass is none, and so is the helper's want of memory.
+/// Asks one helper, or counts it where it makes its claims out of turn and one is ready. A claim that doesn't pass is none, and so is the
+/// helper's want of memory.
 fn ask<H: Helper>(
     helper: &mut H,
     alloc: Global,
@@ -34,8 +35,10 @@ fn ask<H: Helper>(
     ensures passes { IfOk result (Passes ob.now cnf.now) }
 {
     if let Some(claim) = ready {
-        helper.count();
-        return Ok(claim);
+        if helper.is_ahead() {
+            helper.count();
+            return Ok(claim);
+        }
     }
     match helper.offer(alloc, ob, cnf) {
         Ok(claim) => passed(alloc, ob, cnf, claim),
@@ -81,8 +84,8 @@ pub fn offer_all<H: Helper>(
     ask_each(helpers.as_mut_slice(), alloc, ob, cnf, Vec::new(alloc))
 }
 
-/// Asks the helpers as `offer_all` does, but for those whose claims are ready, one for each helper in their order: these helpers are counted in
-/// their turn, and their claims taken.
+/// Asks the helpers as `offer_all` does, but for those that make their claims out of turn and whose claims are ready, one for each helper in
+/// their order: these are counted in their turn, and their claims taken. A helper that makes its claims in its turn is asked, whatever is ready.
 pub fn offer_ready<H: Helper>(
     helpers: &mut Vec<H>,
     alloc: Global,
@@ -98,7 +101,7 @@ pub fn offer_ready<H: Helper>(
     ask_each(helpers.as_mut_slice(), alloc, ob, cnf, ready)
 }
 
-/// A helper's claim out of turn. One that doesn't pass claims nothing, and so does one for which it wants memory.
+/// A helper's claim out of turn. One that doesn't pass claims nothing; a helper that wants memory for one is asked in its turn.
 fn claim_of<C: Claims>(
     helper: &C,
     alloc: Global,
@@ -110,19 +113,20 @@ fn claim_of<C: Claims>(
     match helper.claim(alloc, ob, cnf) {
         Ok(Some(claim)) => Ok(Some(passed(alloc, ob, cnf, claim)?)),
         Ok(None) => Ok(None),
-        Err(_) => Ok(Some(Claim::Nothing)),
+        Err(_) => Ok(None),
     }
 }
 
-/// The claims of an obligation that the helpers make out of turn, in their order, and none for a helper that claims in its turn alone. It is
-/// refused only where a check of a claim, or the list, wants memory.
+/// The claims of an obligation that the helpers make out of turn, one entry for each helper in their order: none for a helper that is asked in
+/// its turn. It is refused only where a check of a claim, or the list, wants memory.
 pub fn claims_of<C: Claims>(
     helpers: &[C],
     alloc: Global,
     ob: &Ob,
     cnf: &Cnf,
 ) -> Result<Vec<Option<Claim>>, AllocError>
-    ensures { IfOk result (λ ready. AreReady ob.now cnf.now ready.items) }
+    ensures count { IfOk result (λ ready. length ready.items ≡ length helpers.now) }
+    ensures pass { IfOk result (λ ready. AreReady ob.now cnf.now ready.items) }
 {
     let mut ready = Vec::new(alloc);
     for helper in helpers {

@@ -59,6 +59,10 @@ impl Helper for Sampler {
         sample(alloc, ob, &mut self.numbers, &mut self.credit)
     }
 
+    fn is_ahead(&self) -> bool {
+        false
+    }
+
     fn count(&mut self) {
         self.offers = self.offers.saturating_add(1);
     }

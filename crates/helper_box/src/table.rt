@@ -65,6 +65,10 @@ impl Helper for Table {
         }
     }
 
+    fn is_ahead(&self) -> bool {
+        false
+    }
+
     fn count(&mut self) {
         self.offers = self.offers.saturating_add(1);
     }

@@ -1,5 +1,5 @@
 //! The helper that propagates units.
-ghost use Rattle.std.specs.Prelude.{◌≡◌, OnOk, length};
+ghost use Rattle.std.specs.Prelude.{◌≡◌, true, OnOk, length};
 
 use crate::claim::{Claim, Claims, Helper};
 use clause_check::{Clause, Cnf, Lit, Look, Step, in_32_bits, look_at};
@@ -189,9 +189,15 @@ impl Claims for Units {
 impl Helper for Units {
     ghost asked = { λ s. s.offers };
 
+    ghost ahead = { λ _. true };
+
     fn offer(&mut self, alloc: Global, _ob: &Ob, cnf: &Cnf) -> Result<Claim, AllocError> {
         self.count();
         refuted(alloc, cnf)
+    }
+
+    fn is_ahead(&self) -> bool {
+        true
     }
 
     fn count(&mut self) {

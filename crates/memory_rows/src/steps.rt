@@ -127,6 +127,28 @@ const IDLE_STEPS: &[(&[u64], &[u64], bool)] = &[
     (&[0, 3, 7, 5, 7], &[0, 0, 7, 5, 7], false),
 ];
 
+// A module without a memory. A bit that nothing drives is 0, and one that nothing assigns keeps its value; signals are clk, a, y, w and q.
+const WIRED: &str = "module m(input clk, input a, output y, output [1:0] w, output reg [1:0] q);
+assign y = a; assign w[0] = a; always @(posedge clk) q[0] <= y; endmodule";
+
+const WIRED_CYCLES: &[(&[u64], bool)] = &[
+    (&[0, 1, 1, 1, 2], true),
+    (&[0, 1, 0, 1, 2], false),
+    (&[0, 0, 0, 0, 3], true),
+    (&[0, 0, 1, 0, 3], false),
+    (&[0, 1, 1, 0, 2], false),
+    (&[0, 1, 1, 3, 2], false),
+    (&[1, 1, 1, 1, 0], true),
+];
+
+const WIRED_STEPS: &[(&[u64], &[u64], bool)] = &[
+    (&[0, 1, 1, 1, 2], &[0, 0, 0, 0, 3], true),
+    (&[0, 1, 1, 1, 2], &[0, 0, 0, 0, 2], false),
+    (&[0, 1, 1, 1, 2], &[0, 0, 0, 0, 1], false),
+    (&[0, 0, 0, 0, 3], &[0, 1, 1, 1, 2], true),
+    (&[0, 0, 0, 0, 3], &[0, 1, 1, 1, 3], false),
+];
+
 fn cycles(
     rt: &impl Abort,
     alloc: Global,
@@ -202,5 +224,11 @@ fn a_signed_index_and_parts(rt: HostRuntime) -> Result<(), Fail> {
 #[test]
 fn a_word_that_nothing_assigns(rt: HostRuntime) -> Result<(), Fail> {
     judged(&rt, rt.alloc(), IDLE, IDLE_CYCLES, IDLE_STEPS)?;
+    Ok(())
+}
+
+#[test]
+fn a_module_without_a_memory(rt: HostRuntime) -> Result<(), Fail> {
+    judged(&rt, rt.alloc(), WIRED, WIRED_CYCLES, WIRED_STEPS)?;
     Ok(())
 }

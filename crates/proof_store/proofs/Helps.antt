@@ -17,7 +17,7 @@ use Rattle.proof_store.specs.Places.{Tells}
 use Rattle.proof_store.specs.declared.checking.Checked.{Checked}
 use Rattle.proof_store.specs.declared.helping.Ready.{Ready}
 use Rattle.proof_store.proofs.Asking.{rose_none, rose_on, rose_one}
-use Rattle.proof_store.proofs.Pieces.{all_zipped_on}
+use Rattle.proof_store.proofs.Pieces.{all_zipped_on, before_all}
 use Rattle.proof_store.proofs.Proving.{claim_shown_ever}
 
 -- ---- one obligation
@@ -66,10 +66,6 @@ ask_more all now left ready helped more evidence xs ys zs loop is shown rose pus
   ready = All-tail IfReady ready left (subst (All IfReady) is loop.ready);
   rose = subst (λ (k : ℕ). FirstRose k xs zs) (sym (sum_by_push turns_of loop.before ready)) (rose_on (sum_by turns_of loop.before) (turns_of ready) xs ys zs loop.rose rose);
 }
-
-before_all : (all before left : List (Option Ready)) → all ≡ before ++ left → length left ≡ 0 → before ≡ all
-before_all all before [] split none = sym (append-nil before) ∙ sym split
-before_all all before (r ∷ rs) split none = absurd (omega arith)
 
 pub all_shown : (all left : List (Option Ready)) (helped : List (Option Evidence)) (xs ys : List ℕ) → AskLoop all left helped xs ys → length left ≡ 0 → AllZip ShownOf all helped
 all_shown all left helped xs ys loop none = subst (λ (rs : List (Option Ready)). AllZip ShownOf rs helped) (before_all all loop.before left loop.split none) loop.shown
@@ -146,12 +142,8 @@ help_more obs now few left helped more all xs ys zs loop is helps rose joined = 
       (rose_on (count_by lacks_proof loop.before) (count_by lacks_proof few) xs ys zs loop.rose rose);
 }
 
-all_before : (obs before left : List Checked) → obs ≡ before ++ left → length left ≡ 0 → before ≡ obs
-all_before obs before [] split none = sym (append-nil before) ∙ sym split
-all_before obs before (c ∷ cs) split none = absurd (omega arith)
-
 pub all_helped : (obs left : List Checked) (helped : List (Option Evidence)) (xs ys : List ℕ) → HelpLoop obs left helped xs ys → length left ≡ 0 → AllZip Helps obs helped
-all_helped obs left helped xs ys loop none = subst (λ (os : List Checked). AllZip Helps os helped) (all_before obs loop.before left loop.split none) loop.helps
+all_helped obs left helped xs ys loop none = subst (λ (os : List Checked). AllZip Helps os helped) (before_all obs loop.before left loop.split none) loop.helps
 
 pub helpers_rose : (obs left : List Checked) (helped : List (Option Evidence)) (xs ys : List ℕ) → HelpLoop obs left helped xs ys → length left ≡ 0 → FirstRose (count_by lacks_proof obs) xs ys
-helpers_rose obs left helped xs ys loop none = subst (λ (os : List Checked). FirstRose (count_by lacks_proof os) xs ys) (all_before obs loop.before left loop.split none) loop.rose
+helpers_rose obs left helped xs ys loop none = subst (λ (os : List Checked). FirstRose (count_by lacks_proof os) xs ys) (before_all obs loop.before left loop.split none) loop.rose

@@ -13,12 +13,12 @@ use Rattle.clause_check.specs.declared.formula.Step.{Step}
 use Rattle.step_records.specs.Records.{IsRecord}
 use Rattle.job_pool.specs.Shown.{IsShown}
 use Rattle.job_pool.specs.declared.evidence.Evidence.TheVariants.{Derivation}
-use Rattle.proof_store.specs.Kept.{IsBuilt, IsKept}
-use Rattle.proof_store.specs.Lookups.{Checks, ChecksRow, HasRow, IsChecked, IsLookedUp, IsLookup, IsNamed, IsQuery, IsRowAt, IsRowUnder, Looks}
+use Rattle.proof_store.specs.Kept.{IsBuilt, IsKept, key_of}
+use Rattle.proof_store.specs.Lookups.{Checks, ChecksRow, HasRow, IsChecked, IsLookedUp, IsLookup, IsKeyed, IsQuery, IsRowAt, Looks}
 use Rattle.proof_store.specs.Rows.{IsAccepted}
 use Rattle.proof_store.specs.declared.checking.Checked.{Checked}
 use Rattle.proof_store.specs.declared.looking.Lookup.{Lookup}
-use Rattle.proof_store.specs.declared.looking.Named.{Named}
+use Rattle.proof_store.specs.declared.looking.Keyed.{Keyed}
 use Rattle.proof_store.specs.declared.looking.Query.{Query}
 use Rattle.proof_store.specs.declared.goal.Goal.{Goal}
 use Rattle.proof_store.proofs.Proving.{derivation_shown, same_refutes}
@@ -34,7 +34,7 @@ accepted_checks ob cnf bits row bytes given None built is same accepted = λ oth
     (same_refutes proof.formula cnf steps (proof.vars ∙ sym built.vars) (proof.clauses ∙ sym built.clauses) proof.refutes)
 
 -- ---- found where it is kept
-kept_there : (t : Tables) (ob : Parts) (row : Option (Vec ℕ Global)) (steps : Vec Step Global) → IsRowUnder (Some t) ob row → ChecksRow ob row (Some steps) → IsKept t ob
+kept_there : (t : Tables) (ob : Parts) (row : Option (Vec ℕ Global)) (steps : Vec Step Global) → IsRowAt (Some t) (key_of ob) row → ChecksRow ob row (Some steps) → IsKept t ob
 kept_there t ob row steps under checks =
     let shown : IsShown 0 ob (Derivation steps) = checks.3 0 in record {
       bytes = checks.0.items;
@@ -44,26 +44,26 @@ kept_there t ob row steps under checks =
       proof = record { formula = shown.formula; vars = shown.vars; clauses = shown.clauses; refutes = shown.shown };
     }
 
-not_there : (t : Tables) (ob : Parts) (row : Option (Vec ℕ Global)) → IsRowUnder (Some t) ob row → ChecksRow ob row None → IsKept t ob → ⊥
+not_there : (t : Tables) (ob : Parts) (row : Option (Vec ℕ Global)) → IsRowAt (Some t) (key_of ob) row → ChecksRow ob row None → IsKept t ob → ⊥
 not_there t ob None under checks kept = let clash : None ≡ Some kept.bytes = under ∙ kept.row in absurd (cc)
 not_there t ob (Some bytes) under checks kept =
     let same : bytes.items ≡ kept.bytes = same_Some bytes.items kept.bytes (under ∙ kept.row) in
     checks bytes refl kept.steps (subst (λ (bs : List ℕ). IsRecord bs kept.steps) (sym same) kept.reads) kept.proof
 
-row_looked_up : (tables : Option Tables) (ob : Parts) (row : Option (Vec ℕ Global)) (found : Option (Vec Step Global)) → IsRowUnder tables ob row → ChecksRow ob row found → IsLookedUp tables ob found
+row_looked_up : (tables : Option Tables) (ob : Parts) (row : Option (Vec ℕ Global)) (found : Option (Vec Step Global)) → IsRowAt tables (key_of ob) row → ChecksRow ob row found → IsLookedUp tables ob found
 row_looked_up None ob row None under checks = record { shown = tt; kept = tt }
 row_looked_up None ob row (Some steps) under checks = record { shown = checks.3; kept = tt }
 row_looked_up (Some t) ob row None under checks = record { shown = tt; kept = (λ off. absurd (cc), λ kept. absurd (not_there t ob row under checks kept)) }
 row_looked_up (Some t) ob row (Some steps) under checks = record { shown = checks.3; kept = (λ _. kept_there t ob row steps under checks, λ _. refl) }
 
 -- ---- rows under texts
-pub row_there : (tables now : Option Tables) (named : Named) (lookup : Lookup) (key : List ℕ) → lookup.ob.now ≡ named.ob.now → key ≡ named.key.items → now ≡ tables → IsRowAt now key lookup.row → HasRow tables named lookup
-row_there tables now named lookup key ob_is key_is same row = record {
+pub row_there : (tables now : Option Tables) (keyed : Keyed) (lookup : Lookup) (key : List ℕ) → lookup.ob.now ≡ keyed.ob.now → key ≡ keyed.key.items → now ≡ tables → IsRowAt now key lookup.row → HasRow tables keyed lookup
+row_there tables now keyed lookup key ob_is key_is same row = record {
   ob_is = ob_is;
   row_is = subst (λ (k : List ℕ). IsRowAt tables k lookup.row) key_is (subst (λ (t : Option Tables). IsRowAt t key lookup.row) same row);
 }
 
-pub rows_looked : (tables : Option Tables) (queries : List Query) (all : List Named) (lookups : List Lookup) → AllZip IsNamed queries all → AllZip (HasRow tables) all lookups → AllZip (Looks tables) queries lookups
+pub rows_looked : (tables : Option Tables) (queries : List Query) (all : List Keyed) (lookups : List Lookup) → AllZip IsKeyed queries all → AllZip (HasRow tables) all lookups → AllZip (Looks tables) queries lookups
 rows_looked tables [] [] [] are rows = tt
 rows_looked tables [] [] (l ∷ ls) are rows = absurd rows
 rows_looked tables [] (n ∷ ns) ls are rows = absurd are
@@ -93,7 +93,7 @@ module _ {L : Type 0} where
   all_looked_up tables (g ∷ gs) [] ls are looks = absurd are
   all_looked_up tables (g ∷ gs) (q ∷ qs) [] are looks = absurd looks
   all_looked_up tables (g ∷ gs) (q ∷ qs) (l ∷ ls) are looks = (
-    record { ob_is = looks.0.ob_is ∙ are.0; row_is = subst (λ (p : Parts). IsRowUnder tables p l.row) are.0 looks.0.row_is },
+    record { ob_is = looks.0.ob_is ∙ are.0; row_is = subst (λ (p : Parts). IsRowAt tables (key_of p) l.row) are.0 looks.0.row_is },
     all_looked_up tables gs qs ls are.1 looks.1,
   )
 

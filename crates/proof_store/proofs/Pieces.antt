@@ -8,7 +8,8 @@ all_zipped_on R [] us (y ∷ ys) vs a b = absurd a
 all_zipped_on R (x ∷ xs) us [] vs a b = absurd a
 all_zipped_on R (x ∷ xs) us (y ∷ ys) vs a b = (a.0, all_zipped_on R xs us ys vs a.1 b)
 
-before_all : {A : Type 0} (all before left : List A) → all ≡ before ++ left → length left ≡ 0 → before ≡ all
+-- those before are all, where none is left
+pub before_all : {A : Type 0} (all before left : List A) → all ≡ before ++ left → length left ≡ 0 → before ≡ all
 before_all all before [] split none = sym (append-nil before) ∙ sym split
 before_all all before (x ∷ xs) split none = absurd (omega arith)
 

@@ -13,7 +13,7 @@ use Rattle.proof_store.specs.Kept.{IsProof, key_of}
 use Rattle.proof_store.specs.Places.{TellsKept}
 use Rattle.proof_store.specs.declared.checking.Checked.{Checked}
 use Rattle.proof_store.specs.declared.looking.Lookup.{Lookup}
-use Rattle.proof_store.specs.declared.looking.Named.{Named}
+use Rattle.proof_store.specs.declared.looking.Keyed.{Keyed}
 use Rattle.proof_store.specs.declared.looking.Query.{Query}
 use Rattle.proof_store.specs.declared.goal.Goal.{Goal}
 
@@ -21,32 +21,29 @@ use Rattle.proof_store.specs.declared.goal.Goal.{Goal}
 abbrev pub IsRowAt : Option Tables → List ℕ → Option (Vec ℕ Global) → Type 0
 IsRowAt tables key row = IfSome tables (λ t. option_map (λ bytes. bytes.items) row ≡ get t.proofs key)
 
--- the row that these tables have under the obligation's text
-abbrev pub IsRowUnder : Option Tables → Parts → Option (Vec ℕ Global) → Type 0
-IsRowUnder tables ob row = IsRowAt tables (key_of ob) row
-
 -- the goal's obligation
 abbrev pub IsQuery : {L : Type 0} → Goal L → Query → Type 0
 IsQuery goal query = query.ob.now ≡ goal.ob
 
 -- the same obligation, and its text
-pub record IsNamed (query : Query) (named : Named) : Type 0 where
-  pub ob_is : named.ob.now ≡ query.ob.now
-  pub key_is : named.key.items ≡ key_of query.ob.now
+pub record IsKeyed (query : Query) (keyed : Keyed) : Type 0 where
+  pub ob_is : keyed.ob.now ≡ query.ob.now
+  pub key_is : keyed.key.items ≡ key_of query.ob.now
+
+-- the same obligation, and the row under its key
+pub record HasRow (tables : Option Tables) (keyed : Keyed) (lookup : Lookup) : Type 0 where
+  pub ob_is : lookup.ob.now ≡ keyed.ob.now
+  pub row_is : IsRowAt tables keyed.key.items lookup.row
 
 -- the same obligation, and the row under its text
-pub record HasRow (tables : Option Tables) (named : Named) (lookup : Lookup) : Type 0 where
-  pub ob_is : lookup.ob.now ≡ named.ob.now
-  pub row_is : IsRowAt tables named.key.items lookup.row
-
 pub record Looks (tables : Option Tables) (query : Query) (lookup : Lookup) : Type 0 where
   pub ob_is : lookup.ob.now ≡ query.ob.now
-  pub row_is : IsRowUnder tables query.ob.now lookup.row
+  pub row_is : IsRowAt tables (key_of query.ob.now) lookup.row
 
 -- the goal's obligation, and the row under its text
 pub record IsLookup {L : Type 0} (tables : Option Tables) (goal : Goal L) (lookup : Lookup) : Type 0 where
   pub ob_is : lookup.ob.now ≡ goal.ob
-  pub row_is : IsRowUnder tables goal.ob lookup.row
+  pub row_is : IsRowAt tables (key_of goal.ob) lookup.row
 
 -- what is found in a row: steps of which it is a record and which show how the obligation ended, whatever the budget; or nothing, and it is a record of no proof of it
 abbrev pub ChecksRow : Parts → Option (Vec ℕ Global) → Option (Vec Step Global) → Type 0

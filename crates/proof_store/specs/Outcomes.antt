@@ -8,6 +8,7 @@ use Rattle.proof_store.specs.declared.goal.Decided.{Decided}
 use Rattle.proof_store.specs.declared.keeping.Row.{Row}
 use Rattle.proof_store.specs.declared.putting.Outcome.{Outcome}
 
+-- the obligation, and what shows how it ended
 abbrev pub outcome_ended : Outcome → Ended
 outcome_ended o = record { ob = o.ob.now; evidence = o.evidence.now }
 

@@ -2,7 +2,7 @@
 use job_pool::Crew;
 use std::thread::Threads;
 
-/// How many obligations are gone through at a time, so that few formulas and texts are alive at once.
+/// How many obligations are gone through at a time at most, so that few formulas and texts are alive at once.
 pub(crate) const AT_ONCE: usize = 64;
 
 /// As many workers as there are jobs, at least one and no more than these.

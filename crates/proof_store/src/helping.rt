@@ -1,6 +1,6 @@
 //! What helpers claim of obligations of which no proof is kept. Their clauses are built, and claims that helpers make out of turn are
 //! checked, by workers side by side; then the helpers are asked in order.
-ghost use Rattle.std.specs.Prelude.{◌^◌, ◌<◌, All, IfOk, count_by, length, map, sum_by};
+ghost use Rattle.std.specs.Prelude.{◌^◌, ◌<◌, ◌≤◌, All, IfOk, count_by, length, map, sum_by};
 ghost use Rattle.std.specs.List.{AllZip};
 ghost use Rattle.proof_store.specs.Counts.{FirstRose, NoneFalls};
 ghost use Rattle.proof_store.specs.Helping.{Helps, IfReady, Readies, ShownOf, turns_of};
@@ -9,12 +9,16 @@ ghost use Rattle.proof_store.specs.Places.{Tells};
 
 use crate::checking::Checked;
 use crate::crews::{AT_ONCE, fewer};
+use crate::weight::gates_of;
 use cnf_build::{Built, build};
 use helper_box::{Claim, Claims, Helper, claims_of, offer_ready};
 use job_pool::{Crew, Evidence, Task};
 use std::alloc::{AllocError, Global};
 use std::thread::Threads;
 use word_dag::Ob;
+
+/// Beyond so many gates no further obligation is made ready before the helpers are asked: some 20 MB of clauses.
+const GATES_AT_ONCE: u64 = 1 << 15;
 
 /// An obligation that stands ready for the helpers: its clauses, and claims of it that were made out of turn and pass.
 #[derive(Drop)]
@@ -153,6 +157,31 @@ fn help_few<R: Threads + Sync, H: Helper>(
     ask_each(crew.alloc, helpers, all)
 }
 
+// About how many gates the clauses have that are built of an obligation.
+fn weight_of(checked: &Checked<'_>) -> u64 {
+    if checked.kept.is_some() {
+        0
+    } else {
+        gates_of(checked.ob)
+    }
+}
+
+// Where the obligations end that are made ready at a time, from this one on: one for each worker, and more while their clauses are few.
+fn end_of_few(obs: &[Checked<'_>], at: usize, workers: u32) -> usize
+    requires { at < length obs.now }
+    ensures more { at < result }
+    ensures within { result ≤ length obs.now }
+{
+    let most = obs.len().min(at + AT_ONCE);
+    let mut end = at + 1;
+    let mut gates = weight_of(&obs[at]);
+    while end < most && (end - at < workers as usize || gates < GATES_AT_ONCE) {
+        gates = gates.saturating_add(weight_of(&obs[end]));
+        end += 1;
+    }
+    end
+}
+
 /// What helpers' claims show of obligations of which no proof is kept: they are made ready side by side, and the helpers are asked in order. Where
 /// there is no helper, no clauses are built.
 pub(crate) fn help_all<R: Threads + Sync, H: Helper>(
@@ -171,7 +200,7 @@ pub(crate) fn help_all<R: Threads + Sync, H: Helper>(
     let mut helped = Vec::new(crew.alloc);
     let mut at = 0;
     while at < obs.len() {
-        let end = obs.len().min(at + AT_ONCE);
+        let end = end_of_few(obs, at, crew.workers);
         let mut more = help_few(crew, helpers, &obs[at..end])?;
         helped.append(&mut more)?;
         at = end;

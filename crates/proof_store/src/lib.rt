@@ -15,6 +15,7 @@ mod prover;
 mod putting;
 mod settings;
 mod settling;
+mod weight;
 
 pub use fault::StoreFault;
 pub use goal::{Decided, Goal, Source};

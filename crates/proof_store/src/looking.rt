@@ -1,7 +1,7 @@
 //! Rows of kept proofs, for which a keeper is asked in order. The texts under which they stand are made by workers side by side.
 ghost use Rattle.std.specs.Prelude.{◌≡◌, ◌^◌, ◌<◌, Err, IfOk, length};
 ghost use Rattle.std.specs.List.{AllZip};
-ghost use Rattle.proof_store.specs.Lookups.{HasRow, IsLookup, IsNamed, IsQuery, Looks};
+ghost use Rattle.proof_store.specs.Lookups.{HasRow, IsLookup, IsKeyed, IsQuery, Looks};
 ghost use Rattle.proof_store.specs.Provers.{Rises};
 
 use crate::crews::{AT_ONCE, fewer};
@@ -26,27 +26,27 @@ pub struct Query<'a> {
     pub ob: &'a Ob,
 }
 
-/// An obligation, and its text.
+/// An obligation, and the key of its proof, which is its text.
 #[derive(Drop)]
-pub struct Named<'a> {
+pub struct Keyed<'a> {
     pub ob: &'a Ob,
     pub key: Vec<u8>,
 }
 
 // Texts are made.
 #[derive(Drop)]
-struct Naming {
+struct Keying {
     alloc: Global,
 }
 
-impl<'a> Task<Query<'a>, Named<'a>> for Naming {
-    ghost use Rattle.proof_store.specs.Lookups.{IsNamed};
+impl<'a> Task<Query<'a>, Keyed<'a>> for Keying {
+    ghost use Rattle.proof_store.specs.Lookups.{IsKeyed};
 
-    ghost ends = { λ _. IsNamed };
+    ghost ends = { λ _. IsKeyed };
 
-    fn end(&self, _number: u64, query: &Query<'a>) -> Result<Named<'a>, AllocError> {
+    fn end(&self, _number: u64, query: &Query<'a>) -> Result<Keyed<'a>, AllocError> {
         let key = text(self.alloc, query.ob)?;
-        Ok(Named { ob: query.ob, key })
+        Ok(Keyed { ob: query.ob, key })
     }
 }
 
@@ -65,15 +65,15 @@ fn queries_of<'a, L: Drop>(
 }
 
 // Makes the texts of obligations side by side.
-fn named_all<'a, R: Threads + Sync>(
+fn keyed_all<'a, R: Threads + Sync>(
     crew: &Crew<'_, R>,
     queries: &[Query<'a>],
-) -> Result<Vec<Named<'a>>, AllocError>
+) -> Result<Vec<Keyed<'a>>, AllocError>
     requires { length queries.now < 2 ^ 32 }
-    ensures { IfOk result (λ all. AllZip IsNamed queries.now all.items) }
+    ensures { IfOk result (λ all. AllZip IsKeyed queries.now all.items) }
 {
     let few = fewer(crew, queries.len());
-    let ran = few.run(queries, &Naming { alloc: crew.alloc })?;
+    let ran = few.run(queries, &Keying { alloc: crew.alloc })?;
     Ok(ran.ends)
 }
 
@@ -81,16 +81,16 @@ fn named_all<'a, R: Threads + Sync>(
 fn rows_under<'a, K: Keeper>(
     alloc: Global,
     keeper: &mut K,
-    all: Vec<Named<'a>>,
+    all: Vec<Keyed<'a>>,
 ) -> Result<Vec<Lookup<'a>>, StoreFault>
     ensures lookups { IfOk result (λ lookups. AllZip (HasRow (K.tables keeper.old)) all.entry.items lookups.items) }
     ensures same { K.tables keeper.new ≡ K.tables keeper.old }
     ensures faults { Rises (result ≡ Err StoreFault.Keeper) (K.faults keeper.old) (K.faults keeper.new) }
 {
     let mut lookups = Vec::new(alloc);
-    for named in all {
-        let row = keeper.proof(alloc, named.key.as_slice())?;
-        lookups.push(Lookup { ob: named.ob, row })?;
+    for keyed in all {
+        let row = keeper.proof(alloc, keyed.key.as_slice())?;
+        lookups.push(Lookup { ob: keyed.ob, row })?;
     }
     Ok(lookups)
 }
@@ -106,7 +106,7 @@ fn look_up_few<'a, R: Threads + Sync, K: Keeper>(
     ensures same { K.tables keeper.new ≡ K.tables keeper.old }
     ensures faults { Rises (result ≡ Err StoreFault.Keeper) (K.faults keeper.old) (K.faults keeper.new) }
 {
-    let all = named_all(crew, queries)?;
+    let all = keyed_all(crew, queries)?;
     rows_under(crew.alloc, keeper, all)
 }
 

@@ -92,6 +92,10 @@ impl Helper for Liar {
         claim(alloc, self.lie, ob)
     }
 
+    fn is_ahead(&self) -> bool {
+        false
+    }
+
     fn count(&mut self) {
         self.offers = self.offers.saturating_add(1);
     }

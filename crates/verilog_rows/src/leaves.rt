@@ -47,13 +47,3 @@ fn the_first_leaf_of_a_name_and_offset_is_found(rt: HostRuntime) -> Result<(), F
     }
     Ok(())
 }
-
-#[test]
-fn a_leaf_gets_another_node(rt: HostRuntime) -> Result<(), Fail> {
-    let alloc = rt.alloc();
-    let mut leaves = Leaves::new(alloc);
-    leaves.push(alloc, leaf(alloc, b"a", 0, 5)?)?;
-    leaves.set_node(0, 9);
-    assert_eq!(rt; leaves.leaf(0).node, 9);
-    Ok(())
-}

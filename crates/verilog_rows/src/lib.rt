@@ -1,8 +1,6 @@
-//! Rows of modules: tokens, trees, values of expressions, what stands for names, and cycles of a small module.
+//! Rows of modules: tokens, trees, and what stands for names.
 #![tactic(auto)]
 
-#[cfg(test)]
-mod cycles;
 #[cfg(test)]
 mod leaves;
 #[cfg(test)]
@@ -10,8 +8,4 @@ mod modules;
 #[cfg(test)]
 mod names;
 #[cfg(test)]
-mod small;
-#[cfg(test)]
 mod tokens;
-#[cfg(test)]
-mod vectors;

@@ -80,62 +80,6 @@ fn rows(rt: &(impl Abort + AllocGlobal), rows: &[Row]) -> Result<(), Fail> {
     Ok(())
 }
 
-const MODULES: &[Row] = &[
-    (
-        b"module counter(input clk, input rst, input en, output reg [1:0] q);\n  always @(posedge clk)\n    if (rst) q <= 2'd0;\n    else if (en) q <= q + 2'd1;\nendmodule\n",
-        "counter 4 1",
-    ),
-    (
-        b"module mod3(input clk, input rst, output reg [1:0] q);\n  always @(posedge clk)\n    if (rst) q <= 2'd0;\n    else if (q == 2'd2) q <= 2'd0;\n    else q <= q + 2'd1;\nendmodule\n",
-        "mod3 3 1",
-    ),
-    (
-        b"module m(a, b); input [3:0] a; output b; wire c = ^a; assign b = c; endmodule module n #(parameter W = 2)(); reg [W-1:0] r, s [0:7]; m #(.W(3)) u(.a(r), .b()); endmodule",
-        "m 2 4 n 0 2",
-    ),
-];
-
-#[test]
-fn modules(rt: HostRuntime) -> Result<(), Fail> {
-    rows(&rt, MODULES)
-}
-
-const EXAMPLES: &[Row] = &[
-    (
-        b"module flip(input clk, input rst, output reg q);\n  reg m;\n  always @(posedge clk) begin\n    m <= m;\n    if (rst) q <= 1'b0; else q <= q ^ m;\n  end\nendmodule\n",
-        "flip 3 2",
-    ),
-    (
-        b"module pipe1(input clk, input rst, input iv, input [7:0] d,\n             output reg v, output reg [7:0] o);\n  always @(posedge clk) begin\n    if (rst) v <= 1'b0; else v <= iv;\n    o <= d;\n  end\nendmodule\n",
-        "pipe1 6 1",
-    ),
-    (
-        b"module hop(input clk, input rst, output reg [2:0] q);\n  always @(posedge clk)\n    if (rst) q <= 3'd0;\n    else if (q == 3'd2) q <= 3'd0;\n    else q <= q + 3'd1;\nendmodule\n",
-        "hop 3 1",
-    ),
-    (
-        b"module pipe3(input clk, input rst, input [3:0] d, output [3:0] o);\n  reg [3:0] a, b, c;\n  assign o = c;\n  always @(posedge clk)\n    if (rst) begin a <= 4'd0; b <= 4'd0; c <= 4'd0; end\n    else begin a <= d; b <= a; c <= b; end\nendmodule\n",
-        "pipe3 4 3",
-    ),
-    (
-        b"module mul(input clk, input rst, input [63:0] a, input [63:0] b,\n           output [63:0] p, output [63:0] r);\n  assign p = a * b;\n  assign r = b * a;\nendmodule\n",
-        "mul 6 2",
-    ),
-    (
-        b"module l(input clk, input rst, input a, output reg q);\n  always @* if (a) q = 1'b1;\nendmodule\n",
-        "l 4 1",
-    ),
-    (
-        b"`timescale 1ns/1ps\nmodule cnt #(parameter W = 4) (input clk, input rst_n, input go, output [W-1:0] n);\n  reg [W-1:0] n_r;\n  assign n = n_r;\n  always @(posedge clk or negedge rst_n)\n    if (!rst_n) n_r <= 0;\n    else if (go) n_r <= n_r + 1;\n    else n_r <= 0;\nendmodule\nmodule ctl(clk, rst_n, req, ack);\n  input clk, rst_n, req;\n  output ack;\n  reg busy;\n  wire [1:0] n;\n  cnt #(.W(2)) u_cnt (.clk(clk), .rst_n(rst_n), .go(busy), .n(n));\n  assign ack = busy & (n == 2'd2);\n  always @(posedge clk or negedge rst_n)\n    if (!rst_n) busy <= 1'b0;\n    else if (!busy) busy <= req;\n    else if (n == 2'd2) busy <= 1'b0;\nendmodule\n",
-        "cnt 4 3 ctl 4 7",
-    ),
-];
-
-#[test]
-fn examples(rt: HostRuntime) -> Result<(), Fail> {
-    rows(&rt, EXAMPLES)
-}
-
 const PRODUCTIONS: &[Row] = &[
     (
         b"module m; endmodule module n(); endmodule module o(a, b); endmodule",

@@ -16,8 +16,8 @@ returns-in_err-append-clause-asked g c = none_falls_on _ _ _ c.loop-at.invariant
 pub loop-at-preserved : goal.loop-at-preserved
 loop-at-preserved g c =
     let obs = c.args.obs.now in
-    let further : c.loop-at.at ≤ c.min-end.result = omega (arith, c.min-end.ensures) in record {
-      within = omega (arith, c.min-end.ensures);
-      asked = help_more obs (drop c.loop-at.at obs) _ (drop c.min-end.result obs) c.loop-at.helped.items c.in_ok-more.more.items c.append.new.self.items _ _ _ c.loop-at.invariant.asked
-          (drop_split obs c.loop-at.at c.min-end.result further) c.in_ok-more.ensures.helped c.in_ok-more.ensures.first c.in_ok-append.ensures.items;
+    let further : c.loop-at.at ≤ c.end_of_few-end.result = omega (arith, c.end_of_few-end.ensures.more, c.end_of_few-end.ensures.within) in record {
+      within = omega (arith, c.end_of_few-end.ensures.more, c.end_of_few-end.ensures.within);
+      asked = help_more obs (drop c.loop-at.at obs) _ (drop c.end_of_few-end.result obs) c.loop-at.helped.items c.in_ok-more.more.items c.append.new.self.items _ _ _ c.loop-at.invariant.asked
+          (drop_split obs c.loop-at.at c.end_of_few-end.result further) c.in_ok-more.ensures.helped c.in_ok-more.ensures.first c.in_ok-append.ensures.items;
     }
