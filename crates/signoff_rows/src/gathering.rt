@@ -37,8 +37,8 @@ fn two_lines_are_decided_at_once(rt: HostRuntime) -> Result<(), Fail> {
         met: AtomicU64::new(0),
     };
     let words = ["ops", "M", "S", "--workers", "2"];
-    let ran = run(&rt, &words, COUNTER, COUNTER_SET, &gathering)?;
-    assert_eq!(rt; ran.status, 0);
+    let status = run(&rt, &words, COUNTER, COUNTER_SET, &gathering)?;
+    assert_eq!(rt; status, 0);
     assert_eq!(rt; gathering.come.load(SeqCst), 3);
     assert_eq!(rt; gathering.met.load(SeqCst), 3);
     Ok(())

@@ -28,22 +28,14 @@ fn words(alloc: Global, texts: &[&str]) -> Result<Vec<String>, AllocError> {
         .try_collect(alloc)
 }
 
-/// What a run over two files gives: its status, what is put, and its book.
-#[derive(Drop)]
-pub struct Ran {
-    pub status: u8,
-    pub out: MemSink,
-    pub book: Book,
-}
-
-// Runs words over these objects. Nothing fails here, so that nothing is dropped on the way.
+// Runs words over these objects: the status. Nothing fails here, so that nothing is dropped on the way.
 fn called(
     rt: &(impl Threads + Sync + AllocGlobal),
     words: &[String],
     shelf: MemShelf,
     port: MemPort,
     gate: &(impl Gate + Sync),
-) -> Ran {
+) -> u8 {
     let alloc = rt.alloc();
     let mut shelf = shelf;
     let mut port = port;
@@ -51,7 +43,7 @@ fn called(
     let mut keeper = MemKeeper::new(alloc, Vec::new(alloc));
     let helpers: Vec<Box<dyn Helper>> = Vec::new(alloc);
     let mut book = Book::new(alloc);
-    let status = signoff(
+    signoff(
         rt,
         alloc,
         words,
@@ -62,18 +54,17 @@ fn called(
         gate,
         helpers,
         &mut book,
-    );
-    Ran { status, out, book }
+    )
 }
 
-/// Runs words over the files M and S and a gate.
+/// Runs words over the files M and S and a gate: the status.
 pub fn run(
     rt: &(impl Threads + Sync + AllocGlobal),
     texts: &[&str],
     module: &[u8],
     set: &[u8],
     gate: &(impl Gate + Sync),
-) -> Result<Ran, Fail> {
+) -> Result<u8, Fail> {
     let alloc = rt.alloc();
     let words = words(alloc, texts)?;
     let shelf = shelf(alloc, module, set)?;
