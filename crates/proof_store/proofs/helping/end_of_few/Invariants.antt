@@ -1,0 +1,12 @@
+use Rattle.std.proofs.Common.{◌-◌, ◌<◌, ◌≤◌, length}
+use Rattle.proof_store.proofs.helping.end_of_few.Given as goal
+
+-- past the first obligation, and no further than the last
+abbrev pub invariant-loop-end : goal.invariant-loop-end
+invariant-loop-end l = record {
+  more : l.at < l.end;
+  within : l.end ≤ l.most;
+}
+
+abbrev pub decreases-loop-end : goal.decreases-loop-end
+decreases-loop-end l = l.most - l.end
