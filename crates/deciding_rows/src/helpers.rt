@@ -25,12 +25,8 @@ impl Helper for Liar {
         Ok(Claim::Unsat(steps))
     }
 
-    fn is_ahead(&self) -> bool {
+    fn count(&mut self) -> bool {
         false
-    }
-
-    fn count(&mut self) {
-        self.offers = self.offers.saturating_add(1);
     }
 
     fn offers(&self) -> u64 {

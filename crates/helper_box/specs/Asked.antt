@@ -1,5 +1,5 @@
 -- How often helpers were asked, and what a claim is worth.
-use Rattle.std.specs.Prelude.{◌≡◌, ℕ, ◌+◌, ◌-◌, ◌^◌, ◌<◌, ◌≤◌, All, IfSome, List, Option, ◌++◌, count_by, drop, length, map, max, min, take}
+use Rattle.std.specs.Prelude.{◌≡◌, ℕ, Bool, true, false, ◌+◌, ◌-◌, ◌^◌, ◌<◌, ◌≤◌, All, IfSome, List, Option, ◌++◌, count_by, drop, length, map, max, min, take}
 use Rattle.word_dag.specs.Nodes.{Parts, root_value}
 use Rattle.word_dag.specs.Given.{AllFit, is_free}
 use Rattle.clause_check.specs.declared.formula.Cnf.{Cnf}
@@ -10,6 +10,11 @@ use Rattle.helper_box.specs.declared.claim.Claim.TheVariants.{Nothing, Unsat, Va
 -- the next number, up to the greatest of 64 bits
 abbrev pub one_more : ℕ → ℕ
 one_more n = max n (min (n + 1) (2 ^ 64 - 1))
+
+-- a helper that is counted was asked once more
+abbrev pub counted : Bool → ℕ → ℕ
+counted false n = n
+counted true n = one_more n
 
 -- the first helpers were asked once each, and the others not; where there is a helper, the first one was
 pub record AsksSome (before after : List ℕ) : Type 0 where

@@ -1,6 +1,6 @@
 //! What helpers are and say.
-ghost use Rattle.std.specs.Prelude.{◌≡◌, ℕ, Bool, false, IsTrue};
-ghost use Rattle.helper_box.specs.Asked.{one_more};
+ghost use Rattle.std.specs.Prelude.{◌≡◌, ℕ, Bool, false};
+ghost use Rattle.helper_box.specs.Asked.{one_more, counted};
 
 use clause_check::{Cnf, Step};
 use std::alloc::{AllocError, Global};
@@ -35,14 +35,10 @@ pub trait Helper: Claims + Drop + Sync {
     fn offer(&mut self, alloc: Global, ob: &Ob, cnf: &Cnf) -> Result<Claim, AllocError>
         ensures { asked self.new ≡ one_more (asked self.old) };
 
-    /// Whether it makes its claims out of turn.
-    fn is_ahead(&self) -> bool
-        ensures { result ≡ ahead self.now };
-
-    /// Counts that it was asked, where it makes its claims out of turn.
-    fn count(&mut self)
-        requires { IsTrue (ahead self.old) }
-        ensures { asked self.new ≡ one_more (asked self.old) };
+    /// Whether it makes its claims out of turn. If so, it counts that it was asked.
+    fn count(&mut self) -> bool
+        ensures ahead { result ≡ ahead self.old }
+        ensures asked { asked self.new ≡ counted result (asked self.old) };
 
     /// How often it was asked, up to the greatest number of 64 bits.
     fn offers(&self) -> u64
@@ -64,12 +60,8 @@ impl Helper for Box<dyn Helper> {
         (**self).offer(alloc, ob, cnf)
     }
 
-    fn is_ahead(&self) -> bool {
-        (**self).is_ahead()
-    }
-
-    fn count(&mut self) {
-        (**self).count();
+    fn count(&mut self) -> bool {
+        (**self).count()
     }
 
     fn offers(&self) -> u64 {

@@ -35,8 +35,7 @@ fn ask<H: Helper>(
     ensures passes { IfOk result (Passes ob.now cnf.now) }
 {
     if let Some(claim) = ready {
-        if helper.is_ahead() {
-            helper.count();
+        if helper.count() {
             return Ok(claim);
         }
     }

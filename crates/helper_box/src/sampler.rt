@@ -59,12 +59,8 @@ impl Helper for Sampler {
         sample(alloc, ob, &mut self.numbers, &mut self.credit)
     }
 
-    fn is_ahead(&self) -> bool {
+    fn count(&mut self) -> bool {
         false
-    }
-
-    fn count(&mut self) {
-        self.offers = self.offers.saturating_add(1);
     }
 
     fn offers(&self) -> u64 {

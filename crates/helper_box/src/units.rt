@@ -192,16 +192,13 @@ impl Helper for Units {
     ghost ahead = { λ _. true };
 
     fn offer(&mut self, alloc: Global, _ob: &Ob, cnf: &Cnf) -> Result<Claim, AllocError> {
-        self.count();
+        self.offers = self.offers.saturating_add(1);
         refuted(alloc, cnf)
     }
 
-    fn is_ahead(&self) -> bool {
-        true
-    }
-
-    fn count(&mut self) {
+    fn count(&mut self) -> bool {
         self.offers = self.offers.saturating_add(1);
+        true
     }
 
     fn offers(&self) -> u64 {

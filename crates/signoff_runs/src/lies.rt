@@ -92,12 +92,8 @@ impl Helper for Liar {
         claim(alloc, self.lie, ob)
     }
 
-    fn is_ahead(&self) -> bool {
+    fn count(&mut self) -> bool {
         false
-    }
-
-    fn count(&mut self) {
-        self.offers = self.offers.saturating_add(1);
     }
 
     fn offers(&self) -> u64 {
