@@ -16,3 +16,4 @@ pub mod Read
 pub mod Finding
 pub mod Told
 pub mod Listed
+pub mod Sharing

@@ -16,7 +16,7 @@ use Rattle.set_tree.specs.Parts.{property_at, IsPosition, window_of}
 use Rattle.set_sound.specs.Condition.{IsFormula, property_formulas}
 use Rattle.twin_tests.specs.Building.{IsReadable}
 use Rattle.set_tree.specs.Lines.{last_row}
-use Rattle.line_laws.specs.Lines.{edge_end, split_end}
+use Rattle.line_laws.specs.Lines.{split_end}
 use Rattle.twin_tests.specs.Reading.{HasStructure, FollowsWithin, ReadsWindow}
 
 all_left : {X : Type 0} (P : X → Type 0) (xs ys : List X) → All P (xs ++ ys) → All P xs
@@ -145,15 +145,6 @@ split_follow set p n rows later s position is fits = λ k d lt.
 
 pub follow_is : (set : Set) (k j q : ℕ) (next : List ℕ) → q ≡ get_or next j q → j < length next → All (FollowsWithin set k) next → FollowsWithin set k q
 follow_is set k j q next is lt all = subst (FollowsWithin set k) (sym is) (all j q lt)
-
-pub edge_first : (set : Set) (p q n : ℕ) → window_of set p ≤ edge_end set p q n
-edge_first set p q n = omega arith
-
-pub edge_next : (set : Set) (p q n : ℕ) (rows later : List (List ℕ)) → later ≡ drop n rows → edge_end set p q n < length rows → window_of set q < length later
-edge_next set p q n rows later is fits = let long = length-drop n rows in rw is (omega (arith, long, fits))
-
-pub end_fits : (set : Set) (p n k : ℕ) → HasStructure set → IsPosition set p → n ≤ (property_at set p).length.high → window_of set p < k → n < k
-end_fits set p n k s position most fits = let span = s.sound.lengths p position in omega (arith, span.fits, most, fits)
 
 -- the formulas of a property whose window fits into the rows
 pub assumptions_read : (set : Set) (p k : ℕ) (x : Property) (es : List Expr) → HasStructure set → FollowsWithin set k p → es ≡ x.assume → x ≡ property_at set p → All (IsReadable set k) es

@@ -1,6 +1,6 @@
 -- The lines of a set name properties that are there.
 use Rattle.std.proofs.Common.{◌≡◌, ℕ, zero, suc, ◌+◌, ◌<◌, ◌≤◌, List, [], ◌∷◌, ◌++◌, length, map, take, get_or, sym, ap, ◌∙◌, subst, arith}
-use Rattle.std.specs.Prelude.{◌⊎◌}
+use Rattle.std.specs.Prelude.{◌⊎◌, Option}
 use Rattle.std.specs.List.{All, AllZip, flat_map}
 use Rattle.std.proofs.lemmas.List.{take_more}
 use Rattle.std.proofs.lemmas.List.Concat.{flat_map-cons}
@@ -19,9 +19,11 @@ use Rattle.line_laws.specs.Laws.{HasLength, property_of}
 use Rattle.word_names.specs.Names.{HasOneWidthEach}
 use Rattle.word_names.proofs.Taken.{widths_are_kept}
 use Rattle.twin_tests.specs.declared.frame.Frames.{Frames}
+use Rattle.twin_tests.specs.declared.shared.Made.{Made}
 use Rattle.twin_tests.specs.Framing.{AreFrames, IsWindowWord, SpeaksOf}
 use Rattle.twin_tests.specs.Named.{IsNamedOf, set_line}
 use Rattle.twin_tests.specs.Reading.{HasStructure}
+use Rattle.twin_tests.specs.Sharing.{AreMade}
 use Rattle.twin_tests.proofs.Framed.{frames_later, next_positions}
 use Rattle.twin_tests.proofs.Widths.{window_widths}
 
@@ -77,26 +79,29 @@ pub line_length : (set : Set) (line : Line) → HasStructure set → SpeaksOf se
 line_length set line s h = (s.sound.lengths (property_of line) (position_of set line h)).order
 
 -- the obligations so far
-pub record ObsLoop (set : Set) (nodes : List Node) (frames : Frames) (lines : List Line) (obs : List Named) : Type 0 where
+pub record ObsLoop (set : Set) (nodes : List Node) (made : List (Option Made)) (frames : Frames) (lines : List Line) (obs : List Named) : Type 0 where
   pub held : AreFrames set nodes frames
   pub each : AllZip (IsNamedOf set) lines obs
   pub words : HasOneWidthEach nodes
+  pub parts : AreMade set nodes made
 
-pub obs_begin : (set given : Set) (start nodes : List Node) (frames : Frames) (lines : List Line) (obs : List Named) → given ≡ set → HasStructure given → start ≡ [] → AreFrames given nodes frames
-    → AddsFrees (λ n. IsWindowWord given.names 0 n ⊎ IsWindowWord given.names 1 n) start nodes → lines ≡ [] → obs ≡ [] → ObsLoop set nodes frames lines obs
-obs_begin set given start nodes frames lines obs same s empty held frees none made =
+pub obs_begin : (set given : Set) (start nodes : List Node) (made : List (Option Made)) (frames : Frames) (lines : List Line) (obs : List Named) → given ≡ set → HasStructure given → start ≡ [] → AreFrames given nodes frames
+    → AddsFrees (λ n. IsWindowWord given.names 0 n ⊎ IsWindowWord given.names 1 n) start nodes → AreMade given nodes made → lines ≡ [] → obs ≡ [] → ObsLoop set nodes made frames lines obs
+obs_begin set given start nodes made frames lines obs same s empty held frees parts none empty_too =
     let widths : HasOneWidthEach nodes = window_widths given.names s.formed.distinct_names start nodes empty frees in
     record {
       held = subst (λ (z : Set). AreFrames z nodes frames) same held;
-      each = rw (none, made) tt;
+      each = rw (none, empty_too) tt;
       words = widths;
+      parts = subst (λ (z : Set). AreMade z nodes made) same parts;
     }
 
-pub obs_step : (set : Set) (a b : List Node) (frames : Frames) (lines : List Line) (obs new : List Named) (i : ℕ) (line : Line) (named : Named) → Keeps a b → i < length lines → line ≡ get_or lines i line → new ≡ obs ++ named ∷ [] → IsNamedOf set line named → ObsLoop set a frames (take i lines) obs → ObsLoop set b frames (take (i + 1) lines) new
-obs_step set a b frames lines obs new i line named ab lt is made here before =
+pub obs_step : (set : Set) (a b : List Node) (was now : List (Option Made)) (frames : Frames) (lines : List Line) (obs new : List Named) (i : ℕ) (line : Line) (named : Named) → Keeps a b → i < length lines → line ≡ get_or lines i line → new ≡ obs ++ named ∷ [] → IsNamedOf set line named → AreMade set b now → ObsLoop set a was frames (take i lines) obs → ObsLoop set b now frames (take (i + 1) lines) new
+obs_step set a b was now frames lines obs new i line named ab lt is made here parts before =
     let more : take (i + 1) lines ≡ take i lines ++ line ∷ [] = take_more lines i line lt ∙ ap (λ (l : Line). take i lines ++ l ∷ []) (sym is) in
     record {
       held = frames_later a b set frames ab before.held;
       each = rw (more, made) (all_zipped_more (IsNamedOf set) (take i lines) obs line named before.each here);
       words = widths_are_kept a b ab before.words;
+      parts = parts;
     }

@@ -14,6 +14,7 @@ mod pair;
 mod part;
 mod property;
 mod set_line;
+mod shared;
 mod twins;
 mod window;
 mod words;

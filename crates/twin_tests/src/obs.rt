@@ -6,6 +6,7 @@ ghost use Rattle.twin_tests.specs.Framing.{AreFrames, SpeaksOf};
 ghost use Rattle.twin_tests.specs.Named.{IsNamedOf, set_line};
 ghost use Rattle.twin_tests.specs.Ordering.{line_of};
 ghost use Rattle.twin_tests.specs.Reading.{HasStructure};
+ghost use Rattle.twin_tests.specs.Sharing.{AreMade};
 ghost use Rattle.word_dag.specs.Adding.{Keeps};
 ghost use Rattle.word_names.specs.Names.{HasOneWidthEach};
 
@@ -13,6 +14,7 @@ use crate::frame::frames_of;
 use crate::lines::lines_of;
 use crate::obligation::obligation_of;
 use crate::set_line::SetLine;
+use crate::shared::Nodes;
 use crate::twins::Twins;
 use line_laws::line_name;
 use set_sound::Sound;
@@ -21,29 +23,33 @@ use word_dag::{Dag, Named};
 
 impl Twins<'_> {
     // Puts the nodes of lines into the dag, one line after another.
-    fn add_lines(&self, dag: &mut Dag, lines: &[SetLine]) -> Result<(), AllocError>
+    fn add_lines(&self, nodes: &mut Nodes, lines: &[SetLine]) -> Result<(), AllocError>
         requires structure { HasStructure self.now.set.now }
         requires lines { All (λ line. SpeaksOf self.now.set.now (line_of line)) lines.now }
-        requires frames { AreFrames self.now.set.now dag.old self.now.frames }
-        ensures { OnOk result (Keeps dag.old dag.new) }
+        requires frames { AreFrames self.now.set.now nodes.old.dag self.now.frames }
+        requires made { AreMade self.now.set.now nodes.old.dag nodes.old.made.items }
+        ensures keeps { OnOk result (Keeps nodes.old.dag nodes.new.dag) }
+        ensures made { OnOk result (AreMade self.now.set.now nodes.new.dag nodes.new.made.items) }
     {
         for line in lines {
-            self.line_node(dag, *line)?;
+            self.line_node(nodes, *line)?;
         }
         Ok(())
     }
 
     // The obligation of a line, with the line's name.
-    fn named_ob(&self, dag: &mut Dag, line: SetLine) -> Result<Named, AllocError>
+    fn named_ob(&self, nodes: &mut Nodes, line: SetLine) -> Result<Named, AllocError>
         requires structure { HasStructure self.now.set.now }
         requires line { SpeaksOf self.now.set.now (line_of line) }
-        requires frames { AreFrames self.now.set.now dag.old self.now.frames }
-        requires words { HasOneWidthEach dag.old }
-        ensures keeps { IfOk result (λ _. Keeps dag.old dag.new) }
+        requires frames { AreFrames self.now.set.now nodes.old.dag self.now.frames }
+        requires made { AreMade self.now.set.now nodes.old.dag nodes.old.made.items }
+        requires words { HasOneWidthEach nodes.old.dag }
+        ensures keeps { IfOk result (λ _. Keeps nodes.old.dag nodes.new.dag) }
+        ensures made { IfOk result (λ _. AreMade self.now.set.now nodes.new.dag nodes.new.made.items) }
         ensures named { IfOk result (λ named. IsNamedOf self.now.set.now (line_of line) named) }
     {
-        let root = self.line_node(dag, line)?;
-        let ob = obligation_of(self.alloc, dag, root)?;
+        let root = self.line_node(nodes, line)?;
+        let ob = obligation_of(self.alloc, &nodes.dag, root)?;
         let name = line_name(self.alloc, self.set, line.line())?;
         Ok(Named { name, ob })
     }
@@ -59,10 +65,11 @@ pub fn twin_obs(alloc: Global, sound: &Sound) -> Result<Vec<Named>, AllocError>
     let lines = lines_of(alloc, set)?;
     let mut dag = Dag::new(alloc);
     let frames = frames_of(alloc, &mut dag, set)?;
+    let mut nodes = Nodes::new(alloc, dag, set)?;
     let twins = Twins { alloc, set, frames };
     let mut obs = Vec::with_capacity(alloc, lines.len())?;
     for line in &lines {
-        let named = twins.named_ob(&mut dag, *line)?;
+        let named = twins.named_ob(&mut nodes, *line)?;
         obs.push(named)?;
     }
     Ok(obs)
@@ -78,7 +85,8 @@ pub fn twin_ob(alloc: Global, sound: &Sound, number: usize) -> Result<Named, All
     let lines = lines_of(alloc, set)?;
     let mut dag = Dag::new(alloc);
     let frames = frames_of(alloc, &mut dag, set)?;
+    let mut nodes = Nodes::new(alloc, dag, set)?;
     let twins = Twins { alloc, set, frames };
-    twins.add_lines(&mut dag, &lines[..number])?;
-    twins.named_ob(&mut dag, lines[number])
+    twins.add_lines(&mut nodes, &lines[..number])?;
+    twins.named_ob(&mut nodes, lines[number])
 }

@@ -11,12 +11,14 @@ ghost use Rattle.set_tree.specs.Parts.{IsPosition, assumed, property_at, window_
 ghost use Rattle.twin_tests.specs.Building.{AreLeaves, HasWidth, Shows, Tests};
 ghost use Rattle.twin_tests.specs.Framing.{AreFrames, IsFrame};
 ghost use Rattle.twin_tests.specs.Reading.{FollowsWithin, HasStructure};
+ghost use Rattle.twin_tests.specs.Sharing.{AreMade};
 ghost use Rattle.word_dag.specs.Adding.{Keeps};
 ghost use Rattle.word_dag.specs.Nodes.{Naming};
 
 use crate::formula::rows_after;
 use crate::frame::{Frame, rows_to};
-use crate::property::{assumed_node, property_of, starts_node};
+use crate::property::{assumed_node, property_of};
+use crate::shared::{Nodes, Part, Says};
 use crate::twins::{RowPair, Twins};
 use crate::window::NodeRow;
 use crate::words::{both, constant, either, negated};
@@ -100,10 +102,10 @@ impl Twins<'_> {
         both(dag, ended, none)
     }
 
-    /// `choose P Q` at n: the first window goes on with Q, and in the second Q isn't assumed.
+    /// `choose P Q` at n: P pairs there, the first window goes on with Q, and in the second Q isn't assumed.
     pub fn choose_node(
         &self,
-        dag: &mut Dag,
+        nodes: &mut Nodes,
         p: usize,
         q: usize,
         n: usize,
@@ -113,79 +115,72 @@ impl Twins<'_> {
         requires next { IsPosition self.now.set.now q }
         requires least { (property_at self.now.set.now p).length.low ≤ n }
         requires most { n ≤ (property_at self.now.set.now p).length.high }
-        requires frames { AreFrames self.now.set.now dag.old self.now.frames }
-        ensures keeps { IfOk result (λ _. Keeps dag.old dag.new) }
-        ensures width { IfOk result (λ i. HasWidth dag.new i 1) }
-        ensures node { IfOk result (λ i. Tests dag.new i (λ e. violates_choose (meaning_of self.now.set.now) self.now.set.now p q n (named_rows self.now.set.now e 0 (edge_end self.now.set.now p q n)) (named_rows self.now.set.now e 1 (edge_end self.now.set.now p q n)))) }
+        requires frames { AreFrames self.now.set.now nodes.old.dag self.now.frames }
+        requires made { AreMade self.now.set.now nodes.old.dag nodes.old.made.items }
+        ensures keeps { IfOk result (λ _. Keeps nodes.old.dag nodes.new.dag) }
+        ensures made { IfOk result (λ _. AreMade self.now.set.now nodes.new.dag nodes.new.made.items) }
+        ensures width { IfOk result (λ i. HasWidth nodes.new.dag i 1) }
+        ensures node { IfOk result (λ i. Tests nodes.new.dag i (λ e. violates_choose (meaning_of self.now.set.now) self.now.set.now p q n (named_rows self.now.set.now e 0 (edge_end self.now.set.now p q n)) (named_rows self.now.set.now e 1 (edge_end self.now.set.now p q n)))) }
     {
         let end = edge_end(self.set, p, q, n);
-        let xs = rows_after(rows_to(&self.frames.first, end), n);
-        let ys = rows_after(rows_to(&self.frames.second, end), n);
-        let pairs = self.pairs_to_node(dag, p, n, end)?;
-        let chosen = assumed_node(self.alloc, dag, self.set, q, xs)?;
-        let first = both(dag, pairs, chosen)?;
-        let other = assumed_node(self.alloc, dag, self.set, q, ys)?;
-        let refused = negated(dag, other)?;
-        both(dag, first, refused)
+        let pairs = self.part_node(nodes, Part::new(Says::Pairs, p, n, end))?;
+        let chosen = self.part_node(nodes, Part::new(Says::AssumedFirst, q, n, end))?;
+        let other = self.part_node(nodes, Part::new(Says::AssumedSecond, q, n, end))?;
+        let first = both(&mut nodes.dag, pairs, chosen)?;
+        let refused = negated(&mut nodes.dag, other)?;
+        both(&mut nodes.dag, first, refused)
     }
 
     /// `hand P Q` at n: both windows go on with Q, which doesn't hand over the same.
-    pub fn hand_node(&self, dag: &mut Dag, p: usize, q: usize, n: usize) -> Result<u64, AllocError>
+    pub fn hand_node(
+        &self,
+        nodes: &mut Nodes,
+        p: usize,
+        q: usize,
+        n: usize,
+    ) -> Result<u64, AllocError>
         requires structure { HasStructure self.now.set.now }
         requires position { IsPosition self.now.set.now p }
         requires next { IsPosition self.now.set.now q }
         requires least { (property_at self.now.set.now p).length.low ≤ n }
         requires most { n ≤ (property_at self.now.set.now p).length.high }
-        requires frames { AreFrames self.now.set.now dag.old self.now.frames }
-        ensures keeps { IfOk result (λ _. Keeps dag.old dag.new) }
-        ensures width { IfOk result (λ i. HasWidth dag.new i 1) }
-        ensures node { IfOk result (λ i. Tests dag.new i (λ e. violates_hand (meaning_of self.now.set.now) self.now.set.now p q n (named_rows self.now.set.now e 0 (edge_end self.now.set.now p q n)) (named_rows self.now.set.now e 1 (edge_end self.now.set.now p q n)))) }
+        requires frames { AreFrames self.now.set.now nodes.old.dag self.now.frames }
+        requires made { AreMade self.now.set.now nodes.old.dag nodes.old.made.items }
+        ensures keeps { IfOk result (λ _. Keeps nodes.old.dag nodes.new.dag) }
+        ensures made { IfOk result (λ _. AreMade self.now.set.now nodes.new.dag nodes.new.made.items) }
+        ensures width { IfOk result (λ i. HasWidth nodes.new.dag i 1) }
+        ensures node { IfOk result (λ i. Tests nodes.new.dag i (λ e. violates_hand (meaning_of self.now.set.now) self.now.set.now p q n (named_rows self.now.set.now e 0 (edge_end self.now.set.now p q n)) (named_rows self.now.set.now e 1 (edge_end self.now.set.now p q n)))) }
     {
         let end = edge_end(self.set, p, q, n);
-        let xs = rows_after(rows_to(&self.frames.first, end), n);
-        let ys = rows_after(rows_to(&self.frames.second, end), n);
-        let pairs = self.pairs_to_node(dag, p, n, end)?;
-        let here = starts_node(self.alloc, dag, self.set, q, xs)?;
-        let first = both(dag, pairs, here)?;
-        let there = starts_node(self.alloc, dag, self.set, q, ys)?;
-        let second = both(dag, first, there)?;
-        let hands = self.same_hands_node(
-            dag,
-            q,
-            RowPair {
-                first: xs,
-                second: ys,
-            },
-        )?;
-        let differ = negated(dag, hands)?;
-        both(dag, second, differ)
+        let pairs = self.part_node(nodes, Part::new(Says::Pairs, p, n, end))?;
+        let here = self.part_node(nodes, Part::new(Says::StartsFirst, q, n, end))?;
+        let there = self.part_node(nodes, Part::new(Says::StartsSecond, q, n, end))?;
+        let hands = self.part_node(nodes, Part::new(Says::Hands, q, n, end))?;
+        let first = both(&mut nodes.dag, pairs, here)?;
+        let second = both(&mut nodes.dag, first, there)?;
+        let differ = negated(&mut nodes.dag, hands)?;
+        both(&mut nodes.dag, second, differ)
     }
 
     /// `determine P` at n: an output isn't determined at an offset of its cover.
-    pub fn determine_node(&self, dag: &mut Dag, p: usize, n: usize) -> Result<u64, AllocError>
+    pub fn determine_node(&self, nodes: &mut Nodes, p: usize, n: usize) -> Result<u64, AllocError>
         requires structure { HasStructure self.now.set.now }
         requires position { IsPosition self.now.set.now p }
         requires least { (property_at self.now.set.now p).length.low ≤ n }
         requires most { n ≤ (property_at self.now.set.now p).length.high }
-        requires frames { AreFrames self.now.set.now dag.old self.now.frames }
-        ensures keeps { IfOk result (λ _. Keeps dag.old dag.new) }
-        ensures width { IfOk result (λ i. HasWidth dag.new i 1) }
-        ensures node { IfOk result (λ i. Tests dag.new i (λ e. violates_determine (meaning_of self.now.set.now) self.now.set.now p n (named_rows self.now.set.now e 0 (window_of self.now.set.now p)) (named_rows self.now.set.now e 1 (window_of self.now.set.now p)))) }
+        requires frames { AreFrames self.now.set.now nodes.old.dag self.now.frames }
+        requires made { AreMade self.now.set.now nodes.old.dag nodes.old.made.items }
+        ensures keeps { IfOk result (λ _. Keeps nodes.old.dag nodes.new.dag) }
+        ensures made { IfOk result (λ _. AreMade self.now.set.now nodes.new.dag nodes.new.made.items) }
+        ensures width { IfOk result (λ i. HasWidth nodes.new.dag i 1) }
+        ensures node { IfOk result (λ i. Tests nodes.new.dag i (λ e. violates_determine (meaning_of self.now.set.now) self.now.set.now p n (named_rows self.now.set.now e 0 (window_of self.now.set.now p)) (named_rows self.now.set.now e 1 (window_of self.now.set.now p)))) }
     {
         let end = property_of(self.set, p).window as usize;
-        let xs = rows_to(&self.frames.first, end);
-        let ys = rows_to(&self.frames.second, end);
-        let pairs = self.pairs_to_node(dag, p, n, end)?;
-        let apart = self.covers_node(
-            dag,
-            p,
-            n,
-            RowPair {
-                first: xs,
-                second: ys,
-            },
-        )?;
-        both(dag, pairs, apart)
+        let first = rows_to(&self.frames.first, end);
+        let second = rows_to(&self.frames.second, end);
+        let pairs = self.part_node(nodes, Part::new(Says::Pairs, p, n, end))?;
+        let apart = self.covers_node(&mut nodes.dag, p, n, RowPair { first, second })?;
+        both(&mut nodes.dag, pairs, apart)
     }
 
     /// `end P` at n: P ends there.

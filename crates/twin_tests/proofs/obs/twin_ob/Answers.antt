@@ -33,14 +33,24 @@ named_ob-requires-clause-line c =
     let is : line_of c.index.result.now ≡ set_line set number = line_is line_of items (set_lines set) number c.index.result.now Reset c.in_ok-lines.ensures (counted line_of items (set_lines set) number c.in_ok-lines.ensures lt) c.index.ensures in
     subst (λ (l : Line). SpeaksOf set l) (sym is) (line_speaks set number structure lt)
 
+pub add_lines-requires-clause-frames : goal.add_lines-requires-clause-frames
+add_lines-requires-clause-frames c = rw c.in_ok-nodes.ensures.dag c.in_ok-frames.ensures.frames
+
+pub add_lines-requires-clause-made : goal.add_lines-requires-clause-made
+add_lines-requires-clause-made c = c.in_ok-nodes.ensures.made c.set-set.result.now
+
+pub named_ob-requires-clause-made : goal.named_ob-requires-clause-made
+named_ob-requires-clause-made c = c.in_ok-add_lines.ensures.made
+
 pub named_ob-requires-clause-frames : goal.named_ob-requires-clause-frames
-named_ob-requires-clause-frames c = frames_later c.frames_of.new.dag c.add_lines.new.dag c.set-set.result.now c.in_ok-frames.frames c.in_ok-add_lines.ensures c.in_ok-frames.ensures.frames
+named_ob-requires-clause-frames c = frames_later c.in_ok-nodes.nodes.dag c.add_lines.new.nodes.dag c.set-set.result.now c.in_ok-frames.frames c.in_ok-add_lines.ensures.keeps (rw c.in_ok-nodes.ensures.dag c.in_ok-frames.ensures.frames)
 
 pub named_ob-requires-clause-words : goal.named_ob-requires-clause-words
 named_ob-requires-clause-words c =
     let set = c.set-set.result.now in
     let structure : HasStructure set = subst (λ (z : Set). HasStructure z) (sym c.set-set.ensures.value) (record { sound = c.set-set.ensures.sound; formed = c.set-set.ensures.formed }) in
-    widths_are_kept c.frames_of.new.dag c.add_lines.new.dag c.in_ok-add_lines.ensures (window_widths set.names structure.formed.distinct_names _ c.frames_of.new.dag c.new-dag.ensures c.in_ok-frames.ensures.frees)
+    let begun = window_widths set.names structure.formed.distinct_names _ c.frames_of.new.dag c.new-dag.ensures c.in_ok-frames.ensures.frees in
+    widths_are_kept c.in_ok-nodes.nodes.dag c.add_lines.new.nodes.dag c.in_ok-add_lines.ensures.keeps (rw c.in_ok-nodes.ensures.dag begun)
 
 pub returns : goal.returns
 returns c =

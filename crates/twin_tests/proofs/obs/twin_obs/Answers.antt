@@ -11,6 +11,7 @@ use Rattle.twin_tests.specs.Framing.{SpeaksOf}
 use Rattle.twin_tests.specs.Named.{IsNamedOf}
 use Rattle.twin_tests.specs.Ordering.{line_of}
 use Rattle.twin_tests.specs.Reading.{HasStructure}
+use Rattle.twin_tests.specs.Sharing.{AreMade}
 use Rattle.twin_tests.proofs.Handing.{get_again}
 use Rattle.twin_tests.proofs.Listed.{each_is}
 use Rattle.twin_tests.proofs.Spoken.{lines_speak, obs_begin, obs_step}
@@ -25,11 +26,16 @@ named_ob-requires-clause-line c =
     let listed : map line_of items ≡ set_lines set = ap (λ (ls : List SetLine). map line_of ls) c.deref-line-items.ensures.value ∙ c.in_ok-lines.ensures in
     each_is line_of (SpeaksOf set) items (set_lines set) listed (lines_speak set structure) c.loop-line.line-index (End 0) lt
 
+pub named_ob-requires-clause-made : goal.named_ob-requires-clause-made
+named_ob-requires-clause-made c = subst (λ (z : Set). AreMade z c.loop-line.nodes.dag c.loop-line.nodes.made.items) (sym c.set-set.ensures.value) c.loop-line.invariant.parts
+
 pub loop-line-init : goal.loop-line-init
 loop-line-init c =
     let set = c.set-set.result.now in
     let structure : HasStructure set = subst (λ (z : Set). HasStructure z) (sym c.set-set.ensures.value) (record { sound = c.set-set.ensures.sound; formed = c.set-set.ensures.formed }) in
-    obs_begin c.args.sound.now set _ c.frames_of.new.dag c.in_ok-frames.frames _ _ c.set-set.ensures.value structure c.new-dag.ensures c.in_ok-frames.ensures.frames c.in_ok-frames.ensures.frees refl c.in_ok-obs.ensures.items
+    let nodes = c.in_ok-nodes.nodes in
+    let keep = c.in_ok-nodes.ensures.dag in
+    obs_begin c.args.sound.now set _ nodes.dag nodes.made.items c.in_ok-frames.frames _ _ c.set-set.ensures.value structure c.new-dag.ensures (rw keep c.in_ok-frames.ensures.frames) (rw keep c.in_ok-frames.ensures.frees) (c.in_ok-nodes.ensures.made set) refl c.in_ok-obs.ensures.items
 
 pub loop-line-preserved : goal.loop-line-preserved
 loop-line-preserved c =
@@ -41,7 +47,8 @@ loop-line-preserved c =
     let lt' : i < length (map line_of items) = omega (arith, long, lt) in
     let at : line_of line ≡ get_or (map line_of items) i (line_of line) = ap line_of (get_again items i (End 0) lt) ∙ sym (get_or-map line_of items i line) in
     let here = subst (λ (z : Set). IsNamedOf z (line_of line) c.in_ok-named.named) c.set-set.ensures.value c.in_ok-named.ensures.named in
-    obs_step c.args.sound.now c.loop-line.dag c.named_ob.new.dag c.in_ok-frames.frames (map line_of items) c.loop-line.obs.items c.push.new.self.items i (line_of line) c.in_ok-named.named c.in_ok-named.ensures.keeps lt' at c.in_ok-push.ensures.items here c.loop-line.invariant
+    let parts = subst (λ (z : Set). AreMade z c.named_ob.new.nodes.dag c.named_ob.new.nodes.made.items) c.set-set.ensures.value c.in_ok-named.ensures.made in
+    obs_step c.args.sound.now c.loop-line.nodes.dag c.named_ob.new.nodes.dag c.loop-line.nodes.made.items c.named_ob.new.nodes.made.items c.in_ok-frames.frames (map line_of items) c.loop-line.obs.items c.push.new.self.items i (line_of line) c.in_ok-named.named c.in_ok-named.ensures.keeps lt' at c.in_ok-push.ensures.items here parts c.loop-line.invariant
 
 pub returns : goal.returns
 returns c =

@@ -12,5 +12,5 @@ returns-clause-named c =
     record {
       name = c.in_ok-name.ensures ∙ ap (line_name set) c.line.ensures;
       of_line = c.in_ok-ob.ensures.of_line (meaning_of set) set (line_of c.args.line) (line_length set (line_of c.args.line) c.requires.structure c.requires.line) c.in_ok-root.ensures.node.means;
-      words = c.in_ok-ob.ensures.words (widths_are_kept c.args.dag.now c.line_node.new.dag c.in_ok-root.ensures.keeps c.requires.words);
+      words = c.in_ok-ob.ensures.words (widths_are_kept c.args.nodes.now.dag c.line_node.new.nodes.dag c.in_ok-root.ensures.keeps c.requires.words);
     }
