@@ -8,7 +8,7 @@ ghost use Rattle.proof_store.specs.Lookups.{lacks_proof};
 ghost use Rattle.proof_store.specs.Places.{Tells};
 
 use crate::checking::Checked;
-use crate::crews::{AT_ONCE, fewer};
+use crate::crews::fewer;
 use crate::weight::gates_of;
 use cnf_build::{Built, build};
 use helper_box::{Claim, Claims, Helper, claims_of, offer_ready};
@@ -17,8 +17,11 @@ use std::alloc::{AllocError, Global};
 use std::thread::Threads;
 use word_dag::Ob;
 
-/// Beyond so many gates no further obligation is made ready before the helpers are asked: some 20 MB of clauses.
-const GATES_AT_ONCE: u64 = 1 << 15;
+/// How many obligations are made ready at most before the helpers are asked.
+const READY_AT_ONCE: usize = 256;
+
+/// Beyond so many gates no further obligation is made ready before the helpers are asked: some 25 MB of clauses.
+const GATES_AT_ONCE: u64 = 1 << 18;
 
 /// An obligation that stands ready for the helpers: its clauses, and claims of it that were made out of turn and pass.
 #[derive(Drop)]
@@ -157,7 +160,7 @@ fn help_few<R: Threads + Sync, H: Helper>(
     ask_each(crew.alloc, helpers, all)
 }
 
-// About how many gates the clauses have that are built of an obligation.
+// How many gates the clauses describe that are built of an obligation.
 fn weight_of(checked: &Checked<'_>) -> u64 {
     if checked.kept.is_some() {
         0
@@ -172,7 +175,7 @@ fn end_of_few(obs: &[Checked<'_>], at: usize, workers: u32) -> usize
     ensures more { at < result }
     ensures within { result ≤ length obs.now }
 {
-    let most = obs.len().min(at + AT_ONCE);
+    let most = obs.len().min(at + READY_AT_ONCE);
     let mut end = at + 1;
     let mut gates = weight_of(&obs[at]);
     while end < most && (end - at < workers as usize || gates < GATES_AT_ONCE) {
