@@ -1,4 +1,7 @@
 //! One node: a word by itself, or an operation on earlier nodes.
+ghost use Rattle.std.specs.Prelude.{◌≡◌};
+ghost use Rattle.word_dag.specs.Nodes.{width_of};
+
 use outside::Text;
 use word_core::Word;
 
@@ -68,4 +71,22 @@ pub enum Node {
         a: u64,
         b: u64,
     },
+}
+
+impl Node {
+    /// The width of its word, in bits.
+    pub fn width(&self) -> u8
+        ensures { result ≡ width_of self.now }
+    {
+        match self {
+            Node::Const(word) => word.width(),
+            Node::Free { width, .. }
+            | Node::Two { width, .. }
+            | Node::Not { width, .. }
+            | Node::Slice { width, .. }
+            | Node::Zext { width, .. }
+            | Node::Sext { width, .. }
+            | Node::Mux { width, .. } => *width,
+        }
+    }
 }
