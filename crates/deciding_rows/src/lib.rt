@@ -1,4 +1,5 @@
-//! Rows of the deciding layer: words, derivations, their records, the solver, helpers, the workers, and obligations settled over a keeper.
+//! Rows of the deciding layer: words, derivations, their records and texts, the solver and the simplifier, least values, helpers, the workers, and
+//! obligations settled over a keeper.
 #![tactic(auto)]
 
 #[cfg(test)]
@@ -6,13 +7,21 @@ mod derivations;
 #[cfg(test)]
 mod faults;
 #[cfg(test)]
+mod formulas;
+#[cfg(test)]
 mod helpers;
 #[cfg(test)]
 mod jobs;
 #[cfg(test)]
+mod least;
+#[cfg(test)]
+mod proofs;
+#[cfg(test)]
 mod records;
 #[cfg(test)]
 mod settling;
+#[cfg(test)]
+mod simplifying;
 #[cfg(test)]
 mod solver;
 #[cfg(test)]

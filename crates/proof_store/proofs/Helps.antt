@@ -29,10 +29,10 @@ pub ready_rose : (given : Option Ready) (ready : Ready) (xs ys : List ℕ) → g
 ready_rose given ready xs ys is asks = subst (λ (r : Option Ready). FirstRose (turns_of r) xs ys) (sym is) (rose_one xs ys asks)
 
 -- a claim that passes shows how an obligation that stands ready ended
-pub ready_shown : (given : Option Ready) (ready : Ready) (claim : Claim) (found : Option Evidence) → given ≡ Some ready → IfReady given → Passes ready.ob.now ready.built.cnf claim → Tells claim found → ShownOf given found
+pub ready_shown : (given : Option Ready) (ready : Ready) (claim : Claim) (found : Option Evidence) → given ≡ Some ready → IfReady given → Passes ready.ob.now ready.cnf claim → Tells claim found → ShownOf given found
 ready_shown given ready claim found is stands passes tells =
     let here : IsReady ready = subst IfReady is stands in
-    subst (λ (r : Option Ready). ShownOf r found) (sym is) (claim_shown_ever ready.ob.now ready.built.cnf ready.built.bits.items claim found here.built passes tells)
+    subst (λ (r : Option Ready). ShownOf r found) (sym is) (claim_shown_ever ready.ob.now ready.cnf here.bits claim found here.built passes tells)
 
 -- ---- one obligation after another
 

@@ -1,5 +1,5 @@
 -- Helpers' claims of obligations of which no proof is kept.
-use Rattle.std.specs.Prelude.{◌≡◌, ℕ, true, false, Option, Some, None, IfSome}
+use Rattle.std.specs.Prelude.{◌≡◌, ℕ, List, true, false, Option, Some, None, IfSome}
 use Rattle.word_dag.specs.Nodes.{Parts}
 use Rattle.job_pool.specs.Shown.{IsShown}
 use Rattle.job_pool.specs.declared.evidence.Evidence.{Evidence}
@@ -9,10 +9,11 @@ use Rattle.proof_store.specs.Lookups.{lacks_proof}
 use Rattle.proof_store.specs.declared.checking.Checked.{Checked}
 use Rattle.proof_store.specs.declared.helping.Ready.{Ready}
 
--- it has the clauses of its obligation, and claims of it that pass
+-- it has the clauses of its obligation, with some variables for the bits of its free words, and claims of it that pass
 pub record IsReady (ready : Ready) : Type 0 where
-  pub built : IsBuilt ready.ob.now ready.built.cnf ready.built.bits.items
-  pub pass : AreReady ready.ob.now ready.built.cnf ready.claims.items
+  pub bits : List (List ℕ)
+  pub built : IsBuilt ready.ob.now ready.cnf bits
+  pub pass : AreReady ready.ob.now ready.cnf ready.claims.items
 
 abbrev pub IfReady : Option Ready → Type 0
 IfReady ready = IfSome ready IsReady

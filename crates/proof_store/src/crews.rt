@@ -2,9 +2,6 @@
 use job_pool::Crew;
 use std::thread::Threads;
 
-/// How many obligations are gone through at a time at most, so that few formulas and texts are alive at once.
-pub(crate) const AT_ONCE: usize = 64;
-
 /// As many workers as there are jobs, at least one and no more than these.
 pub(crate) fn fewer<'a, R: Threads + Sync>(crew: &Crew<'a, R>, jobs: usize) -> Crew<'a, R> {
     Crew {

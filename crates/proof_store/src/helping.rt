@@ -1,6 +1,6 @@
 //! What helpers claim of obligations of which no proof is kept. Their clauses are built, and claims that helpers make out of turn are
 //! checked, by workers side by side; then the helpers are asked in order.
-ghost use Rattle.std.specs.Prelude.{◌^◌, ◌<◌, ◌≤◌, All, IfOk, count_by, length, map, sum_by};
+ghost use Rattle.std.specs.Prelude.{◌^◌, ◌<◌, All, IfOk, count_by, length, map, sum_by};
 ghost use Rattle.std.specs.List.{AllZip};
 ghost use Rattle.proof_store.specs.Counts.{FirstRose, NoneFalls};
 ghost use Rattle.proof_store.specs.Helping.{Helps, IfReady, Readies, ShownOf, turns_of};
@@ -9,7 +9,8 @@ ghost use Rattle.proof_store.specs.Places.{Tells};
 
 use crate::checking::Checked;
 use crate::crews::fewer;
-use crate::weight::gates_of;
+use crate::weight::{Weighs, end_of_few, gates_of};
+use clause_check::Cnf;
 use cnf_build::{Built, build};
 use helper_box::{Claim, Claims, Helper, claims_of, offer_ready};
 use job_pool::{Crew, Evidence, Task};
@@ -17,17 +18,11 @@ use std::alloc::{AllocError, Global};
 use std::thread::Threads;
 use word_dag::Ob;
 
-/// How many obligations are made ready at most before the helpers are asked.
-const READY_AT_ONCE: usize = 256;
-
-/// Beyond so many gates no further obligation is made ready before the helpers are asked: some 25 MB of clauses.
-const GATES_AT_ONCE: u64 = 1 << 18;
-
 /// An obligation that stands ready for the helpers: its clauses, and claims of it that were made out of turn and pass.
 #[derive(Drop)]
 pub struct Ready<'a> {
     pub ob: &'a Ob,
-    pub built: Built,
+    pub cnf: Cnf,
     pub claims: Vec<Option<Claim>>,
 }
 
@@ -42,11 +37,11 @@ fn made_ready<'a, C: Claims>(
     if checked.kept.is_some() {
         return Ok(None);
     }
-    let built = build(alloc, checked.ob)?;
-    let claims = claims_of(helpers, alloc, checked.ob, &built.cnf)?;
+    let Built { cnf, .. } = build(alloc, checked.ob)?;
+    let claims = claims_of(helpers, alloc, checked.ob, &cnf)?;
     Ok(Some(Ready {
         ob: checked.ob,
-        built,
+        cnf,
         claims,
     }))
 }
@@ -108,10 +103,10 @@ fn ask<H: Helper>(
     ensures first { IfOk result (λ _. FirstRose (turns_of ready.entry) (map H.asked helpers.old.items) (map H.asked helpers.new.items)) }
     ensures asked { NoneFalls (map H.asked helpers.old.items) (map H.asked helpers.new.items) }
 {
-    let Some(Ready { ob, built, claims }) = ready else {
+    let Some(Ready { ob, cnf, claims }) = ready else {
         return Ok(None);
     };
-    let claim = offer_ready(helpers, alloc, ob, &built.cnf, claims)?;
+    let claim = offer_ready(helpers, alloc, ob, &cnf, claims)?;
     Ok(evidence_of(claim))
 }
 
@@ -160,29 +155,14 @@ fn help_few<R: Threads + Sync, H: Helper>(
     ask_each(crew.alloc, helpers, all)
 }
 
-// How many gates the clauses describe that are built of an obligation.
-fn weight_of(checked: &Checked<'_>) -> u64 {
-    if checked.kept.is_some() {
-        0
-    } else {
-        gates_of(checked.ob)
+impl Weighs for Checked<'_> {
+    fn weight(&self) -> u64 {
+        if self.kept.is_some() {
+            0
+        } else {
+            gates_of(self.ob)
+        }
     }
-}
-
-// Where the obligations end that are made ready at a time, from this one on: one for each worker, and more while their clauses are few.
-fn end_of_few(obs: &[Checked<'_>], at: usize, workers: u32) -> usize
-    requires { at < length obs.now }
-    ensures more { at < result }
-    ensures within { result ≤ length obs.now }
-{
-    let most = obs.len().min(at + READY_AT_ONCE);
-    let mut end = at + 1;
-    let mut gates = weight_of(&obs[at]);
-    while end < most && (end - at < workers as usize || gates < GATES_AT_ONCE) {
-        gates = gates.saturating_add(weight_of(&obs[end]));
-        end += 1;
-    }
-    end
 }
 
 /// What helpers' claims show of obligations of which no proof is kept: they are made ready side by side, and the helpers are asked in order. Where

@@ -4,9 +4,10 @@ ghost use Rattle.std.specs.List.{AllZip};
 ghost use Rattle.proof_store.specs.Lookups.{HasRow, IsLookup, IsKeyed, IsQuery, Looks};
 ghost use Rattle.proof_store.specs.Provers.{Rises};
 
-use crate::crews::{AT_ONCE, fewer};
+use crate::crews::fewer;
 use crate::fault::StoreFault;
 use crate::goal::Goal;
+use crate::weight::{Weighs, end_of_few};
 use job_pool::{Crew, Task};
 use outside::Keeper;
 use std::alloc::{AllocError, Global};
@@ -47,6 +48,12 @@ impl<'a> Task<Query<'a>, Keyed<'a>> for Keying {
     fn end(&self, _number: u64, query: &Query<'a>) -> Result<Keyed<'a>, AllocError> {
         let key = text(self.alloc, query.ob)?;
         Ok(Keyed { ob: query.ob, key })
+    }
+}
+
+impl Weighs for Query<'_> {
+    fn weight(&self) -> u64 {
+        self.ob.nodes().len() as u64
     }
 }
 
@@ -124,7 +131,7 @@ fn look_up_each<'a, R: Threads + Sync, K: Keeper>(
     let mut lookups = Vec::new(crew.alloc);
     let mut at = 0;
     while at < queries.len() {
-        let end = queries.len().min(at + AT_ONCE);
+        let end = end_of_few(queries, at, crew.workers);
         let mut more = look_up_few(crew, keeper, &queries[at..end])?;
         lookups.append(&mut more)?;
         at = end;

@@ -8,10 +8,11 @@ ghost use Rattle.proof_store.specs.Provers.{Rises};
 ghost use Rattle.proof_store.specs.Rows.{HasProofs};
 ghost use Rattle.proof_store.specs.Stored.{AddsProofs, StoresNew, Told, ended_ob};
 
-use crate::crews::{AT_ONCE, fewer};
+use crate::crews::fewer;
 use crate::fault::StoreFault;
 use crate::goal::{Decided, Source};
 use crate::keeping::{Row, row_of};
+use crate::weight::{Weighs, end_of_few};
 use job_pool::{Crew, Evidence, Task};
 use outside::Keeper;
 use std::alloc::{AllocError, Global};
@@ -24,6 +25,17 @@ pub struct Outcome<'a> {
     pub ob: &'a Ob,
     pub evidence: &'a Evidence,
     pub kept: bool,
+}
+
+impl Weighs for Outcome<'_> {
+    fn weight(&self) -> u64 {
+        match self.evidence {
+            Evidence::Derivation(steps) if !self.kept => {
+                (self.ob.nodes().len() as u64).saturating_add(steps.len() as u64)
+            }
+            _ => 0,
+        }
+    }
 }
 
 fn is_kept<L: Drop>(decided: &Decided<L>) -> bool
@@ -117,7 +129,7 @@ fn put_each<R: Threads + Sync, K: Keeper>(
 {
     let mut at = 0;
     while at < outcomes.len() {
-        let end = outcomes.len().min(at + AT_ONCE);
+        let end = end_of_few(outcomes, at, crew.workers);
         let rows = new_rows(crew, &outcomes[at..end])?;
         for row in rows {
             put_row(crew.alloc, keeper, row)?;

@@ -1,29 +1,30 @@
-//! How heavy the clauses of an obligation are.
+//! How much obligations weigh that are gone through at a time.
+ghost use Rattle.std.specs.Prelude.{◌<◌, ◌≤◌, length};
+
 use word_dag::{Node, Ob, Op};
 
-fn width_of(node: &Node) -> u8 {
-    match node {
-        Node::Const(word) => word.width(),
-        Node::Free { width, .. }
-        | Node::Two { width, .. }
-        | Node::Not { width, .. }
-        | Node::Slice { width, .. }
-        | Node::Zext { width, .. }
-        | Node::Sext { width, .. }
-        | Node::Mux { width, .. } => *width,
-    }
+/// How many obligations are gone through at a time at most.
+const AT_ONCE: usize = 256;
+
+/// Beyond this weight no further obligation is gone through at the same time: some 25 MB of clauses, texts or rows.
+const WEIGHT_AT_ONCE: u64 = 1 << 18;
+
+/// What is gone through few at a time.
+pub(crate) trait Weighs {
+    /// About how many gates, or lines of a text or a record, are made of it.
+    fn weight(&self) -> u64;
 }
 
 // The width of the node of a number; 0 where there is none.
 fn width_at(nodes: &[Node], number: u64) -> u8 {
     match nodes.get(number as usize) {
-        Some(node) => width_of(node),
+        Some(node) => node.width(),
         None => 0,
     }
 }
 
-// How many gates an operation has on two words of these widths: an adder has five for each bit, a product an adder and a row of ands for each bit of
-// its second word, and a shift a row of choices for each.
+// About how many gates an operation has on two words of these widths: an adder has five for each bit, a product an adder and a row of ands for each bit
+// of its second word, and a shift a row of choices for each.
 fn gates_of_operation(op: Op, a: u8, b: u8) -> u64 {
     let (a, b) = (u64::from(a), u64::from(b));
     match op {
@@ -47,12 +48,28 @@ fn gates_of_node(nodes: &[Node], node: &Node) -> u64 {
     }
 }
 
-/// How many gates the clauses of an obligation describe, up to the greatest number of 64 bits.
-pub fn gates_of(ob: &Ob) -> u64 {
+/// About how many gates the clauses of an obligation describe, up to the greatest number of 64 bits.
+pub(crate) fn gates_of(ob: &Ob) -> u64 {
     let nodes = ob.nodes();
     let mut gates: u64 = 0;
     for node in nodes {
         gates = gates.saturating_add(gates_of_node(nodes, node));
     }
     gates
+}
+
+/// Where those end that are gone through at a time, from this one on: one for each worker, and more while they weigh little.
+pub(crate) fn end_of_few<T: Weighs>(all: &[T], at: usize, workers: u32) -> usize
+    requires { at < length all.now }
+    ensures more { at < result }
+    ensures within { result ≤ length all.now }
+{
+    let most = all.len().min(at + AT_ONCE);
+    let mut end = at + 1;
+    let mut weight = all[at].weight();
+    while end < most && (end - at < workers as usize || weight < WEIGHT_AT_ONCE) {
+        weight = weight.saturating_add(all[end].weight());
+        end += 1;
+    }
+    end
 }

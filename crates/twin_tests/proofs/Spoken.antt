@@ -83,25 +83,25 @@ pub record ObsLoop (set : Set) (nodes : List Node) (made : List (Option Made)) (
   pub held : AreFrames set nodes frames
   pub each : AllZip (IsNamedOf set) lines obs
   pub words : HasOneWidthEach nodes
-  pub parts : AreMade set nodes made
+  pub atoms : AreMade set nodes made
 
 pub obs_begin : (set given : Set) (start nodes : List Node) (made : List (Option Made)) (frames : Frames) (lines : List Line) (obs : List Named) → given ≡ set → HasStructure given → start ≡ [] → AreFrames given nodes frames
     → AddsFrees (λ n. IsWindowWord given.names 0 n ⊎ IsWindowWord given.names 1 n) start nodes → AreMade given nodes made → lines ≡ [] → obs ≡ [] → ObsLoop set nodes made frames lines obs
-obs_begin set given start nodes made frames lines obs same s empty held frees parts none empty_too =
+obs_begin set given start nodes made frames lines obs same s empty held frees atoms none empty_too =
     let widths : HasOneWidthEach nodes = window_widths given.names s.formed.distinct_names start nodes empty frees in
     record {
       held = subst (λ (z : Set). AreFrames z nodes frames) same held;
       each = rw (none, empty_too) tt;
       words = widths;
-      parts = subst (λ (z : Set). AreMade z nodes made) same parts;
+      atoms = subst (λ (z : Set). AreMade z nodes made) same atoms;
     }
 
 pub obs_step : (set : Set) (a b : List Node) (was now : List (Option Made)) (frames : Frames) (lines : List Line) (obs new : List Named) (i : ℕ) (line : Line) (named : Named) → Keeps a b → i < length lines → line ≡ get_or lines i line → new ≡ obs ++ named ∷ [] → IsNamedOf set line named → AreMade set b now → ObsLoop set a was frames (take i lines) obs → ObsLoop set b now frames (take (i + 1) lines) new
-obs_step set a b was now frames lines obs new i line named ab lt is made here parts before =
+obs_step set a b was now frames lines obs new i line named ab lt is made here atoms before =
     let more : take (i + 1) lines ≡ take i lines ++ line ∷ [] = take_more lines i line lt ∙ ap (λ (l : Line). take i lines ++ l ∷ []) (sym is) in
     record {
       held = frames_later a b set frames ab before.held;
       each = rw (more, made) (all_zipped_more (IsNamedOf set) (take i lines) obs line named before.each here);
       words = widths_are_kept a b ab before.words;
-      parts = parts;
+      atoms = atoms;
     }

@@ -1,4 +1,4 @@
--- Parts that lines share.
+-- Atoms that lines share.
 use Rattle.std.specs.Prelude.{ℕ, ◌+◌, ◌<◌, ◌≤◌, Bool, List, drop, length, Option, IfSome}
 use Rattle.std.specs.List.{All}
 use Rattle.set_tree.specs.declared.set.Set.{Set}
@@ -11,26 +11,26 @@ use Rattle.line_laws.specs.Tests.{pairs_to, same_hands, starts}
 use Rattle.line_laws.specs.Windows.{named_rows}
 use Rattle.twin_tests.specs.declared.frame.Frames.{Frames}
 use Rattle.twin_tests.specs.declared.shared.Made.{Made}
-use Rattle.twin_tests.specs.declared.shared.Part.{Part}
-use Rattle.twin_tests.specs.declared.shared.Says.{Says}
-use Rattle.twin_tests.specs.declared.shared.Says.TheVariants.{Pairs, AssumedFirst, AssumedSecond, StartsFirst, StartsSecond, Hands}
+use Rattle.twin_tests.specs.declared.shared.Atom.{Atom}
+use Rattle.twin_tests.specs.declared.shared.Predicate.{Predicate}
+use Rattle.twin_tests.specs.declared.shared.Predicate.TheVariants.{Pairs, AssumedFirst, AssumedSecond, StartsFirst, StartsSecond, Hands}
 use Rattle.twin_tests.specs.Building.{Tests}
 
 -- what is said of property p at row n of two windows
-abbrev pub says_of : Set → Says → ℕ → ℕ → List Row → List Row → Bool
-says_of set Pairs p n xs ys = pairs_to (meaning_of set) set p n xs ys
-says_of set AssumedFirst p n xs ys = assumed (meaning_of set) set p (drop n xs)
-says_of set AssumedSecond p n xs ys = assumed (meaning_of set) set p (drop n ys)
-says_of set StartsFirst p n xs ys = starts (meaning_of set) set p (drop n xs)
-says_of set StartsSecond p n xs ys = starts (meaning_of set) set p (drop n ys)
-says_of set Hands p n xs ys = same_hands (meaning_of set) set p (drop n xs) (drop n ys)
+abbrev pub predicate_at : Set → Predicate → ℕ → ℕ → List Row → List Row → Bool
+predicate_at set Pairs p n xs ys = pairs_to (meaning_of set) set p n xs ys
+predicate_at set AssumedFirst p n xs ys = assumed (meaning_of set) set p (drop n xs)
+predicate_at set AssumedSecond p n xs ys = assumed (meaning_of set) set p (drop n ys)
+predicate_at set StartsFirst p n xs ys = starts (meaning_of set) set p (drop n xs)
+predicate_at set StartsSecond p n xs ys = starts (meaning_of set) set p (drop n ys)
+predicate_at set Hands p n xs ys = same_hands (meaning_of set) set p (drop n xs) (drop n ys)
 
 -- and of the windows that the values name
-abbrev pub part_test : Set → Part → Naming → Bool
-part_test set part e = says_of set part.says part.property part.row (named_rows set e 0 part.end) (named_rows set e 1 part.end)
+abbrev pub atom_test : Set → Atom → Naming → Bool
+atom_test set atom e = predicate_at set atom.predicate atom.property atom.row (named_rows set e 0 atom.end) (named_rows set e 1 atom.end)
 
 -- the rows that are read are there: an end of the property within its window, or the property's window from row n on
-abbrev pub Reaches : Set → Says → ℕ → ℕ → ℕ → Type 0
+abbrev pub Reaches : Set → Predicate → ℕ → ℕ → ℕ → Type 0
 Reaches set Pairs p n end = ((property_at set p).length.low ≤ n) × (n ≤ (property_at set p).length.high) × (window_of set p ≤ end)
 Reaches set AssumedFirst p n end = n + window_of set p ≤ end
 Reaches set AssumedSecond p n end = n + window_of set p ≤ end
@@ -38,13 +38,13 @@ Reaches set StartsFirst p n end = n + window_of set p ≤ end
 Reaches set StartsSecond p n end = n + window_of set p ≤ end
 Reaches set Hands p n end = n + window_of set p ≤ end
 
--- a part of a property of the set, within the windows
-pub record HasRoom (set : Set) (frames : Frames) (part : Part) : Type 0 where
-  pub position : IsPosition set part.property
-  pub first : part.end < length frames.first.rows.items
-  pub second : part.end < length frames.second.rows.items
-  pub reaches : Reaches set part.says part.property part.row part.end
+-- an atom of a property of the set, within the windows
+pub record HasRoom (set : Set) (frames : Frames) (atom : Atom) : Type 0 where
+  pub position : IsPosition set atom.property
+  pub first : atom.end < length frames.first.rows.items
+  pub second : atom.end < length frames.second.rows.items
+  pub reaches : Reaches set atom.predicate atom.property atom.row atom.end
 
--- each part that was made has the node that tells it
+-- each atom that was made has the node that tells it
 pub record AreMade (set : Set) (nodes : List Node) (made : List (Option Made)) : Type 0 where
-  pub each : All (λ (o : Option Made). IfSome o (λ one. Tests nodes one.node (part_test set one.part))) made
+  pub each : All (λ (o : Option Made). IfSome o (λ one. Tests nodes one.node (atom_test set one.atom))) made

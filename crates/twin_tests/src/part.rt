@@ -18,7 +18,7 @@ ghost use Rattle.word_dag.specs.Nodes.{Naming};
 use crate::formula::rows_after;
 use crate::frame::{Frame, rows_to};
 use crate::property::{assumed_node, property_of};
-use crate::shared::{Nodes, Part, Says};
+use crate::shared::{Atom, Nodes, Predicate};
 use crate::twins::{RowPair, Twins};
 use crate::window::NodeRow;
 use crate::words::{both, constant, either, negated};
@@ -123,9 +123,9 @@ impl Twins<'_> {
         ensures node { IfOk result (λ i. Tests nodes.new.dag i (λ e. violates_choose (meaning_of self.now.set.now) self.now.set.now p q n (named_rows self.now.set.now e 0 (edge_end self.now.set.now p q n)) (named_rows self.now.set.now e 1 (edge_end self.now.set.now p q n)))) }
     {
         let end = edge_end(self.set, p, q, n);
-        let pairs = self.part_node(nodes, Part::new(Says::Pairs, p, n, end))?;
-        let chosen = self.part_node(nodes, Part::new(Says::AssumedFirst, q, n, end))?;
-        let other = self.part_node(nodes, Part::new(Says::AssumedSecond, q, n, end))?;
+        let pairs = self.atom_node(nodes, Atom::new(Predicate::Pairs, p, n, end))?;
+        let chosen = self.atom_node(nodes, Atom::new(Predicate::AssumedFirst, q, n, end))?;
+        let other = self.atom_node(nodes, Atom::new(Predicate::AssumedSecond, q, n, end))?;
         let first = both(&mut nodes.dag, pairs, chosen)?;
         let refused = negated(&mut nodes.dag, other)?;
         both(&mut nodes.dag, first, refused)
@@ -152,10 +152,10 @@ impl Twins<'_> {
         ensures node { IfOk result (λ i. Tests nodes.new.dag i (λ e. violates_hand (meaning_of self.now.set.now) self.now.set.now p q n (named_rows self.now.set.now e 0 (edge_end self.now.set.now p q n)) (named_rows self.now.set.now e 1 (edge_end self.now.set.now p q n)))) }
     {
         let end = edge_end(self.set, p, q, n);
-        let pairs = self.part_node(nodes, Part::new(Says::Pairs, p, n, end))?;
-        let here = self.part_node(nodes, Part::new(Says::StartsFirst, q, n, end))?;
-        let there = self.part_node(nodes, Part::new(Says::StartsSecond, q, n, end))?;
-        let hands = self.part_node(nodes, Part::new(Says::Hands, q, n, end))?;
+        let pairs = self.atom_node(nodes, Atom::new(Predicate::Pairs, p, n, end))?;
+        let here = self.atom_node(nodes, Atom::new(Predicate::StartsFirst, q, n, end))?;
+        let there = self.atom_node(nodes, Atom::new(Predicate::StartsSecond, q, n, end))?;
+        let hands = self.atom_node(nodes, Atom::new(Predicate::Hands, q, n, end))?;
         let first = both(&mut nodes.dag, pairs, here)?;
         let second = both(&mut nodes.dag, first, there)?;
         let differ = negated(&mut nodes.dag, hands)?;
@@ -178,7 +178,7 @@ impl Twins<'_> {
         let end = property_of(self.set, p).window as usize;
         let first = rows_to(&self.frames.first, end);
         let second = rows_to(&self.frames.second, end);
-        let pairs = self.part_node(nodes, Part::new(Says::Pairs, p, n, end))?;
+        let pairs = self.atom_node(nodes, Atom::new(Predicate::Pairs, p, n, end))?;
         let apart = self.covers_node(&mut nodes.dag, p, n, RowPair { first, second })?;
         both(&mut nodes.dag, pairs, apart)
     }

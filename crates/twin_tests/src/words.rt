@@ -9,27 +9,12 @@ use std::alloc::AllocError;
 use word_core::Word;
 use word_dag::{Dag, Node, Op};
 
-fn width_of(node: &Node) -> u8
-    ensures { result ≡ width_of node.now }
-{
-    match node {
-        Node::Const(word) => word.width(),
-        Node::Free { width, .. }
-        | Node::Two { width, .. }
-        | Node::Not { width, .. }
-        | Node::Slice { width, .. }
-        | Node::Zext { width, .. }
-        | Node::Sext { width, .. }
-        | Node::Mux { width, .. } => *width,
-    }
-}
-
 // The width of a node of the dag.
 fn width_at(dag: &Dag, a: u64) -> u8
     requires { a < length dag.now }
     ensures { result ≡ slice_index (map width_of dag.now) a }
 {
-    width_of(dag.node(a))
+    dag.node(a).width()
 }
 
 /// A bit that is the same at all values.

@@ -18,10 +18,10 @@ loop-at-preserved g c =
     let queries = c.args.queries.now in
     let was = c.loop-at.invariant in
     let few = c.in_ok-more.ensures in
-    let further : c.loop-at.at ≤ c.min-end.result = omega (arith, c.min-end.ensures) in record {
-      within = omega (arith, c.min-end.ensures);
-      gone = gone_more (Looks (g.K.Keeper.tables c.args.keeper.now)) queries (drop c.loop-at.at queries) _ (drop c.min-end.result queries) c.loop-at.lookups.items c.in_ok-more.more.items c.append.new.self.items was.gone
-          (drop_split queries c.loop-at.at c.min-end.result further)
+    let further : c.loop-at.at ≤ c.end_of_few-end.result = omega (arith, c.end_of_few-end.ensures.more, c.end_of_few-end.ensures.within) in record {
+      within = omega (arith, c.end_of_few-end.ensures.more, c.end_of_few-end.ensures.within);
+      gone = gone_more (Looks (g.K.Keeper.tables c.args.keeper.now)) queries (drop c.loop-at.at queries) _ (drop c.end_of_few-end.result queries) c.loop-at.lookups.items c.in_ok-more.more.items c.append.new.self.items was.gone
+          (drop_split queries c.loop-at.at c.end_of_few-end.result further)
           (looks_then (g.K.Keeper.tables c.args.keeper.now) (g.K.Keeper.tables c.loop-at.keeper) _ c.in_ok-more.more.items was.same few.lookups) c.in_ok-append.ensures.items;
       same = few.same ∙ was.same;
       later = omega (arith, was.later, few.faults.later);

@@ -14,23 +14,23 @@ loop-at-init g c = record {
 pub loop-row-init : goal.loop-row-init
 loop-row-init g c =
     let outcomes = c.args.outcomes.now in
-    let further : c.loop-at.at ≤ c.min-end.result = omega (arith, c.min-end.ensures) in record {
-      puts = put_few outcomes _ (drop c.min-end.result outcomes) (drop c.loop-at.at outcomes) c.in_ok-rows.rows.items _ (g.K.Keeper.tables c.args.keeper.now) (g.K.Keeper.tables c.loop-at.keeper) c.loop-at.invariant.puts
-          (drop_split outcomes c.loop-at.at c.min-end.result further) c.in_ok-rows.ensures (search rules);
+    let further : c.loop-at.at ≤ c.end_of_few-end.result = omega (arith, c.end_of_few-end.ensures.more, c.end_of_few-end.ensures.within) in record {
+      puts = put_few outcomes _ (drop c.end_of_few-end.result outcomes) (drop c.loop-at.at outcomes) c.in_ok-rows.rows.items _ (g.K.Keeper.tables c.args.keeper.now) (g.K.Keeper.tables c.loop-at.keeper) c.loop-at.invariant.puts
+          (drop_split outcomes c.loop-at.at c.end_of_few-end.result further) c.in_ok-rows.ensures (search rules);
       later = c.loop-at.invariant.later;
     }
 
 pub loop-row-preserved : goal.loop-row-preserved
 loop-row-preserved g c = record {
-  puts = put_more c.args.outcomes.now (drop c.min-end.result c.args.outcomes.now) (into_iter_items c.loop-row.row-iterator) (into_iter_items c.next.new.self) c.in-Some.row (g.K.Keeper.tables c.args.keeper.now) (g.K.Keeper.tables c.loop-row.keeper)
+  puts = put_more c.args.outcomes.now (drop c.end_of_few-end.result c.args.outcomes.now) (into_iter_items c.loop-row.row-iterator) (into_iter_items c.next.new.self) c.in-Some.row (g.K.Keeper.tables c.args.keeper.now) (g.K.Keeper.tables c.loop-row.keeper)
       (g.K.Keeper.tables c.put_row.new.keeper) c.loop-row.invariant.puts (search rules) c.in_ok-put_row.ensures.ok;
   later = omega (arith, c.loop-row.invariant.later, c.in_ok-put_row.ensures.faults.later);
 }
 
 pub loop-at-preserved : goal.loop-at-preserved
 loop-at-preserved g c = record {
-  within = omega (arith, c.min-end.ensures);
-  puts = few_put c.args.outcomes.now (drop c.min-end.result c.args.outcomes.now) (into_iter_items c.loop-row.row-iterator) (g.K.Keeper.tables c.args.keeper.now) (g.K.Keeper.tables c.loop-row.keeper) c.loop-row.invariant.puts (search rules);
+  within = omega (arith, c.end_of_few-end.ensures.more, c.end_of_few-end.ensures.within);
+  puts = few_put c.args.outcomes.now (drop c.end_of_few-end.result c.args.outcomes.now) (into_iter_items c.loop-row.row-iterator) (g.K.Keeper.tables c.args.keeper.now) (g.K.Keeper.tables c.loop-row.keeper) c.loop-row.invariant.puts (search rules);
   later = c.loop-row.invariant.later;
 }
 

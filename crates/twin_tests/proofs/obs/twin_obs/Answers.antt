@@ -27,7 +27,7 @@ named_ob-requires-clause-line c =
     each_is line_of (SpeaksOf set) items (set_lines set) listed (lines_speak set structure) c.loop-line.line-index (End 0) lt
 
 pub named_ob-requires-clause-made : goal.named_ob-requires-clause-made
-named_ob-requires-clause-made c = subst (λ (z : Set). AreMade z c.loop-line.nodes.dag c.loop-line.nodes.made.items) (sym c.set-set.ensures.value) c.loop-line.invariant.parts
+named_ob-requires-clause-made c = subst (λ (z : Set). AreMade z c.loop-line.nodes.dag c.loop-line.nodes.made.items) (sym c.set-set.ensures.value) c.loop-line.invariant.atoms
 
 pub loop-line-init : goal.loop-line-init
 loop-line-init c =
@@ -47,8 +47,8 @@ loop-line-preserved c =
     let lt' : i < length (map line_of items) = omega (arith, long, lt) in
     let at : line_of line ≡ get_or (map line_of items) i (line_of line) = ap line_of (get_again items i (End 0) lt) ∙ sym (get_or-map line_of items i line) in
     let here = subst (λ (z : Set). IsNamedOf z (line_of line) c.in_ok-named.named) c.set-set.ensures.value c.in_ok-named.ensures.named in
-    let parts = subst (λ (z : Set). AreMade z c.named_ob.new.nodes.dag c.named_ob.new.nodes.made.items) c.set-set.ensures.value c.in_ok-named.ensures.made in
-    obs_step c.args.sound.now c.loop-line.nodes.dag c.named_ob.new.nodes.dag c.loop-line.nodes.made.items c.named_ob.new.nodes.made.items c.in_ok-frames.frames (map line_of items) c.loop-line.obs.items c.push.new.self.items i (line_of line) c.in_ok-named.named c.in_ok-named.ensures.keeps lt' at c.in_ok-push.ensures.items here parts c.loop-line.invariant
+    let atoms = subst (λ (z : Set). AreMade z c.named_ob.new.nodes.dag c.named_ob.new.nodes.made.items) c.set-set.ensures.value c.in_ok-named.ensures.made in
+    obs_step c.args.sound.now c.loop-line.nodes.dag c.named_ob.new.nodes.dag c.loop-line.nodes.made.items c.named_ob.new.nodes.made.items c.in_ok-frames.frames (map line_of items) c.loop-line.obs.items c.push.new.self.items i (line_of line) c.in_ok-named.named c.in_ok-named.ensures.keeps lt' at c.in_ok-push.ensures.items here atoms c.loop-line.invariant
 
 pub returns : goal.returns
 returns c =

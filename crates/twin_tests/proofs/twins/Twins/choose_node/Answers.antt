@@ -7,59 +7,59 @@ use Rattle.line_laws.specs.Windows.{named_rows}
 use Rattle.set_tree.specs.Formulas.{meaning_of}
 use Rattle.set_tree.specs.Parts.{assumed}
 use Rattle.word_dag.specs.Nodes.{Naming}
-use Rattle.twin_tests.specs.declared.shared.Says.TheVariants.{Pairs, AssumedFirst, AssumedSecond}
+use Rattle.twin_tests.specs.declared.shared.Predicate.TheVariants.{Pairs, AssumedFirst, AssumedSecond}
 use Rattle.twin_tests.proofs.Framed.{frames_later}
 use Rattle.twin_tests.proofs.Sharing.{hold_edge, made_later, room_for, test_of}
 use Rattle.elab_node.proofs.Kept.{keeps_then}
 use Rattle.twin_tests.proofs.Standing.{has_later, tests_later}
 use Rattle.twin_tests.proofs.twins.Twins.choose_node.Goals as goal
 
-pub part_node-requires-clause-room : goal.part_node-requires-clause-room
-part_node-requires-clause-room c =
+pub atom_node-requires-clause-room : goal.atom_node-requires-clause-room
+atom_node-requires-clause-room c =
     let set = c.args.self.now.set.now in
     let frames = c.args.self.now.frames in
     let end = c.edge_end-end.result in
     let held = hold_edge set c.args.nodes.now.dag frames c.args.p c.args.q c.args.n end c.requires.structure c.requires.position c.requires.next c.requires.most c.requires.frames c.edge_end-end.ensures in
     room_for set frames c.new.result Pairs c.args.p c.args.n end c.new.ensures c.requires.position held.first held.second (c.requires.least, c.requires.most, held.own)
 
-pub part_node-requires-2-clause-room : goal.part_node-requires-2-clause-room
-part_node-requires-2-clause-room c =
+pub atom_node-requires-2-clause-room : goal.atom_node-requires-2-clause-room
+atom_node-requires-2-clause-room c =
     let set = c.args.self.now.set.now in
     let frames = c.args.self.now.frames in
     let end = c.edge_end-end.result in
     let held = hold_edge set c.args.nodes.now.dag frames c.args.p c.args.q c.args.n end c.requires.structure c.requires.position c.requires.next c.requires.most c.requires.frames c.edge_end-end.ensures in
     room_for set frames c.new-2.result AssumedFirst c.args.q c.args.n end c.new-2.ensures c.requires.next held.first held.second held.next
 
-pub part_node-requires-2-clause-frames : goal.part_node-requires-2-clause-frames
-part_node-requires-2-clause-frames c = frames_later c.args.nodes.now.dag c.part_node.new.nodes.dag c.args.self.now.set.now c.args.self.now.frames c.in_ok-pairs.ensures.keeps c.requires.frames
+pub atom_node-requires-2-clause-frames : goal.atom_node-requires-2-clause-frames
+atom_node-requires-2-clause-frames c = frames_later c.args.nodes.now.dag c.atom_node.new.nodes.dag c.args.self.now.set.now c.args.self.now.frames c.in_ok-pairs.ensures.keeps c.requires.frames
 
-pub part_node-requires-3-clause-room : goal.part_node-requires-3-clause-room
-part_node-requires-3-clause-room c =
+pub atom_node-requires-3-clause-room : goal.atom_node-requires-3-clause-room
+atom_node-requires-3-clause-room c =
     let set = c.args.self.now.set.now in
     let frames = c.args.self.now.frames in
     let end = c.edge_end-end.result in
     let held = hold_edge set c.args.nodes.now.dag frames c.args.p c.args.q c.args.n end c.requires.structure c.requires.position c.requires.next c.requires.most c.requires.frames c.edge_end-end.ensures in
     room_for set frames c.new-3.result AssumedSecond c.args.q c.args.n end c.new-3.ensures c.requires.next held.first held.second held.next
 
-pub part_node-requires-3-clause-frames : goal.part_node-requires-3-clause-frames
-part_node-requires-3-clause-frames c =
+pub atom_node-requires-3-clause-frames : goal.atom_node-requires-3-clause-frames
+atom_node-requires-3-clause-frames c =
     let d0 = c.args.nodes.now.dag in
-    let d1 = c.part_node.new.nodes.dag in
-    let d2 = c.part_node-2.new.nodes.dag in
+    let d1 = c.atom_node.new.nodes.dag in
+    let d2 = c.atom_node-2.new.nodes.dag in
     frames_later d0 d2 c.args.self.now.set.now c.args.self.now.frames (keeps_then d0 d1 d2 c.in_ok-pairs.ensures.keeps c.in_ok-chosen.ensures.keeps) c.requires.frames
 
 pub both-requires-clause-first : goal.both-requires-clause-first
 both-requires-clause-first c =
-    let d1 = c.part_node.new.nodes.dag in
-    let d2 = c.part_node-2.new.nodes.dag in
-    let d3 = c.part_node-3.new.nodes.dag in
+    let d1 = c.atom_node.new.nodes.dag in
+    let d2 = c.atom_node-2.new.nodes.dag in
+    let d3 = c.atom_node-3.new.nodes.dag in
     has_later d1 d3 c.in_ok-pairs.pairs 1 (keeps_then d1 d2 d3 c.in_ok-chosen.ensures.keeps c.in_ok-other.ensures.keeps) c.in_ok-pairs.ensures.width
 
 pub both-requires-clause-second : goal.both-requires-clause-second
-both-requires-clause-second c = has_later c.part_node-2.new.nodes.dag c.part_node-3.new.nodes.dag c.in_ok-chosen.chosen 1 c.in_ok-other.ensures.keeps c.in_ok-chosen.ensures.width
+both-requires-clause-second c = has_later c.atom_node-2.new.nodes.dag c.atom_node-3.new.nodes.dag c.in_ok-chosen.chosen 1 c.in_ok-other.ensures.keeps c.in_ok-chosen.ensures.width
 
 pub negated-requires : goal.negated-requires
-negated-requires c = has_later c.part_node-3.new.nodes.dag c.both.new.dag c.in_ok-other.other 1 c.in_ok-first.ensures.keeps c.in_ok-other.ensures.width
+negated-requires c = has_later c.atom_node-3.new.nodes.dag c.both.new.dag c.in_ok-other.other 1 c.in_ok-first.ensures.keeps c.in_ok-other.ensures.width
 
 pub both-requires-2-clause-first : goal.both-requires-2-clause-first
 both-requires-2-clause-first c = has_later c.both.new.dag c.negated.new.dag c.in_ok-first.first 1 c.in_ok-refused.ensures.keeps c.in_ok-first.ensures.width
@@ -68,9 +68,9 @@ pub returns-clause-keeps : goal.returns-clause-keeps
 returns-clause-keeps c =
     IfOk-weaker c.both-2.result _ _ (λ i made.
     let d0 = c.args.nodes.now.dag in
-    let d1 = c.part_node.new.nodes.dag in
-    let d2 = c.part_node-2.new.nodes.dag in
-    let d3 = c.part_node-3.new.nodes.dag in
+    let d1 = c.atom_node.new.nodes.dag in
+    let d2 = c.atom_node-2.new.nodes.dag in
+    let d3 = c.atom_node-3.new.nodes.dag in
     let d4 = c.both.new.dag in
     let d5 = c.negated.new.dag in
     let k2 = keeps_then d0 d1 d2 c.in_ok-pairs.ensures.keeps c.in_ok-chosen.ensures.keeps in
@@ -82,11 +82,11 @@ returns-clause-keeps c =
 pub returns-clause-made : goal.returns-clause-made
 returns-clause-made c =
     IfOk-weaker c.both-2.result _ _ (λ i made.
-    let d3 = c.part_node-3.new.nodes.dag in
+    let d3 = c.atom_node-3.new.nodes.dag in
     let d4 = c.both.new.dag in
     let d5 = c.negated.new.dag in
     let k5 = keeps_then d3 d4 d5 c.in_ok-first.ensures.keeps c.in_ok-refused.ensures.keeps in
-    made_later c.args.self.now.set.now d3 c.both-2.new.dag c.part_node-3.new.nodes.made.items (keeps_then d3 d5 c.both-2.new.dag k5 made) c.in_ok-other.ensures.made) c.both-2.ensures.keeps
+    made_later c.args.self.now.set.now d3 c.both-2.new.dag c.atom_node-3.new.nodes.made.items (keeps_then d3 d5 c.both-2.new.dag k5 made) c.in_ok-other.ensures.made) c.both-2.ensures.keeps
 
 pub returns-clause-node : goal.returns-clause-node
 returns-clause-node c =
@@ -97,9 +97,9 @@ returns-clause-node c =
     let n = c.args.n in
     let end = c.edge_end-end.result in
     let end_is : end ≡ edge_end set p q n = c.edge_end-end.ensures in
-    let d1 = c.part_node.new.nodes.dag in
-    let d2 = c.part_node-2.new.nodes.dag in
-    let d3 = c.part_node-3.new.nodes.dag in
+    let d1 = c.atom_node.new.nodes.dag in
+    let d2 = c.atom_node-2.new.nodes.dag in
+    let d3 = c.atom_node-3.new.nodes.dag in
     let d4 = c.both.new.dag in
     let d5 = c.negated.new.dag in
     let k2 = c.in_ok-chosen.ensures.keeps in

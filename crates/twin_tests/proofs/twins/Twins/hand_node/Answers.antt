@@ -6,90 +6,90 @@ use Rattle.line_laws.specs.Tests.{pairs_to, same_hands, starts}
 use Rattle.line_laws.specs.Windows.{named_rows}
 use Rattle.set_tree.specs.Formulas.{meaning_of}
 use Rattle.word_dag.specs.Nodes.{Naming}
-use Rattle.twin_tests.specs.declared.shared.Says.TheVariants.{Pairs, StartsFirst, StartsSecond, Hands}
+use Rattle.twin_tests.specs.declared.shared.Predicate.TheVariants.{Pairs, StartsFirst, StartsSecond, Hands}
 use Rattle.twin_tests.proofs.Framed.{frames_later}
 use Rattle.twin_tests.proofs.Sharing.{hold_edge, made_later, room_for, test_of}
 use Rattle.elab_node.proofs.Kept.{keeps_then}
 use Rattle.twin_tests.proofs.Standing.{has_later, tests_later}
 use Rattle.twin_tests.proofs.twins.Twins.hand_node.Goals as goal
 
-pub part_node-requires-clause-room : goal.part_node-requires-clause-room
-part_node-requires-clause-room c =
+pub atom_node-requires-clause-room : goal.atom_node-requires-clause-room
+atom_node-requires-clause-room c =
     let set = c.args.self.now.set.now in
     let frames = c.args.self.now.frames in
     let end = c.edge_end-end.result in
     let held = hold_edge set c.args.nodes.now.dag frames c.args.p c.args.q c.args.n end c.requires.structure c.requires.position c.requires.next c.requires.most c.requires.frames c.edge_end-end.ensures in
     room_for set frames c.new.result Pairs c.args.p c.args.n end c.new.ensures c.requires.position held.first held.second (c.requires.least, c.requires.most, held.own)
 
-pub part_node-requires-2-clause-room : goal.part_node-requires-2-clause-room
-part_node-requires-2-clause-room c =
+pub atom_node-requires-2-clause-room : goal.atom_node-requires-2-clause-room
+atom_node-requires-2-clause-room c =
     let set = c.args.self.now.set.now in
     let frames = c.args.self.now.frames in
     let end = c.edge_end-end.result in
     let held = hold_edge set c.args.nodes.now.dag frames c.args.p c.args.q c.args.n end c.requires.structure c.requires.position c.requires.next c.requires.most c.requires.frames c.edge_end-end.ensures in
     room_for set frames c.new-2.result StartsFirst c.args.q c.args.n end c.new-2.ensures c.requires.next held.first held.second held.next
 
-pub part_node-requires-2-clause-frames : goal.part_node-requires-2-clause-frames
-part_node-requires-2-clause-frames c = frames_later c.args.nodes.now.dag c.part_node.new.nodes.dag c.args.self.now.set.now c.args.self.now.frames c.in_ok-pairs.ensures.keeps c.requires.frames
+pub atom_node-requires-2-clause-frames : goal.atom_node-requires-2-clause-frames
+atom_node-requires-2-clause-frames c = frames_later c.args.nodes.now.dag c.atom_node.new.nodes.dag c.args.self.now.set.now c.args.self.now.frames c.in_ok-pairs.ensures.keeps c.requires.frames
 
-pub part_node-requires-3-clause-room : goal.part_node-requires-3-clause-room
-part_node-requires-3-clause-room c =
+pub atom_node-requires-3-clause-room : goal.atom_node-requires-3-clause-room
+atom_node-requires-3-clause-room c =
     let set = c.args.self.now.set.now in
     let frames = c.args.self.now.frames in
     let end = c.edge_end-end.result in
     let held = hold_edge set c.args.nodes.now.dag frames c.args.p c.args.q c.args.n end c.requires.structure c.requires.position c.requires.next c.requires.most c.requires.frames c.edge_end-end.ensures in
     room_for set frames c.new-3.result StartsSecond c.args.q c.args.n end c.new-3.ensures c.requires.next held.first held.second held.next
 
-pub part_node-requires-3-clause-frames : goal.part_node-requires-3-clause-frames
-part_node-requires-3-clause-frames c =
+pub atom_node-requires-3-clause-frames : goal.atom_node-requires-3-clause-frames
+atom_node-requires-3-clause-frames c =
     let d0 = c.args.nodes.now.dag in
-    let d1 = c.part_node.new.nodes.dag in
-    let d2 = c.part_node-2.new.nodes.dag in
+    let d1 = c.atom_node.new.nodes.dag in
+    let d2 = c.atom_node-2.new.nodes.dag in
     frames_later d0 d2 c.args.self.now.set.now c.args.self.now.frames (keeps_then d0 d1 d2 c.in_ok-pairs.ensures.keeps c.in_ok-here.ensures.keeps) c.requires.frames
 
-pub part_node-requires-4-clause-room : goal.part_node-requires-4-clause-room
-part_node-requires-4-clause-room c =
+pub atom_node-requires-4-clause-room : goal.atom_node-requires-4-clause-room
+atom_node-requires-4-clause-room c =
     let set = c.args.self.now.set.now in
     let frames = c.args.self.now.frames in
     let end = c.edge_end-end.result in
     let held = hold_edge set c.args.nodes.now.dag frames c.args.p c.args.q c.args.n end c.requires.structure c.requires.position c.requires.next c.requires.most c.requires.frames c.edge_end-end.ensures in
     room_for set frames c.new-4.result Hands c.args.q c.args.n end c.new-4.ensures c.requires.next held.first held.second held.next
 
-pub part_node-requires-4-clause-frames : goal.part_node-requires-4-clause-frames
-part_node-requires-4-clause-frames c =
+pub atom_node-requires-4-clause-frames : goal.atom_node-requires-4-clause-frames
+atom_node-requires-4-clause-frames c =
     let d0 = c.args.nodes.now.dag in
-    let d1 = c.part_node.new.nodes.dag in
-    let d2 = c.part_node-2.new.nodes.dag in
-    let d3 = c.part_node-3.new.nodes.dag in
+    let d1 = c.atom_node.new.nodes.dag in
+    let d2 = c.atom_node-2.new.nodes.dag in
+    let d3 = c.atom_node-3.new.nodes.dag in
     let k2 = keeps_then d0 d1 d2 c.in_ok-pairs.ensures.keeps c.in_ok-here.ensures.keeps in
     frames_later d0 d3 c.args.self.now.set.now c.args.self.now.frames (keeps_then d0 d2 d3 k2 c.in_ok-there.ensures.keeps) c.requires.frames
 
 pub both-requires-clause-first : goal.both-requires-clause-first
 both-requires-clause-first c =
-    let d1 = c.part_node.new.nodes.dag in
-    let d2 = c.part_node-2.new.nodes.dag in
-    let d3 = c.part_node-3.new.nodes.dag in
-    let d4 = c.part_node-4.new.nodes.dag in
+    let d1 = c.atom_node.new.nodes.dag in
+    let d2 = c.atom_node-2.new.nodes.dag in
+    let d3 = c.atom_node-3.new.nodes.dag in
+    let d4 = c.atom_node-4.new.nodes.dag in
     let k3 = keeps_then d1 d2 d3 c.in_ok-here.ensures.keeps c.in_ok-there.ensures.keeps in
     has_later d1 d4 c.in_ok-pairs.pairs 1 (keeps_then d1 d3 d4 k3 c.in_ok-hands.ensures.keeps) c.in_ok-pairs.ensures.width
 
 pub both-requires-clause-second : goal.both-requires-clause-second
 both-requires-clause-second c =
-    let d2 = c.part_node-2.new.nodes.dag in
-    let d3 = c.part_node-3.new.nodes.dag in
-    let d4 = c.part_node-4.new.nodes.dag in
+    let d2 = c.atom_node-2.new.nodes.dag in
+    let d3 = c.atom_node-3.new.nodes.dag in
+    let d4 = c.atom_node-4.new.nodes.dag in
     has_later d2 d4 c.in_ok-here.here 1 (keeps_then d2 d3 d4 c.in_ok-there.ensures.keeps c.in_ok-hands.ensures.keeps) c.in_ok-here.ensures.width
 
 pub both-requires-2-clause-second : goal.both-requires-2-clause-second
 both-requires-2-clause-second c =
-    let d3 = c.part_node-3.new.nodes.dag in
-    let d4 = c.part_node-4.new.nodes.dag in
+    let d3 = c.atom_node-3.new.nodes.dag in
+    let d4 = c.atom_node-4.new.nodes.dag in
     let d5 = c.both.new.dag in
     has_later d3 d5 c.in_ok-there.there 1 (keeps_then d3 d4 d5 c.in_ok-hands.ensures.keeps c.in_ok-first.ensures.keeps) c.in_ok-there.ensures.width
 
 pub negated-requires : goal.negated-requires
 negated-requires c =
-    let d4 = c.part_node-4.new.nodes.dag in
+    let d4 = c.atom_node-4.new.nodes.dag in
     let d5 = c.both.new.dag in
     let d6 = c.both-2.new.dag in
     has_later d4 d6 c.in_ok-hands.hands 1 (keeps_then d4 d5 d6 c.in_ok-first.ensures.keeps c.in_ok-second.ensures.keeps) c.in_ok-hands.ensures.width
@@ -101,10 +101,10 @@ pub returns-clause-keeps : goal.returns-clause-keeps
 returns-clause-keeps c =
     IfOk-weaker c.both-3.result _ _ (λ i made.
     let d0 = c.args.nodes.now.dag in
-    let d1 = c.part_node.new.nodes.dag in
-    let d2 = c.part_node-2.new.nodes.dag in
-    let d3 = c.part_node-3.new.nodes.dag in
-    let d4 = c.part_node-4.new.nodes.dag in
+    let d1 = c.atom_node.new.nodes.dag in
+    let d2 = c.atom_node-2.new.nodes.dag in
+    let d3 = c.atom_node-3.new.nodes.dag in
+    let d4 = c.atom_node-4.new.nodes.dag in
     let d5 = c.both.new.dag in
     let d6 = c.both-2.new.dag in
     let d7 = c.negated.new.dag in
@@ -119,13 +119,13 @@ returns-clause-keeps c =
 pub returns-clause-made : goal.returns-clause-made
 returns-clause-made c =
     IfOk-weaker c.both-3.result _ _ (λ i made.
-    let d4 = c.part_node-4.new.nodes.dag in
+    let d4 = c.atom_node-4.new.nodes.dag in
     let d5 = c.both.new.dag in
     let d6 = c.both-2.new.dag in
     let d7 = c.negated.new.dag in
     let k6 = keeps_then d4 d5 d6 c.in_ok-first.ensures.keeps c.in_ok-second.ensures.keeps in
     let k7 = keeps_then d4 d6 d7 k6 c.in_ok-differ.ensures.keeps in
-    made_later c.args.self.now.set.now d4 c.both-3.new.dag c.part_node-4.new.nodes.made.items (keeps_then d4 d7 c.both-3.new.dag k7 made) c.in_ok-hands.ensures.made) c.both-3.ensures.keeps
+    made_later c.args.self.now.set.now d4 c.both-3.new.dag c.atom_node-4.new.nodes.made.items (keeps_then d4 d7 c.both-3.new.dag k7 made) c.in_ok-hands.ensures.made) c.both-3.ensures.keeps
 
 pub returns-clause-node : goal.returns-clause-node
 returns-clause-node c =
@@ -136,10 +136,10 @@ returns-clause-node c =
     let n = c.args.n in
     let end = c.edge_end-end.result in
     let end_is : end ≡ edge_end set p q n = c.edge_end-end.ensures in
-    let d1 = c.part_node.new.nodes.dag in
-    let d2 = c.part_node-2.new.nodes.dag in
-    let d3 = c.part_node-3.new.nodes.dag in
-    let d4 = c.part_node-4.new.nodes.dag in
+    let d1 = c.atom_node.new.nodes.dag in
+    let d2 = c.atom_node-2.new.nodes.dag in
+    let d3 = c.atom_node-3.new.nodes.dag in
+    let d4 = c.atom_node-4.new.nodes.dag in
     let d5 = c.both.new.dag in
     let d6 = c.both-2.new.dag in
     let d7 = c.negated.new.dag in

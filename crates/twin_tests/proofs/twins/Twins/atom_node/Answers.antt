@@ -1,5 +1,5 @@
 use Rattle.twin_tests.proofs.Sharing.{made_later}
-use Rattle.twin_tests.proofs.twins.Twins.part_node.Goals as goal
+use Rattle.twin_tests.proofs.twins.Twins.atom_node.Goals as goal
 
 pub returns-in-Some-clause-width : goal.returns-in-Some-clause-width
 returns-in-Some-clause-width c = (c.in-Some.ensures c.args.self.now.set.now c.requires.made).node

@@ -1,7 +1,7 @@
 use Rattle.std.proofs.Common.{◌-◌, ◌<◌, ◌≤◌, length}
-use Rattle.proof_store.proofs.helping.end_of_few.Given as goal
+use Rattle.proof_store.proofs.weight.end_of_few.Given as goal
 
--- past the first obligation, and no further than the last
+-- past the first one, and no further than the last
 abbrev pub invariant-loop-end : goal.invariant-loop-end
 invariant-loop-end l = record {
   more : l.at < l.end;
