@@ -64,7 +64,7 @@ pub(crate) fn end_of_few<T: Weighs>(all: &[T], at: usize, workers: u32) -> usize
     ensures more { at < result }
     ensures within { result ≤ length all.now }
 {
-    let most = all.len().min(at + AT_ONCE);
+    let most = all.len().min(at.saturating_add(AT_ONCE));
     let mut end = at + 1;
     let mut weight = all[at].weight();
     while end < most && (end - at < workers as usize || weight < WEIGHT_AT_ONCE) {
