@@ -13,3 +13,4 @@ pub mod Exists
 pub mod Loops
 pub mod InRange
 pub mod Tidying
+pub mod Whole

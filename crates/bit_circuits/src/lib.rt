@@ -15,4 +15,4 @@ pub use laws::{
     adder_adds, clauses_run, product_sound, rows_compute, run_exists, wires_compute, words_compare,
     words_move, words_shift,
 };
-pub use tidy::{negative, positive, tidy_clause};
+pub use tidy::{is_tidy, negative, positive, tidy_clause};

@@ -1,5 +1,6 @@
 //! Clauses with each literal once.
-ghost use Rattle.std.specs.Prelude.{◌≡◌, IfOk};
+ghost use Rattle.std.specs.Prelude.{◌≡◌, ◌≢◌, ◌↔◌, true, All, IfOk, IsTrue, Some};
+ghost use Rattle.clause_check.specs.Clauses.{IsClause};
 ghost use Rattle.bit_circuits.specs.Literals.{plus, minus, same_lit, has_lit, tidy};
 
 use clause_check::{Clause, Lit};
@@ -40,6 +41,25 @@ fn has(lits: &[Lit], lit: Lit) -> bool
         }
     }
     false
+}
+
+// Whether none of these literals is of this variable.
+fn lacks(lits: &[Lit], var: u32) -> bool
+    ensures { IsTrue result ↔ All (λ l. var ≢ l.var) lits.now }
+{
+    lits.iter().all(|l| l.var != var)
+}
+
+/// Whether these literals are a clause as they stand, since no variable stands twice. They should be few: the rest is gone through for each.
+#[tactic(auto, using(crate::proofs::Whole::tidy_whole))]
+pub fn is_tidy(lits: &[Lit]) -> bool
+    ensures clause { IsTrue result ↔ IsClause lits.now }
+    ensures tidy { result ≡ true → tidy lits.now ≡ Some lits.now }
+{
+    match lits {
+        [] => true,
+        [first, rest @ ..] => lacks(rest, first.var) && is_tidy(rest),
+    }
 }
 
 /// The clause of these literals, each once and in the order of their first places, or none where a literal stands beside its

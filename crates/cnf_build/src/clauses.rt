@@ -4,14 +4,17 @@ ghost use Rattle.std.specs.Option.{option_to_list};
 ghost use Rattle.bit_circuits.specs.Literals.{tidy, tidied};
 ghost use Rattle.bit_circuits.specs.Gates.{raw_clauses, clauses_from};
 
-use bit_circuits::{Gate, negative, positive, tidy_clause};
+use bit_circuits::{Gate, is_tidy, negative, positive, tidy_clause};
 use clause_check::{Clauses, Lit, in_32_bits};
 use std::alloc::{AllocError, Global};
 
-/// Adds the clause of these literals, unless it holds in any case.
+/// Adds the clause of these literals, unless it holds in any case. Most are a clause as they stand, which is added without a copy.
 pub fn add_clause(alloc: Global, clauses: &mut Clauses, lits: &[Lit]) -> Result<(), AllocError>
     ensures { OnOk result (clauses.new ≡ clauses.old ++ option_to_list (tidy lits.now)) }
 {
+    if is_tidy(lits) {
+        return clauses.push(lits);
+    }
     match tidy_clause(alloc, lits)? {
         Some(clause) => clauses.push(clause.lits()),
         None => Ok(()),

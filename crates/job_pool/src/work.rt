@@ -89,11 +89,11 @@ pub(crate) fn work_all<R: Threads + Sync, T: Sync, X: Send + Drop, J: Task<T, X>
     if workers == 1 {
         return work(shift, seat);
     }
-    let half = workers / 2;
-    let rest = workers - half;
+    let rest = workers - 1;
     let other = shift
         .tickets
-        .split(&mut seat, half as u64 * (shift.elements.len() as u64 + 1));
+        .split(&mut seat, shift.elements.len() as u64 + 1);
+    // All threads are started from this one: those that a new thread starts are often put onto its own processor.
     let ((mut seat, mine), (other, theirs)) = join(
         rt,
         || -> (Seat, Result<Vec<Done<X>>, AllocError>)
@@ -103,11 +103,11 @@ pub(crate) fn work_all<R: Threads + Sync, T: Sync, X: Send + Drop, J: Task<T, X>
             ensures done { IfOk result.1 (λ v. AreDone (J.ends shift.entry.now.task.now) shift.entry.now.elements.now rest result.0.numbers v.items) }
         { work_all(rt, shift, seat, rest) },
         || -> (Seat, Result<Vec<Done<X>>, AllocError>)
-            requires { IsSync R.row × IsSync T.row × IsSend X.row × IsSync J.row × (length shift.now.elements.now < 2 ^ 32)
-                × (0 < half) × (half ≤ 64) × IsReady shift.now.tickets.now (length shift.now.elements.now) half other }
+            requires { IsSync T.row × IsSend X.row × IsSync J.row × (length shift.now.elements.now < 2 ^ 32)
+                × IsReady shift.now.tickets.now (length shift.now.elements.now) 1 other }
             ensures seat { (result.0.word ≡ other.word) × (length result.0.numbers + result.0.allowance ≡ other.allowance) }
-            ensures done { IfOk result.1 (λ v. AreDone (J.ends shift.entry.now.task.now) shift.entry.now.elements.now half result.0.numbers v.items) }
-        { work_all(rt, shift, other, half) },
+            ensures done { IfOk result.1 (λ v. AreDone (J.ends shift.entry.now.task.now) shift.entry.now.elements.now 1 result.0.numbers v.items) }
+        { work(shift, other) },
     );
     shift.tickets.join(&mut seat, other);
     (seat, both(mine, theirs))
