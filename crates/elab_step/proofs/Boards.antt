@@ -27,7 +27,8 @@ use Rattle.elab_node.specs.Nodes.{AddsFrees, IsNode, number_at}
 use Rattle.elab_node.proofs.Leaving.{declared_with}
 use Rattle.elab_node.proofs.Kept.{node_kept, number_kept, ready_kept, keeps_then, keeps_same, grows_then, frees_then, number_grown, ready_grown}
 use Rattle.elab_block.specs.declared.branches.Saved.{Saved}
-use Rattle.elab_block.specs.Saving.{node_at, saved_at, put_back, AreWithin, IsSaved}
+use Rattle.elab_block.specs.Saving.{node_at, saved_at, put_back, AreWithin, IsSaved, IsAway}
+use Rattle.elab_block.specs.Targets.{name_at}
 use Rattle.elab_block.specs.Sparing.{Covers}
 use Rattle.elab_block.specs.Standing.{AreLeavesOf, IsLeafOf, Lacks, AreApart, AreShown}
 use Rattle.elab_block.proofs.Joins.{apart_same}
@@ -220,14 +221,18 @@ module _ (gs : List Signal) (ls ms : List Leaf) (a b : List Node) (before : List
     apart = apart_same ls (put_back own (saved_at ms is)) last_same board.apart;
   }
 
-  pub last_shows : (k : Stmt) → Covers ls before k → Shows (λ c. run true (place_over gs) k c c) ls a ms b
-      → Shows (λ c. taking (names_of gs is) (run true (place_over gs) k c c) c) ls a (put_back own (saved_at ms is)) b
-  last_shows k covers shows e c h =
-      let d = run true (place_over gs) k c c in
+  pub last_shown : (f : Cycle → Cycle) → ((i : ℕ) → i < length ls → IsAway before i → (c : Cycle) → f c (name_at ls i) ≡ c (name_at ls i)) → Shows f ls a ms b
+      → Shows (λ c. taking (names_of gs is) (f c) c) ls a (put_back own (saved_at ms is)) b
+  last_shown f covers shows e c h =
+      let d = f c in
       let now : AreShown e b ls c = shown_kept e ls a b c keeps board.ready h in
       let there : AreShown e b ms d = shows e c h in
       shown_nodes e b d gs ms after.leaves there is own c (back_declared ms before) (apart_same ms own (back_declared ms before) after.apart) (each_within ms is moved)
-      (back_after e b ls ms before c d same (subst (λ z. AreShown e b z c) (sym (back_saved ls before saved)) now) there (λ i lt away. covers i lt away gs true c c board.leaves))
+      (back_after e b ls ms before c d same (subst (λ z. AreShown e b z c) (sym (back_saved ls before saved)) now) there (λ i lt away. covers i lt away c))
+
+  pub last_shows : (k : Stmt) → Covers ls before k → Shows (λ c. run true (place_over gs) k c c) ls a ms b
+      → Shows (λ c. taking (names_of gs is) (run true (place_over gs) k c c) c) ls a (put_back own (saved_at ms is)) b
+  last_shows k covers shows = last_shown (λ c. run true (place_over gs) k c c) (λ i lt away c. covers i lt away gs true c c board.leaves) shows
 
 zero_shows : (gs : List Signal) (ls : List Leaf) (a b : List Node) (i n : ℕ) → IsBoard gs ls a → Keeps a b → i < length ls → ((e : Naming) → number_at e b n ≡ 0) → Shows (taking (name_of gs i ∷ []) (λ y. 0)) ls a (with_node ls i n) b
 zero_shows gs ls a b i n board keeps lt z e c h =

@@ -8,3 +8,4 @@ pub mod Boards
 pub mod Runs
 pub mod Edges
 pub mod Solutions
+pub mod Steps

@@ -1,6 +1,7 @@
 //! Modules without instances as functions of words.
 #![tactic(auto)]
 
+mod blocks;
 mod edge;
 mod law;
 mod nets;

@@ -1,10 +1,11 @@
-use Rattle.std.proofs.Common.{arith, ◌+◌, ◌≤◌, ◌<◌, List, length, drop, get_or, refl, sym, subst}
+use Rattle.std.proofs.Common.{arith, ◌+◌, ◌≤◌, ◌<◌, ◌∙◌, List, length, drop, get_or, refl, sym, subst}
 use Rattle.elab_node.specs.declared.leaves.Leaf.{Leaf}
 use Rattle.elab_node.proofs.Kept.{keeps_then, made_node, made_number}
 use Rattle.vlog_tree.specs.declared.stmt.Stmt.{Stmt}
 use Rattle.vlog_runs.specs.Places.{Name}
 use Rattle.elab_step.specs.Boards.{statements, statement_at, picked, names_of}
-use Rattle.elab_step.proofs.Boards.{Clearing, Settling, leaf_wide, each_within, clearing_next, settling_start, settling_next, picked_at, number_among, names_at, names_all}
+use Rattle.elab_step.proofs.Boards.{Clearing, Settling, rest_is, leaf_wide, each_within, clearing_next, settling_start, settling_next, picked_at, number_among, names_at, names_all}
+use Rattle.elab_step.proofs.Steps.{blocks_same}
 use Rattle.elab_step.proofs.nets.settle.Goals as goal
 
 pub leaf-requires : goal.leaf-requires
@@ -40,7 +41,7 @@ returns-in_err-node-clause-keeps c = keeps_then c.args.dag.now c.loop-net.dag c.
 
 pub loop-net-preserved : goal.loop-net-preserved
 loop-net-preserved c =
-    let f = c.args.flat.now in
+    let f = c.args.text.now.flat.now in
     let is = c.args.nets.now in
     let k = c.loop-net.net-index in
     let i = get_or is k 0 in
@@ -61,7 +62,7 @@ loop-net-preserved c =
 
 pub loop-place-init : goal.loop-place-init
 loop-place-init c =
-    let f = c.args.flat.now in
+    let f = c.args.text.now.flat.now in
     let is = c.args.nets.now in
     let ks = picked (statements f) c.args.places.now in
     let le : length is ≤ c.loop-net.net-index = omega arith in
@@ -82,7 +83,7 @@ returns-in_err-drive-clause-keeps c = keeps_then c.args.dag.now c.loop-place.dag
 
 pub loop-place-preserved : goal.loop-place-preserved
 loop-place-preserved c =
-    let f = c.args.flat.now in
+    let f = c.args.text.now.flat.now in
     let ks = statements f in
     let is = c.args.places.now in
     let all = picked ks is in
@@ -93,3 +94,10 @@ loop-place-preserved c =
     let P : List Stmt → Type 0 = λ z. Settling f all xs z c.args.state.now c.args.dag.now c.loop-place.state c.loop-place.dag in
     settling_next f all xs k (picked ks (drop (i + 1) is)) c.args.state.now c.loop-place.state c.drive.new.state c.args.dag.now c.loop-place.dag c.drive.new.dag
     (subst P (picked_at ks is i (get_or is i 0) 0 lt refl) c.loop-place.invariant) c.in_ok-drive.ensures.keeps c.in_ok-drive.ensures.long c.in_ok-drive.ensures.board c.in_ok-drive.ensures.shows
+
+pub drive-requires-clause-blocks : goal.drive-requires-clause-blocks
+drive-requires-clause-blocks c =
+    let f = c.args.text.now.flat.now in
+    let old = c.requires.board.leaves in
+    let new = c.loop-place.invariant.board.leaves in
+    blocks_same c.args.state.now c.loop-place.state f.blocks c.args.text.now.blocks.items (rest_is f.signals c.loop-place.state new ∙ sym (rest_is f.signals c.args.state.now old)) c.requires.blocks

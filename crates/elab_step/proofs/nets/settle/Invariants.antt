@@ -4,8 +4,8 @@ use Rattle.elab_step.proofs.Boards.{Clearing, Settling}
 use Rattle.elab_step.proofs.nets.settle.Given as goal
 
 abbrev pub invariant-loop-net : goal.invariant-loop-net
-invariant-loop-net l = Clearing l.flat (names_of l.flat.signals l.nets) (names_of l.flat.signals (drop l.net-index l.nets)) l.fn.state l.fn.dag l.state l.dag
+invariant-loop-net l = Clearing l.text.flat.now (names_of l.text.flat.now.signals l.nets) (names_of l.text.flat.now.signals (drop l.net-index l.nets)) l.fn.state l.fn.dag l.state l.dag
 
 abbrev pub invariant-loop-place : goal.invariant-loop-place
 invariant-loop-place l =
-    Settling l.flat (picked (statements l.flat) l.places) (names_of l.flat.signals l.nets) (picked (statements l.flat) (drop l.place-index l.places)) l.fn.state l.fn.dag l.state l.dag
+    Settling l.text.flat.now (picked (statements l.text.flat.now) l.places) (names_of l.text.flat.now.signals l.nets) (picked (statements l.text.flat.now) (drop l.place-index l.places)) l.fn.state l.fn.dag l.state l.dag

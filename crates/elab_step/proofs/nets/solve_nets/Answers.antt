@@ -3,7 +3,9 @@ use Rattle.vlog_runs.specs.Places.{Name, Among}
 use Rattle.elab_block.specs.Saving.{AreWithin}
 use Rattle.elab_step.specs.Boards.{statements, picked, names_of, groups_of, list_in}
 use Rattle.elab_step.specs.Solving.{processes, drivers_in}
-use Rattle.elab_step.proofs.Boards.{Solving, all_within, group_at, groups_at, places_in, places_long, leaves_long, statements_long, solving_next}
+use Rattle.elab_node.proofs.Kept.{keeps_then}
+use Rattle.elab_step.proofs.Boards.{Solving, rest_is, all_within, group_at, groups_at, places_in, places_long, leaves_long, statements_long, solving_next}
+use Rattle.elab_step.proofs.Steps.{blocks_same}
 use Rattle.elab_step.proofs.nets.solve_nets.Goals as goal
 
 pub list_of-requires : goal.list_of-requires
@@ -56,3 +58,13 @@ loop-nets-preserved c =
     let cut : groups_of gs (drop i vs) ≡ names_of gs c.deref-in-loop-nets.result.now ∷ rest = groups_at gs vs i v _ lt c.nets-item.is ∙ ap (λ z. names_of gs z ∷ rest) (sym nets) in
     solving_next f all (names_of gs c.deref-in-loop-nets.result.now) rest js c.args.state.now c.loop-nets.state c.settle.new.state c.args.dag.now c.loop-nets.dag c.settle.new.dag
     (subst P cut c.loop-nets.invariant) c.in_ok-settle.ensures.keeps c.in_ok-settle.ensures.board e c.in_ok-settle.ensures.shows
+
+pub settle-requires-clause-blocks : goal.settle-requires-clause-blocks
+settle-requires-clause-blocks c =
+    let f = c.args.flat.now in
+    let old = c.requires.board.leaves in
+    let new = c.loop-nets.invariant.board.leaves in
+    blocks_same c.args.state.now c.loop-nets.state f.blocks c.in_ok-blocks_of.field-0.items (rest_is f.signals c.loop-nets.state new ∙ sym (rest_is f.signals c.args.state.now old)) c.in_ok-blocks_of.ensures
+
+pub returns-in_err-settle-clause-keeps : goal.returns-in_err-settle-clause-keeps
+returns-in_err-settle-clause-keeps c = keeps_then c.args.dag.now c.loop-nets.dag c.settle.new.dag c.loop-nets.invariant.keeps c.settle.ensures.keeps

@@ -1,0 +1,6 @@
+//! Laws of blocks: some signals need some of a block's statements alone.
+#![tactic(auto)]
+
+mod law;
+
+pub use law::{blocks_open, slices_give};

@@ -1,0 +1,4 @@
+pub mod Noting
+pub mod Putting
+pub mod Asking
+pub mod Slicing

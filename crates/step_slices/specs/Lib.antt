@@ -1,0 +1,3 @@
+pub mod Slices
+pub mod Writers
+pub mod Searching
