@@ -1,9 +1,9 @@
 // Runs that are repeated with one thing changed. Runs in a row that come to the same are told by one line.
-use crate::damage::{Damage, Kept, given, wrong};
-use crate::memory::{Given, failing_port, failing_put, run};
+use crate::memory::run;
 use crate::script::{World, number, request};
-use crate::told::{Asked, Tell, told, told_anew, told_twice};
+use crate::told::{Asked, told, told_anew, told_twice};
 use outside::{Keeper, MemKeeper, Text};
+use run_objects::{Damage, Given, Kept, Tell, failing_port, failing_put, given, wrong};
 use std::alloc::Global;
 use std::io;
 use std::ops::Range;

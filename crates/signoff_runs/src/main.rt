@@ -2,11 +2,8 @@
 //! and its status. The scripts `rows` and `memory` say what is run; `values` has expressions whose values are printed.
 #![tactic(auto)]
 
-mod aides;
-mod damage;
 mod each;
 mod files;
-mod lies;
 mod memory;
 mod obligations;
 mod script;

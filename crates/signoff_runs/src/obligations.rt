@@ -1,8 +1,7 @@
 // The obligations that a check decides, beside those that the makers of lines give.
-use crate::damage::wrong;
-use crate::memory::Key;
 use binding::Bound;
 use check_stages::bound_of;
+use run_objects::{Key, wrong};
 use std::alloc::{AllocError, Global};
 use std::{fs, io};
 use twin_tests::twin_obs;

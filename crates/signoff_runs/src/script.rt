@@ -1,12 +1,11 @@
 // The script of runs over objects in memory.
-use crate::aides::aide_of;
-use crate::damage::{Damage, Kept, given, wrong};
 use crate::each::{Each, repeat};
-use crate::memory::{Given, Key, run};
+use crate::memory::run;
 use crate::obligations::put_obligations;
 use crate::shown::put_run;
 use outside::{Keeper, MemKeeper, Text};
 use proof_store::migrate;
+use run_objects::{Damage, Given, Kept, Key, aide_of, given, wrong};
 use std::alloc::Global;
 use std::thread::Threads;
 use std::{fs, io};

@@ -1,20 +1,11 @@
 // What is printed of runs over objects in memory.
-use crate::memory::{Counts, Ran};
+use run_objects::{Counts, Ran, parts};
 use std::io;
 use std::io::Write;
 
 /// Prints bytes as they are.
 pub fn put(rt: &HostRuntime, bytes: &[u8]) -> io::Result<()> {
     io::writer(rt).write_all(bytes)
-}
-
-/// The status and the body of a reply. None: it has no head.
-pub fn parts(reply: &[u8]) -> Option<(&str, &str)> {
-    let text = str::from_utf8(reply).ok()?;
-    let (head, body) = text.split_once("\r\n\r\n")?;
-    let (_, rest) = head.split_once(' ')?;
-    let (status, _) = rest.split_once(' ')?;
-    Some((status, body))
 }
 
 /// Prints a reply: its status and its body.

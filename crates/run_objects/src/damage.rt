@@ -1,6 +1,5 @@
 // What a keeper has for the lines of a run, and changes of it.
-use crate::memory::Key;
-use outside::{Keeper, MemKeeper, OutFault};
+use outside::{Keeper, MemKeeper, OutFault, Text};
 use std::alloc::Global;
 use std::io;
 use step_records::{fits_version_1, read_steps, write_steps_1};
@@ -16,6 +15,13 @@ pub fn given<T: Drop>(res: Result<T, OutFault>) -> io::Result<T> {
         Ok(value) => Ok(value),
         Err(_) => Err(wrong()),
     }
+}
+
+/// A line of a report by its name, and the key of its proof, which is the text of its obligation.
+#[derive(Drop)]
+pub struct Key {
+    pub name: Text,
+    pub key: Vec<u8>,
 }
 
 /// What becomes of the proof of a line.
