@@ -152,6 +152,15 @@ def block_from_its_end(size):
     return module(f"{names}always @* begin\n{given}c{count - 1} = i;\nend\n"), SET
 
 
+def block_from_its_end_within_an_if(size):
+    """The same in a branch of an `if`, which is one statement, run for each signal."""
+    count = size // 45
+    names = "".join(f"reg [7:0] c{k};\n" for k in range(count))
+    given = "".join(f"c{k} = c{k + 1};\n" for k in range(count - 1))
+    other = "".join(f"c{k} = i;\n" for k in range(count))
+    return module(f"{names}always @* if (i[0]) begin\n{given}c{count - 1} = i;\nend else begin\n{other}end\n"), SET
+
+
 def block_of_pairs(size):
     """A combinational block each of whose signals depends on each of as many wires: the pairs are quadratic in the text."""
     count = size // 56
@@ -358,6 +367,7 @@ KINDS = {
     "one combinational block, an if and else each": one_block("if (i[0]) cNUMBER = i; else cNUMBER = 8'd1;\n"),
     "one combinational block, an item of a case each": case_of_block,
     "one combinational block, a chain from its end": block_from_its_end,
+    "one combinational block, a chain from its end within an if": block_from_its_end_within_an_if,
     "one combinational block, each signal by all others": block_of_pairs,
     "one signal assigned again and again": one_signal,
     "a list of events": events,
