@@ -93,21 +93,22 @@ pub(crate) fn work_all<R: Threads + Sync, T: Sync, X: Send + Drop, J: Task<T, X>
     let other = shift
         .tickets
         .split(&mut seat, shift.elements.len() as u64 + 1);
-    // All threads are started from this one: those that a new thread starts are often put onto its own processor.
-    let ((mut seat, mine), (other, theirs)) = join(
+    // The first call is made in a new thread, so that all threads are started from this one: those that a new thread starts are often put onto its
+    // own processor.
+    let ((other, theirs), (mut seat, mine)) = join(
         rt,
-        || -> (Seat, Result<Vec<Done<X>>, AllocError>)
-            requires { IsSync R.row × IsSync T.row × IsSend X.row × IsSync J.row × (length shift.now.elements.now < 2 ^ 32)
-                × (0 < rest) × (rest ≤ 64) × IsReady shift.now.tickets.now (length shift.now.elements.now) rest seat }
-            ensures seat { (result.0.word ≡ seat.word) × (length result.0.numbers + result.0.allowance ≡ seat.allowance) }
-            ensures done { IfOk result.1 (λ v. AreDone (J.ends shift.entry.now.task.now) shift.entry.now.elements.now rest result.0.numbers v.items) }
-        { work_all(rt, shift, seat, rest) },
         || -> (Seat, Result<Vec<Done<X>>, AllocError>)
             requires { IsSync T.row × IsSend X.row × IsSync J.row × (length shift.now.elements.now < 2 ^ 32)
                 × IsReady shift.now.tickets.now (length shift.now.elements.now) 1 other }
             ensures seat { (result.0.word ≡ other.word) × (length result.0.numbers + result.0.allowance ≡ other.allowance) }
             ensures done { IfOk result.1 (λ v. AreDone (J.ends shift.entry.now.task.now) shift.entry.now.elements.now 1 result.0.numbers v.items) }
         { work(shift, other) },
+        || -> (Seat, Result<Vec<Done<X>>, AllocError>)
+            requires { IsSync R.row × IsSync T.row × IsSend X.row × IsSync J.row × (length shift.now.elements.now < 2 ^ 32)
+                × (0 < rest) × (rest ≤ 64) × IsReady shift.now.tickets.now (length shift.now.elements.now) rest seat }
+            ensures seat { (result.0.word ≡ seat.word) × (length result.0.numbers + result.0.allowance ≡ seat.allowance) }
+            ensures done { IfOk result.1 (λ v. AreDone (J.ends shift.entry.now.task.now) shift.entry.now.elements.now rest result.0.numbers v.items) }
+        { work_all(rt, shift, seat, rest) },
     );
     shift.tickets.join(&mut seat, other);
     (seat, both(mine, theirs))

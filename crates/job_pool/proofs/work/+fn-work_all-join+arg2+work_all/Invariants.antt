@@ -1,7 +1,0 @@
-use Rattle.job_pool.proofs.work.+fn-work_all-join+arg2+work_all.Given as goal
-
-abbrev pub decreases-join+arg2 : goal.decreases-join+arg2
-decreases-join+arg2 g l = l.rest
-
-abbrev pub decreases-work_all : goal.decreases-work_all
-decreases-work_all g l = l.workers
