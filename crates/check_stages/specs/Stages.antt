@@ -9,7 +9,7 @@ use Rattle.flat_faults.specs.Stands.{Stands as StandsFlat}
 use Rattle.flat_ready.specs.Handed.{HasClocks, HasNoMemories, HasTopPorts, IsFlattened}
 use Rattle.mem_laws.specs.Spread.{spread_flat}
 use Rattle.mem_laws.specs.Stands.{IsFaultless as HasNoMemoryFault}
-use Rattle.mem_flat.specs.Faults.{IsFirstFault}
+use Rattle.mem_faults.specs.Faults.{IsFirstFault}
 use Rattle.elab_faults.specs.declared.fault.ElabFault.{ElabFault}
 use Rattle.elaborate.specs.Asked.{IsFaultOf}
 use Rattle.elaborate.specs.Parts.{HasSignals}

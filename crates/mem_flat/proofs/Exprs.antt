@@ -14,7 +14,7 @@ use Rattle.vlog_tree.specs.declared.expr.Unary.{Unary}
 use Rattle.vlog_tree.specs.declared.valuation.Entry.{Entry}
 use Rattle.vlog_tree.specs.Valuation.{depth_of}
 use Rattle.mem_laws.specs.Spread.{spread, spread_row, memory_read}
-use Rattle.mem_flat.specs.Asked.{IsEvaluable, HasEvaluable, HaveEvaluable, EachEvaluable}
+use Rattle.mem_faults.specs.Asked.{IsEvaluable, HasEvaluable, HaveEvaluable, EachEvaluable}
 use denote.Hole.Carrier
 
 -- ---- rows

@@ -20,7 +20,7 @@ use Rattle.vlog_runs.specs.Places.{Name}
 use Rattle.flat_laws.specs.Moved.{moved, moved_row, number_for}
 use Rattle.flat_faults.specs.Texts.{names_in, row_names_in}
 use Rattle.mem_laws.specs.Spread.{number, is_constant, is_word, word_read, chosen, bits_from}
-use Rattle.mem_flat.proofs.Growing.{cut}
+use Rattle.mem_faults.proofs.Growing.{cut}
 use denote.Hole.Carrier
 
 -- ---- an expression under no prefix, without parameters

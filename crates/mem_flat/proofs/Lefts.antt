@@ -9,7 +9,7 @@ use Rattle.vlog_tree.specs.declared.valuation.Entry.{Entry}
 use Rattle.vlog_tree.specs.Valuation.{depth_of}
 use Rattle.vlog_runs.specs.Places.{Name, read}
 use Rattle.mem_laws.specs.Spread.{spread, spread_left, spread_lefts}
-use Rattle.mem_flat.specs.Asked.{IsEvaluable, HasEvaluable, IsSpanEvaluable, HasEvaluableLeft, HaveEvaluableLefts, EachEvaluableLeft}
+use Rattle.mem_faults.specs.Asked.{IsEvaluable, HasEvaluable, IsSpanEvaluable, HasEvaluableLeft, HaveEvaluableLefts, EachEvaluableLeft}
 
 -- a concatenation by its row is the one by its list
 concat_is : (q : _) (row : _) → l.Concat' q row ≡ l.Concat (items-the_row-Lval _ row)

@@ -1,4 +1,3 @@
-pub mod Growing
 pub mod Forms
 pub mod Exprs
 pub mod Indices
@@ -6,11 +5,4 @@ pub mod Lefts
 pub mod Parting
 pub mod Stmts
 pub mod Stores
-pub mod Keeping
 pub mod Fetching
-pub mod Using
-pub mod Wholes
-pub mod Telling
-pub mod Repeating
-pub mod Surveying
-pub mod Faulty

@@ -13,9 +13,9 @@ use Rattle.vlog_tree.specs.declared.stmt.Stmt.{Stmt}
 use Rattle.vlog_tree.specs.declared.valuation.Entry.{Entry}
 use Rattle.elab_faults.specs.Drivers.{parts_of, row_parts_of}
 use Rattle.mem_laws.specs.Spread.{part_length, lefts_length, part_stores, part_store, bits_from}
-use Rattle.mem_flat.specs.Asked.{HasOwnValue, IsSpanEvaluable, HasEvaluableLeft, HaveEvaluableLefts, EachEvaluableLeft}
+use Rattle.mem_faults.specs.Asked.{HasOwnValue, IsSpanEvaluable, HasEvaluableLeft, HaveEvaluableLefts, EachEvaluableLeft}
 use Rattle.mem_flat.specs.Borrowed.{left_meant}
-use Rattle.mem_flat.proofs.Growing.{cut}
+use Rattle.mem_faults.proofs.Growing.{cut}
 
 rows_parted : {m : _} (row : Row_of-Lval m) → row_parts_of row ≡ flat_map parts_of (items-the_row-Lval m row)
 rows_parted end_of-Lval = refl

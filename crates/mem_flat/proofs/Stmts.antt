@@ -10,7 +10,7 @@ use Rattle.vlog_tree.specs.declared.stmt.Stmt.TheBlock.{shape-the_row-Stmt-0, hi
 use Rattle.vlog_tree.specs.declared.valuation.Entry.{Entry}
 use Rattle.elab_faults.specs.Drivers.{parts_of}
 use Rattle.mem_laws.specs.Spread.{lefts_length, spread, spread_left, spread_store, spread_stmt, spread_stmts, spread_items}
-use Rattle.mem_flat.specs.Asked.{HasEvaluable, HasEvaluableLeft, HasEvaluableStmt, HaveEvaluableStmts, HaveEvaluableItems, EachEvaluableStmt, HasEvaluableCase, EachEvaluableCase}
+use Rattle.mem_faults.specs.Asked.{HasEvaluable, HasEvaluableLeft, HasEvaluableStmt, HaveEvaluableStmts, HaveEvaluableItems, EachEvaluableStmt, HasEvaluableCase, EachEvaluableCase}
 use Rattle.mem_flat.specs.Cases.{spread_case}
 use denote.Hole.Carrier
 

@@ -1,9 +1,3 @@
-pub mod Asked
 pub mod Borrowed
 pub mod Cases
-pub mod Held
 pub mod Texts
-pub mod Faults
-pub mod Kept
-pub mod Used
-pub mod Repeated

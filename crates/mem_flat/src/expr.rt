@@ -4,7 +4,7 @@ ghost use Rattle.std.specs.Prelude.{◌≡◌, ◌≤◌, nat_eq, false, IfOk, m
 ghost use Rattle.vlog_tree.specs.declared.expr.Expr.TheVariants as e;
 ghost use Rattle.vlog_tree.specs.Valuation.{named, depth_of};
 ghost use Rattle.mem_laws.specs.Spread.{memory_read, spread};
-ghost use Rattle.mem_flat.specs.Asked.{IsEvaluable, HasEvaluable, EachEvaluable};
+ghost use Rattle.mem_faults.specs.Asked.{IsEvaluable, HasEvaluable, EachEvaluable};
 
 use crate::index::read_words;
 use crate::spreader::Spreader;

@@ -10,12 +10,12 @@ ghost use Rattle.elab_drive.specs.declared.names.Form.TheVariants as m;
 ghost use Rattle.elab_drive.specs.Names.{action_names};
 ghost use Rattle.elab_drive.specs.Pieces.{piece_meant};
 ghost use Rattle.mem_laws.specs.Spread.{assigned_in, keeper};
-ghost use Rattle.mem_flat.specs.Held.{idle_of};
+ghost use Rattle.mem_faults.specs.Held.{idle_of};
 
-use crate::signals::words;
 use elab_drive::{Piece, add_left_names, pieces_of};
 use flat_move::both;
 use flat_scopes::Names;
+use mem_faults::words;
 use outside::Text;
 use sqlite_items::Items;
 use std::alloc::{AllocError, Global};

@@ -5,7 +5,7 @@ ghost use Rattle.std.specs.List.{range_with_len, flat_map};
 ghost use Rattle.vlog_tree.specs.Value.{own_value};
 ghost use Rattle.flat_faults.specs.Texts.{names_in, row_names_in};
 ghost use Rattle.mem_laws.specs.Spread.{is_constant, is_fixed, named_words, read_words};
-ghost use Rattle.mem_flat.specs.Asked.{IsEvaluable};
+ghost use Rattle.mem_faults.specs.Asked.{IsEvaluable};
 
 use sqlite_items::Items;
 use std::alloc::{AllocError, Global};

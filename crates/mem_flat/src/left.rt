@@ -2,7 +2,7 @@
 
 ghost use Rattle.std.specs.Prelude.{◌≡◌, IfOk, map};
 ghost use Rattle.mem_laws.specs.Spread.{spread_left};
-ghost use Rattle.mem_flat.specs.Asked.{HasEvaluableLeft, EachEvaluableLeft};
+ghost use Rattle.mem_faults.specs.Asked.{HasEvaluableLeft, EachEvaluableLeft};
 
 use crate::spreader::Spreader;
 use flat_move::both;

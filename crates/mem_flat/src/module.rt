@@ -8,15 +8,13 @@ ghost use Rattle.mem_laws.specs.declared.fault.MemFault.TheVariants as m;
 ghost use Rattle.mem_laws.specs.Laws.{CanSpread, KeepsRuns, DeclaresWords};
 ghost use Rattle.mem_laws.specs.Stands.{IsFaultless};
 ghost use Rattle.mem_laws.specs.Spread.{spread_assign, spread_block, idle_words, keeper, spread_flat};
-ghost use Rattle.mem_flat.specs.Asked.{IsReadyAssign, IsReadyBlock, AreReadyAssigns, AreReadyBlocks, IsReady};
-ghost use Rattle.mem_flat.specs.Faults.{IsFirstFault};
+ghost use Rattle.mem_faults.specs.Asked.{IsReadyAssign, IsReadyBlock, AreReadyAssigns, AreReadyBlocks, IsReady};
+ghost use Rattle.mem_faults.specs.Faults.{IsFirstFault};
 
-use crate::faults::fault_of;
 use crate::idle::keepers;
-use crate::rest::at_rest;
-use crate::signals::all_holders;
 use crate::spreader::Spreader;
 use flat_move::both;
+use mem_faults::{all_holders, at_rest, fault_of};
 use mem_laws::{MemFault, spread_declares_words, spread_keeps_runs};
 use outside::Text;
 use sqlite_items::Items;

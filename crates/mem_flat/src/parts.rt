@@ -6,7 +6,7 @@ ghost use Rattle.vlog_tree.specs.Value.{operand_of, own_integer, natural, part_w
 ghost use Rattle.elab_faults.specs.Drivers.{parts_of};
 ghost use Rattle.elab_drive.specs.Claims.{IsNear};
 ghost use Rattle.mem_laws.specs.Spread.{part_length, lefts_length, is_memory_word};
-ghost use Rattle.mem_flat.specs.Asked.{HasOwnValue, IsSpanEvaluable, HasEvaluableLeft, EachEvaluableLeft};
+ghost use Rattle.mem_faults.specs.Asked.{HasOwnValue, IsSpanEvaluable, HasEvaluableLeft, EachEvaluableLeft};
 ghost use Rattle.mem_flat.specs.Borrowed.{left_meant};
 
 use crate::spreader::Spreader;

@@ -4,7 +4,7 @@ ghost use Rattle.std.specs.Prelude.{◌≡◌, ◌≤◌, IfOk, map};
 ghost use Rattle.vlog_tree.specs.declared.stmt.Stmt.TheVariants as s;
 ghost use Rattle.elab_faults.specs.Drivers.{parts_of};
 ghost use Rattle.mem_laws.specs.Spread.{spread, spread_left, lefts_length, spread_store, spread_labels, spread_stmt};
-ghost use Rattle.mem_flat.specs.Asked.{HasEvaluable, EachEvaluable, HasEvaluableLeft, HasEvaluableLabels, HasEvaluableStmt, EachEvaluableStmt, EachEvaluableCase};
+ghost use Rattle.mem_faults.specs.Asked.{HasEvaluable, EachEvaluable, HasEvaluableLeft, HasEvaluableLabels, HasEvaluableStmt, EachEvaluableStmt, EachEvaluableCase};
 ghost use Rattle.mem_flat.specs.Cases.{spread_case};
 
 use crate::spreader::Spreader;

@@ -7,15 +7,16 @@ ghost use Rattle.vlog_tree.specs.Valuation.{word_name};
 ghost use Rattle.vlog_runs.specs.Places.{read};
 ghost use Rattle.elab_faults.specs.Drivers.{parts_of};
 ghost use Rattle.mem_laws.specs.Spread.{spread, spread_left, word_store, memory_store, part_store, part_stores, lefts_length, is_memory_word, bits_from, spread_store};
-ghost use Rattle.mem_flat.specs.Asked.{IsEvaluable, HasEvaluable, HasEvaluableLeft, EachEvaluableLeft};
+ghost use Rattle.mem_faults.specs.Asked.{IsEvaluable, HasEvaluable, HasEvaluableLeft, EachEvaluableLeft};
 ghost use Rattle.mem_flat.specs.Borrowed.{left_meant};
 ghost use Rattle.mem_flat.specs.Cases.{block_store, concat_store};
 
 use crate::index::named_words;
 use crate::parts::parts_of;
 use crate::spreader::Spreader;
-use crate::words::{bits_from, copied, is_word, word_text};
+use crate::words::{bits_from, copied, is_word};
 use flat_move::both;
+use mem_faults::word_text;
 use outside::Text;
 use sqlite_items::{Boxed, Items};
 use std::alloc::AllocError;

@@ -8,6 +8,7 @@ ghost use Rattle.vlog_tree.specs.Valuation.{word_name};
 ghost use Rattle.mem_laws.specs.Spread.{number, is_word, word_read, chosen, bits_from};
 
 use flat_move::{both, moved_expr};
+use mem_faults::word_text;
 use outside::Text;
 use sqlite_items::Boxed;
 use std::alloc::{AllocError, Global};
@@ -25,17 +26,6 @@ pub fn number(width: u8, value: u64) -> Expr
         wildcard: false,
         plain: false,
     })
-}
-
-/// The text of a memory's word.
-pub fn word_text(alloc: Global, name: &[u8], word: u8) -> Result<Text, AllocError>
-    ensures { IfOk result (λ r. r ≡ name.now ++ codes "$" ++ decimal word) }
-{
-    let mut text = Text::copy(alloc, name)?;
-    let digits = format!(in alloc; "{word}")?;
-    text.append(b"$")?;
-    text.append(digits.as_bytes())?;
-    Ok(text)
 }
 
 /// The name of a memory's word.

@@ -21,7 +21,7 @@ use Rattle.flat_faults.specs.Constants.{at_rest, IsSpanConstant, HasConstantSpan
 use Rattle.mem_laws.specs.Laws.{CanSpread}
 use Rattle.mem_laws.specs.Uses.{lefts_of}
 use Rattle.mem_laws.proofs.Constants.{nothing}
-use Rattle.mem_flat.specs.Asked.{IsReady}
+use Rattle.mem_faults.specs.Asked.{IsReady}
 use Rattle.elab_block.specs.Ready.{IsReadyLeft, AreReadyLefts}
 use Rattle.ready_laws.specs.Sized.{IsSizedStmt, AreSizedStmts, AreSizedItems, IsSizedLeft, HasSizedTexts}
 use Rattle.ready_laws.proofs.Signals.{signal_name, distinct_once}

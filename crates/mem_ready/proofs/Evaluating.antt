@@ -18,7 +18,7 @@ use Rattle.flat_laws.proofs.Lists.{append_left, append_right}
 use Rattle.elab_drive.specs.Claims.{IsPartReady, IsEvaluable as IsOwnEvaluable}
 use Rattle.elab_drive.specs.Parts.{reads_of, row_reads}
 use Rattle.mem_laws.proofs.Constants.{constant_names}
-use Rattle.mem_flat.specs.Asked.{IsEvaluable, HasEvaluable, HaveEvaluable, EachEvaluable, IsSpanEvaluable, HasEvaluableLeft, HaveEvaluableLefts, HasEvaluableLabels, HasEvaluableStmt, HaveEvaluableStmts, HaveEvaluableItems}
+use Rattle.mem_faults.specs.Asked.{IsEvaluable, HasEvaluable, HaveEvaluable, EachEvaluable, IsSpanEvaluable, HasEvaluableLeft, HaveEvaluableLefts, HasEvaluableLabels, HasEvaluableStmt, HaveEvaluableStmts, HaveEvaluableItems}
 use Rattle.elab_block.specs.Ready.{IsSingle, IsPlaced, ArePlaced, IsReadyLeft, AreReadyLefts}
 use Rattle.elaborate.proofs.Reading.{evaluable, reads_ready}
 use Rattle.ready_laws.specs.Sized.{IsSizedStmt, AreSizedStmts, AreSizedItems}

@@ -4,7 +4,7 @@ use Rattle.flat_ready.specs.Handed.{AreNumbered}
 use Rattle.mem_laws.specs.Spread.{spread_flat}
 use Rattle.mem_laws.specs.Stands.{IsFaultless}
 use Rattle.mem_laws.specs.Laws.{CanSpread}
-use Rattle.mem_flat.specs.Asked.{IsReady}
+use Rattle.mem_faults.specs.Asked.{IsReady}
 use Rattle.elab_step.specs.Asked.{CanElaborate}
 use Rattle.ready_laws.specs.Sized.{HasSizedTexts}
 

@@ -1,6 +1,6 @@
 use Rattle.std.proofs.Common.{◌≡◌, ◌++◌, drop, map}
 use Rattle.mem_laws.specs.Spread.{keeper}
-use Rattle.mem_flat.specs.Held.{idle_of}
+use Rattle.mem_faults.specs.Held.{idle_of}
 use Rattle.mem_flat.proofs.idle.add_keepers.Given as goal
 
 abbrev pub invariant-loop-word : goal.invariant-loop-word

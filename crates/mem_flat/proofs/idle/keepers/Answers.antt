@@ -3,9 +3,9 @@ use Rattle.std.specs.List.{flat_map}
 use Rattle.vlog_runs.specs.declared.flat.Signal.{Signal}
 use Rattle.flat_faults.specs.Declaring.{words_of}
 use Rattle.mem_laws.specs.Spread.{assigned_in, keeper}
-use Rattle.mem_flat.specs.Held.{idle_of}
-use Rattle.mem_flat.proofs.Growing.{next, ended}
-use Rattle.mem_flat.proofs.Keeping.{keepers_more}
+use Rattle.mem_faults.specs.Held.{idle_of}
+use Rattle.mem_faults.proofs.Growing.{next, ended}
+use Rattle.mem_faults.proofs.Keeping.{keepers_more}
 use Rattle.mem_flat.proofs.idle.keepers.Goals as goal
 
 pub loop-signal-preserved : goal.loop-signal-preserved

@@ -1,5 +1,5 @@
 use Rattle.mem_flat.specs.Borrowed.{left_meant}
-use Rattle.mem_flat.proofs.Growing.{ok_then, same_end}
+use Rattle.mem_faults.proofs.Growing.{ok_then, same_end}
 use Rattle.mem_flat.proofs.Parting.{concat_parts}
 use Rattle.mem_flat.proofs.parts.+parts.Goals as goal
 

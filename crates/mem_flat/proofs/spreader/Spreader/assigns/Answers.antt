@@ -1,4 +1,4 @@
-use Rattle.mem_flat.proofs.Keeping.{among_at}
+use Rattle.mem_faults.proofs.Keeping.{among_at}
 use Rattle.mem_flat.proofs.spreader.Spreader.assigns.Goals as goal
 
 pub assign-requires : goal.assign-requires

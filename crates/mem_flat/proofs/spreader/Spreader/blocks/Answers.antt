@@ -1,4 +1,4 @@
-use Rattle.mem_flat.proofs.Keeping.{among_at}
+use Rattle.mem_faults.proofs.Keeping.{among_at}
 use Rattle.mem_flat.proofs.spreader.Spreader.blocks.Goals as goal
 
 pub block_of-requires : goal.block_of-requires

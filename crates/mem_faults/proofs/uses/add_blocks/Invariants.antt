@@ -1,0 +1,8 @@
+use Rattle.std.proofs.Common.{◌≡◌, ◌++◌, drop, map}
+use Rattle.std.specs.List.{flat_map}
+use Rattle.elab_drive.specs.Parts.{part_meant}
+use Rattle.mem_faults.specs.Used.{block_uses}
+use Rattle.mem_faults.proofs.uses.add_blocks.Given as goal
+
+abbrev pub invariant-loop-block : goal.invariant-loop-block
+invariant-loop-block l = map part_meant l.all.items ++ flat_map block_uses (drop l.block-index l.blocks) ≡ map part_meant l.initial.all.items ++ flat_map block_uses l.blocks

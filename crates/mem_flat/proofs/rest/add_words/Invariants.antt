@@ -1,6 +1,0 @@
-use Rattle.std.proofs.Common.{◌≡◌, ◌++◌, drop, map}
-use Rattle.mem_flat.specs.Held.{resting_word}
-use Rattle.mem_flat.proofs.rest.add_words.Given as goal
-
-abbrev pub invariant-loop-word : goal.invariant-loop-word
-invariant-loop-word l = l.rest ++ map resting_word (drop l.word-index l.words) ≡ l.initial.rest ++ map resting_word l.words

@@ -1,9 +1,0 @@
-use Rattle.std.proofs.Common.{◌≡◌, ◌+◌, ◌≤◌, map, drop, filter, length}
-use Rattle.elab_drive.specs.Parts.{part_meant}
-use Rattle.mem_flat.specs.Used.{is_indexed}
-use Rattle.mem_flat.proofs.survey.Survey.indexed.Given as goal
-
-abbrev pub invariant-loop-part : goal.invariant-loop-part
-invariant-loop-part l =
-    (l.count + length (filter (is_indexed l.self.memories) (map part_meant (drop l.part-index l.part-items))) ≡ length (filter (is_indexed l.self.memories) (map part_meant l.part-items)))
-    × (l.count ≤ l.part-index)

@@ -1,8 +1,0 @@
-use Rattle.std.proofs.Common.{◌≡◌, ◌++◌, drop, map}
-use Rattle.std.specs.List.{flat_map}
-use Rattle.flat_scopes.specs.Borrowed.{name_meant}
-use Rattle.mem_flat.specs.Used.{block_listed}
-use Rattle.mem_flat.proofs.survey.add_lists.Given as goal
-
-abbrev pub invariant-loop-block : goal.invariant-loop-block
-invariant-loop-block l = map name_meant l.all.items ++ flat_map block_listed (drop l.block-index l.blocks) ≡ map name_meant l.initial.all.items ++ flat_map block_listed l.blocks

@@ -1,8 +1,0 @@
-use Rattle.std.proofs.Common.{◌≡◌, ◌++◌, drop, map}
-use Rattle.flat_scopes.specs.Borrowed.{name_meant}
-use Rattle.mem_flat.specs.Repeated.{entry_name, later_names}
-use Rattle.mem_flat.proofs.twice.later_names.Given as goal
-
-abbrev pub invariant-loop-place : goal.invariant-loop-place
-invariant-loop-place l =
-    map name_meant l.all.items ++ later_names l.names l.place (map entry_name (drop l.place l.entries)) ≡ later_names l.names 0 (map entry_name l.entries)

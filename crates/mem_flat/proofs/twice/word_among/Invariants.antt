@@ -1,8 +1,0 @@
-use Rattle.std.proofs.Common.{drop}
-use Rattle.std.specs.List.{flat_map}
-use Rattle.vlog_runs.specs.Places.{Name, Among}
-use Rattle.flat_faults.specs.Declaring.{words_of}
-use Rattle.mem_flat.proofs.twice.word_among.Given as goal
-
-abbrev pub invariant-loop-signal : goal.invariant-loop-signal
-invariant-loop-signal l = (x : Name) → Among (flat_map words_of l.signals) x → Among l.names x → Among (flat_map words_of (drop l.signal-index l.signals)) x
