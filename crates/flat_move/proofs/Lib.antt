@@ -2,3 +2,4 @@ pub mod Pairs
 pub mod Exprs
 pub mod Lefts
 pub mod Stmts
+pub mod Copying

@@ -1,12 +1,14 @@
 //! The text of a scope as a module without instances has it: its names under its prefix, its parameters replaced by their numbers.
 #![tactic(auto)]
 
+mod copies;
 mod expr;
 mod left;
 mod pair;
 mod stmt;
 mod text;
 
+pub use copies::{copied, copied_labels, copied_left};
 pub use expr::{Mover, moved_expr};
 pub use left::moved_left;
 pub use pair::both;

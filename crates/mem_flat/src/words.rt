@@ -7,12 +7,12 @@ ghost use Rattle.flat_laws.specs.Moved.{number_for};
 ghost use Rattle.vlog_tree.specs.Valuation.{word_name};
 ghost use Rattle.mem_laws.specs.Spread.{number, is_word, word_read, chosen, bits_from};
 
-use flat_move::{both, moved_expr};
+use flat_move::{both, copied};
 use mem_faults::word_text;
 use outside::Text;
 use sqlite_items::Boxed;
 use std::alloc::{AllocError, Global};
-use vlog_tree::{Binary, Cast, Expr, Name, Number, Span, Valuation};
+use vlog_tree::{Binary, Cast, Expr, Name, Number, Span};
 
 /// An unsigned number of so many bits.
 pub fn number(width: u8, value: u64) -> Expr
@@ -46,13 +46,6 @@ pub fn copied_name(alloc: Global, name: &Name) -> Result<Name, AllocError>
         text: Text::copy(alloc, name.text.bytes())?,
         offset: name.offset,
     })
-}
-
-/// An expression once more: under no prefix, and where nothing is a parameter.
-pub fn copied(alloc: Global, expr: &Expr) -> Result<Expr, AllocError>
-    ensures { IfOk result (λ r. r ≡ expr.now) }
-{
-    moved_expr(alloc, b"", &Valuation::new(alloc), expr)
 }
 
 // `$unsigned(index)`

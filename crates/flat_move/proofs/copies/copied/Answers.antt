@@ -2,8 +2,8 @@ use Rattle.std.proofs.Common.{[], List, ap, ◌∙◌}
 use Rattle.std.proofs.lemmas.Result.{IfOk-weaker}
 use Rattle.vlog_tree.specs.declared.valuation.Entry.{Entry}
 use Rattle.flat_laws.specs.Moved.{moved}
-use Rattle.mem_flat.proofs.Forms.{copy_is}
-use Rattle.mem_flat.proofs.words.copied.Goals as goal
+use Rattle.flat_move.proofs.Copying.{copy_is}
+use Rattle.flat_move.proofs.copies.copied.Goals as goal
 
 pub returns : goal.returns
 returns c =
