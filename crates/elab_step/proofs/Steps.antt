@@ -1,167 +1,182 @@
--- Blocks as statements one after another.
-use Rattle.std.proofs.Common.{arith, ◌≡◌, ℕ, zero, suc, ◌+◌, ◌-◌, ◌<◌, ◌≤◌, Bool, true, false, List, [], ◌∷◌, ◌++◌, Some, None, refl, sym, ap, ◌∙◌, subst, inl, inr, ⊎_elim, ◌⊎◌, map, length, get_or, take, Bor}
-use Rattle.std.proofs.lemmas.List.{map-append, append-nil, take_all}
-use Rattle.std.proofs.lemmas.List.Elements.{All-append, Contains-append_left, Contains-append_right}
+-- Blocks, with what each of their steps reads and writes.
+use Rattle.std.proofs.Common.{arith, ◌≡◌, ℕ, zero, suc, ◌+◌, ◌-◌, ◌<◌, ◌≤◌, min, Bool, true, false, List, [], ◌∷◌, ◌++◌, Option, Some, None, refl, sym, ap, ◌∙◌, subst, inl, inr, ⊎_elim, ◌⊎◌, map, length, get_or, take}
+use Rattle.std.proofs.lemmas.List.{map-append}
 use Rattle.std.specs.Prelude.{nat_eq, ◌&&◌, if◌then◌else◌}
-use Rattle.std.specs.List.{flat_map, Contains}
+use Rattle.std.specs.List.{flat_map}
 use Rattle.std.specs.Str.{bytes_eq}
 use Rattle.std.proofs.lemmas.Slice.Eq.{bytes_eq-Decides}
 use Rattle.vlog_tree.specs.declared.expr.Expr.{Expr}
+use Rattle.vlog_tree.specs.declared.stmt.CaseItem.{CaseItem}
+use Rattle.vlog_tree.specs.declared.stmt.CaseKind.{CaseKind}
 use Rattle.vlog_tree.specs.declared.stmt.Lval.{Lval}
-use Rattle.vlog_tree.specs.declared.stmt.Stmt.{Stmt, Row_of-Stmt, end_of-Stmt, more_of-Stmt, items-the_row-Stmt, items_hidden-the_row-Stmt-0, Row_of-CaseItem, end_of-CaseItem, more_of-CaseItem}
+use Rattle.vlog_tree.specs.declared.stmt.Stmt.{Stmt, Row_of-Stmt, end_of-Stmt, more_of-Stmt, items-the_row-Stmt, items_hidden-the_row-Stmt-0, Row_of-CaseItem, end_of-CaseItem, more_of-CaseItem, items-the_row-CaseItem, items_hidden-the_row-CaseItem-2}
 use Rattle.vlog_tree.specs.declared.stmt.Stmt.TheVariants as s
-use Rattle.vlog_tree.specs.declared.stmt.Stmt.TheBlock.{hidden-the_row-Stmt-0}
+use Rattle.vlog_tree.specs.declared.stmt.Stmt.TheBlock.{hidden-the_row-Stmt-0, shape-the_row-Stmt-1, hidden-the_row-Stmt-1, hidden-the_row-CaseItem-2}
 use Rattle.vlog_tree.specs.declared.valuation.Entry.{Entry}
 use Rattle.vlog_tree.specs.Valuation.{entry_at, place_at}
 use Rattle.vlog_tree.proofs.Places.{at_place}
 use Rattle.vlog_runs.specs.declared.flat.Always.{Always}
 use Rattle.vlog_runs.specs.declared.flat.Flat.{Flat}
 use Rattle.vlog_runs.specs.declared.flat.Signal.{Signal}
-use Rattle.vlog_runs.specs.Places.{Name, Cycle, Among, Place}
-use Rattle.vlog_runs.specs.Blocks.{run, signal_at, labels_in, exprs_in}
+use Rattle.vlog_runs.specs.Places.{Name, Cycle, Among}
+use Rattle.vlog_runs.specs.Blocks.{run, signal_at, labels_in, exprs_in, case_width, case_sign}
 use Rattle.flat_faults.specs.Texts.{names_in, numbers_in}
-use Rattle.flat_laws.proofs.Lists.{append_left, append_right, among_append, flat_append}
+use Rattle.flat_laws.proofs.Lists.{append_left, append_right, among_append}
 use Rattle.elab_drive.specs.Claims.{part_name}
-use Rattle.elab_drive.specs.declared.parts.Part.{Part}
+use Rattle.elab_drive.specs.declared.parts.Part.{Part as Read}
 use Rattle.elab_drive.specs.Parts.{part_meant, reads_of}
-use Rattle.elab_drive.specs.Pieces.{Action, Tests, actions, row_actions, case_actions}
-use Rattle.elab_drive.specs.Wanting.{left_reads, action_reads}
+use Rattle.elab_drive.specs.Wanting.{left_reads}
 use Rattle.elab_flow.proofs.Marking.{reads_names}
 use Rattle.elab_flow.proofs.Rising.{among_contains}
 use Rattle.elab_flow.proofs.Stating.{side_names, swapped}
 use Rattle.word_dag.specs.declared.node.Node.{Node}
 use Rattle.word_dag.specs.Adding.{Keeps}
 use Rattle.elab_node.specs.declared.leaves.Leaf.{Leaf}
-use Rattle.elab_node.proofs.Kept.{keeps_then, keeps_same}
 use Rattle.elab_node.specs.Leaves.{declared, entry_of}
-use Rattle.elab_block.specs.Ready.{IsReadyStmt, AreReadyStmts, EachReadyStmt}
+use Rattle.elab_block.specs.Cases.{each_labels}
+use Rattle.elab_block.specs.Ready.{IsSingle, ArePlaced, IsReadyStmt, AreReadyStmts, EachReadyStmt, AreReadyItems, EachReadyItem}
 use Rattle.elab_block.specs.Runs.{AreSet, Runs}
 use Rattle.elab_block.specs.declared.branches.Saved.{Saved}
-use Rattle.elab_block.specs.Saving.{node_at, saved_at, places_of, put_back, AreWithin, IsSaved}
+use Rattle.elab_block.specs.Saving.{saved_at, put_back, AreWithin, IsSaved}
 use Rattle.elab_block.specs.Sparing.{Covers}
 use Rattle.elab_block.specs.Standing.{flat, AreLeavesOf, AreShown}
 use Rattle.elab_block.specs.Targets.{name_at}
 use Rattle.step_slices.specs.Slices.{Step, IsSlice}
-use Rattle.slice_laws.specs.Slices.{opened, row_opened, after_each, read_in, row_read_in, case_read_in, stmt_at, AreTold}
+use Rattle.slice_laws.specs.Slices.{Action, Tests, Chooses, Stores, Part, parts_of, row_parts, case_parts, steps_in, is_needed, branch_sliced, sliced, row_sliced, case_sliced, slice_of, IsUnder, IsFound, Tells, IsTold, AreTold, names_read}
 use Rattle.elab_step.specs.declared.blocks.Block.{Block}
 use Rattle.flow_laws.specs.Laws.{place_over, AreVectors}
-use Rattle.slice_laws.proofs.Slicing.{blocks_open, slices_give}
+use Rattle.slice_laws.proofs.Slicing.{slices_give}
+use Rattle.stmt_slices.specs.declared.parts.Part.{Part as Text}
+use Rattle.stmt_slices.specs.Parts.{action_meant, part_meant as step_meant}
 use Rattle.elab_step.specs.Solving.{taking}
 use Rattle.elab_step.specs.Boards.{IsBoard, Shows, statements, statement_at, name_of, names_of}
-use Rattle.elab_step.specs.Steps.{stmt_meant, stmts_in, IsPlaced, AddsPlace, SparesOthers, IsStepOf, AreStepsOf, IsBlockOf, AreBlocksOf, HaveSignals, each_of, nets_taking}
+use Rattle.elab_step.specs.Steps.{parts_read, guard_place, IsPlaced, AddsPlace, IsReadyAction, EachReadyStep, IsWritten, IsGuarded, Needs, IsStepOf, AreStepsOf, IsBlockOf, AreBlocksOf, HaveSignals, nets_taking}
 use Rattle.elab_step.proofs.Boards.{take_next, block_at, same_leaves, set_of, each_within, last_same, last_board, last_shown}
 use Rattle.elab_step.proofs.Solving.{taken, kept, among_or}
+use denote.Hole.Carrier
 
 -- ---- what is read, as names
 
--- the names that actions read
-abbrev names_of_actions : List Action → List Name
-names_of_actions as' = map part_name (flat_map action_reads as')
-
-actions_append : (xs ys : List Action) → names_of_actions (xs ++ ys) ≡ names_of_actions xs ++ names_of_actions ys
-actions_append xs ys = ap (map part_name) (flat_append action_reads xs ys) ∙ map-append part_name (flat_map action_reads xs) (flat_map action_reads ys)
-
-actions_first : (a : Action) (xs : List Action) → names_of_actions (a ∷ xs) ≡ map part_name (action_reads a) ++ names_of_actions xs
-actions_first a xs = map-append part_name (action_reads a) (flat_map action_reads xs)
-
 module _ (x : Name) where
-  -- what is in one of two lists is in one of two others
-  either : (us vs xs ys : List Name) → (Among us x → Among xs x) → (Among vs x → Among ys x) → Among (us ++ vs) x → Among (xs ++ ys) x
-  either us vs xs ys f g m = ⊎_elim (λ k. append_left xs ys x (f k)) (λ k. append_right xs ys x (g k)) (among_append us vs x m)
-
   test_seen : (a : Expr) → Among (names_in a) x → Among (map part_name (reads_of a)) x
   test_seen a m = subst (λ z. Among z x) (reads_names a) m
 
-  labels_seen : (as' : List Expr) → Among (flat_map names_in as') x → Among (names_of_actions (map Tests as')) x
-  labels_seen [] m = absurd m
-  labels_seen (a ∷ as') m =
-      subst (λ z. Among z x) (sym (actions_first (Tests a) (map Tests as')))
-      (either (names_in a) (flat_map names_in as') (map part_name (reads_of a)) (names_of_actions (map Tests as')) (test_seen a) (labels_seen as') m)
+  each_seen : (as' : List Expr) → Among (flat_map names_in as') x → Among (map part_name (flat_map reads_of as')) x
+  each_seen [] m = absurd m
+  each_seen (a ∷ as') m =
+      subst (λ z. Among z x) (sym (map-append part_name (reads_of a) (flat_map reads_of as')))
+      (⊎_elim (λ k. append_left (map part_name (reads_of a)) (map part_name (flat_map reads_of as')) x (test_seen a k))
+      (λ k. append_right (map part_name (reads_of a)) (map part_name (flat_map reads_of as')) x (each_seen as' k))
+      (among_append (names_in a) (flat_map names_in as') x m))
 
-  store_seen : (left : Lval) (right : Expr) → Among (flat_map names_in (right ∷ numbers_in left)) x → Among (map part_name ((left_reads left ++ reads_of right) ++ [])) x
-  store_seen left right m =
-      subst (λ z. Among (map part_name z) x) (sym (append-nil (left_reads left ++ reads_of right)))
-      (subst (λ z. Among z x) (sym (side_names left right)) (swapped (names_in right) (flat_map names_in (numbers_in left)) x m))
+  store_seen : (left : Lval) (right : Expr) → Among (flat_map names_in (right ∷ numbers_in left)) x → Among (map part_name (left_reads left ++ reads_of right)) x
+  store_seen left right m = subst (λ z. Among z x) (sym (side_names left right)) (swapped (names_in right) (flat_map names_in (numbers_in left)) x m)
 
-  case_labels_seen : {n : _} (row : Row_of-CaseItem n) → Among (flat_map names_in (labels_in row)) x → Among (names_of_actions (case_actions row)) x
-  case_labels_seen end_of-CaseItem m = absurd m
-  case_labels_seen (more_of-CaseItem labels body rest) m =
-      let tests = map Tests (exprs_in labels) in
-      subst (λ z. Among z x) (sym (actions_append (tests ++ actions body) (case_actions rest)))
-      (either (flat_map names_in (exprs_in labels)) (flat_map names_in (labels_in rest)) (names_of_actions (tests ++ actions body)) (names_of_actions (case_actions rest))
-      (λ k. subst (λ z. Among z x) (sym (actions_append tests (actions body))) (append_left (names_of_actions tests) (names_of_actions (actions body)) x (labels_seen (exprs_in labels) k)))
-      (case_labels_seen rest)
-      (subst (λ z. Among z x) (flat_append names_in (exprs_in labels) (labels_in rest)) m))
+  pub action_seen : (k : Action) → Among (names_read k) x → Among (map part_name (parts_read k)) x
+  action_seen (Tests a) m = test_seen a m
+  action_seen (Chooses a labels) m = each_seen (a ∷ labels) m
+  action_seen (Stores left right) m = store_seen left right m
 
-  mutual
-    pub reads_seen : (k : Stmt) → Among (read_in k) x → Among (names_of_actions (actions k)) x
-    reads_seen s.Empty m = absurd m
-    reads_seen (s.Block' n h row) m = row_seen row m
-    reads_seen (s.If' a h (more_of-Stmt body end_of-Stmt)) m =
-        subst (λ z. Among z x) (sym (actions_first (Tests a) (actions body)))
-        (either (names_in a) (read_in body) (map part_name (reads_of a)) (names_of_actions (actions body)) (test_seen a) (reads_seen body) m)
-    reads_seen (s.IfElse' a h (more_of-Stmt body end_of-Stmt) g (more_of-Stmt other end_of-Stmt)) m =
-        subst (λ z. Among z x) (sym (actions_first (Tests a) (actions body ++ actions other)))
-        (either (names_in a) (read_in body ++ read_in other) (map part_name (reads_of a)) (names_of_actions (actions body ++ actions other)) (test_seen a)
-        (λ k. subst (λ z. Among z x) (sym (actions_append (actions body) (actions other)))
-        (either (read_in body) (read_in other) (names_of_actions (actions body)) (names_of_actions (actions other)) (reads_seen body) (reads_seen other) k))
-        m)
-    reads_seen (s.Case' kind a h row) m =
-        subst (λ z. Among z x) (sym (actions_first (Tests a) (case_actions row)))
-        (⊎_elim
-        (λ k. either (names_in a) (flat_map names_in (labels_in row)) (map part_name (reads_of a)) (names_of_actions (case_actions row)) (test_seen a) (case_labels_seen row) k)
-        (λ k. append_right (map part_name (reads_of a)) (names_of_actions (case_actions row)) x (bodies_seen row k))
-        (among_append (flat_map names_in (a ∷ labels_in row)) (case_read_in row) x m))
-    reads_seen (s.Blocking left right) m = store_seen left right m
-    reads_seen (s.Nonblocking left right) m = store_seen left right m
+-- ---- what is asked of steps
 
-    row_seen : {n : _} (row : Row_of-Stmt n) → Among (row_read_in row) x → Among (names_of_actions (row_actions row)) x
-    row_seen end_of-Stmt m = absurd m
-    row_seen (more_of-Stmt a rest) m =
-        subst (λ z. Among z x) (sym (actions_append (actions a) (row_actions rest)))
-        (either (read_in a) (row_read_in rest) (names_of_actions (actions a)) (names_of_actions (row_actions rest)) (reads_seen a) (row_seen rest) m)
-
-    bodies_seen : {n : _} (row : Row_of-CaseItem n) → Among (case_read_in row) x → Among (names_of_actions (case_actions row)) x
-    bodies_seen end_of-CaseItem m = absurd m
-    bodies_seen (more_of-CaseItem labels body rest) m =
-        let tests = map Tests (exprs_in labels) in
-        subst (λ z. Among z x) (sym (actions_append (tests ++ actions body) (case_actions rest)))
-        (either (read_in body) (case_read_in rest) (names_of_actions (tests ++ actions body)) (names_of_actions (case_actions rest))
-        (λ k. subst (λ z. Among z x) (sym (actions_append tests (actions body))) (append_right (names_of_actions tests) (names_of_actions (actions body)) x (reads_seen body k)))
-        (bodies_seen rest)
-        m)
-
--- ---- blocks, opened
-
-row_is : (m : _) (row : Row_of-Stmt m) → row_opened row ≡ flat_map opened (items-the_row-Stmt m row)
-row_is m end_of-Stmt = refl
-row_is m (more_of-Stmt a rest) = ap (λ xs. opened a ++ xs) (row_is _ rest)
-
-pub block_opened : (n : _) (xs ys : List Stmt) (tree : Stmt) → tree ≡ s.Block n xs → ys ≡ xs → flat_map opened ys ≡ opened tree
-block_opened n xs ys tree is same = sym (ap opened is ∙ row_is _ (hidden-the_row-Stmt-0 xs) ∙ ap (flat_map opened) (items_hidden-the_row-Stmt-0 xs ∙ sym same))
-
-each_append : (v : List Entry) (ks js : List Stmt) → EachReadyStmt v ks → EachReadyStmt v js → EachReadyStmt v (ks ++ js)
-each_append v [] js h g = g
-each_append v (k ∷ ks) js h g = (h.0, each_append v ks js h.1 g)
+steps_append : (v : List Entry) (ks js : List Part) → EachReadyStep v ks → EachReadyStep v js → EachReadyStep v (ks ++ js)
+steps_append v [] js h g = g
+steps_append v (k ∷ ks) js h g = (h.0, steps_append v ks js h.1 g)
 
 mutual
-  pub opened_ready : (v : List Entry) (k : Stmt) → IsReadyStmt v k → EachReadyStmt v (opened k)
-  opened_ready v s.Empty h = tt
-  opened_ready v (s.Block' n g row) h = row_ready v row h
-  opened_ready v (s.If' a g row) h = (h, tt)
-  opened_ready v (s.IfElse' a g row i more) h = (h, tt)
-  opened_ready v (s.Case' kind a g row) h = (h, tt)
-  opened_ready v (s.Blocking left right) h = (h, tt)
-  opened_ready v (s.Nonblocking left right) h = (h, tt)
+  pub parts_ready : (v : List Entry) (g : Option ℕ) (n : ℕ) (k : Stmt) → IsReadyStmt v k → EachReadyStep v (parts_of g n k)
+  parts_ready v g n s.Empty h = tt
+  parts_ready v g n (s.Block' name q row) h = row_parts_ready v g n row h
+  parts_ready v g n (s.If' a q (more_of-Stmt body end_of-Stmt)) h = (tt, parts_ready v (Some n) (suc n) body h.1)
+  parts_ready v g n (s.IfElse' a q (more_of-Stmt body end_of-Stmt) i (more_of-Stmt other end_of-Stmt)) h =
+      (tt, steps_append v (parts_of (Some n) (suc n) body) (parts_of (Some n) (suc n + steps_in body) other) (parts_ready v (Some n) (suc n) body h.1) (parts_ready v (Some n) (suc n + steps_in body) other h.2))
+  parts_ready v g n (s.Case' kind a q row) h = (tt, case_parts_ready v (Some n) (suc n) row h.1)
+  parts_ready v g n (s.Blocking left right) h = (h.left_side, tt)
+  parts_ready v g n (s.Nonblocking left right) h = (h.left_side, tt)
 
-  row_ready : {m : _} (v : List Entry) (row : Row_of-Stmt m) → AreReadyStmts v row → EachReadyStmt v (row_opened row)
-  row_ready v end_of-Stmt h = tt
-  row_ready v (more_of-Stmt a rest) h = each_append v (opened a) (row_opened rest) (opened_ready v a h.0) (row_ready v rest h.1)
+  row_parts_ready : {m : _} (v : List Entry) (g : Option ℕ) (n : ℕ) (row : Row_of-Stmt m) → AreReadyStmts v row → EachReadyStep v (row_parts g n row)
+  row_parts_ready v g n end_of-Stmt h = tt
+  row_parts_ready v g n (more_of-Stmt a rest) h = steps_append v (parts_of g n a) (row_parts g (n + steps_in a) rest) (parts_ready v g n a h.0) (row_parts_ready v g (n + steps_in a) rest h.1)
 
-pub ready_at : (v : List Entry) (ks : List Stmt) (i : ℕ) → i < length ks → EachReadyStmt v ks → IsReadyStmt v (stmt_at ks i)
-ready_at v [] i lt h = absurd (omega (arith, lt))
-ready_at v (k ∷ ks) zero lt h = h.0
-ready_at v (k ∷ ks) (suc i) lt h = ready_at v ks i (omega (arith, lt)) h.1
+  case_parts_ready : {m : _} (v : List Entry) (g : Option ℕ) (n : ℕ) (row : Row_of-CaseItem m) → AreReadyItems v row → EachReadyStep v (case_parts g n row)
+  case_parts_ready v g n end_of-CaseItem h = tt
+  case_parts_ready v g n (more_of-CaseItem labels body rest) h =
+      steps_append v (parts_of g n body) (case_parts g (n + steps_in body) rest) (parts_ready v g n body h.0) (case_parts_ready v g (n + steps_in body) rest h.1)
+
+-- ---- what is asked of a statement holds of what a slice leaves of it
+
+module _ (v : List Entry) where
+  row_of_each : {m : _} (row : Row_of-Stmt m) → EachReadyStmt v (items-the_row-Stmt m row) → AreReadyStmts v row
+  row_of_each end_of-Stmt h = tt
+  row_of_each (more_of-Stmt a rest) h = (h.0, row_of_each rest h.1)
+
+  block_ready : (ks : List Stmt) → EachReadyStmt v ks → IsReadyStmt v (s.Block None ks)
+  block_ready ks h = row_of_each (hidden-the_row-Stmt-0 ks) (subst (EachReadyStmt v) (sym (items_hidden-the_row-Stmt-0 ks)) h)
+
+  items_of_each : {m : _} (row : Row_of-CaseItem m) → EachReadyItem v (items-the_row-CaseItem m row) → AreReadyItems v row
+  items_of_each end_of-CaseItem h = tt
+  items_of_each (more_of-CaseItem labels body rest) h = (h.0, items_of_each rest h.1)
+
+  labels_row : {m : _} (row : Row_of-CaseItem m) → labels_in row ≡ each_labels (items-the_row-CaseItem m row)
+  labels_row end_of-CaseItem = refl
+  labels_row (more_of-CaseItem labels body rest) = ap (λ z. exprs_in labels ++ z) (labels_row rest)
+
+  -- at the length and sign that all labels give
+  abbrev Compared : Expr → List Expr → Type 0
+  Compared a labels = ArePlaced v (a ∷ labels) (case_width v a labels) (case_sign v a labels)
+
+  case_ready : (kind : CaseKind) (a : Expr) (is : List CaseItem) → Compared a (each_labels is) → EachReadyItem v is → IsReadyStmt v (s.Case kind a is)
+  case_ready kind a is h g =
+      let same : labels_in (hidden-the_row-CaseItem-2 is) ≡ each_labels is = labels_row (hidden-the_row-CaseItem-2 is) ∙ ap each_labels (items_hidden-the_row-CaseItem-2 is) in
+      (subst (Compared a) (sym same) h, items_of_each (hidden-the_row-CaseItem-2 is) (subst (EachReadyItem v) (sym (items_hidden-the_row-CaseItem-2 is)) g))
+
+  if_ready : (a : Expr) (b : Stmt) → IsSingle v a → IsReadyStmt v b → IsReadyStmt v (s.If a b)
+  unfolding shape-the_row-Stmt-1 hidden-the_row-Stmt-1 denote.Hole.Carrier.hidden
+  if_ready a b h g = (h, g)
+
+  if_else_ready : (a : Expr) (b o : Stmt) → IsSingle v a → IsReadyStmt v b → IsReadyStmt v o → IsReadyStmt v (s.IfElse a b o)
+  unfolding shape-the_row-Stmt-1 hidden-the_row-Stmt-1 denote.Hole.Carrier.hidden
+  if_else_ready a b o h g i = (h, g, i)
+
+  either_ready : (t : Bool) (k : Stmt) → IsReadyStmt v k → IsReadyStmt v (if t then k else s.Empty)
+  either_ready true k h = h
+  either_ready false k h = tt
+
+  either_row : (t : Bool) (k : Stmt) (ks : List Stmt) → IsReadyStmt v k → EachReadyStmt v ks → EachReadyStmt v (if t then k ∷ ks else ks)
+  either_row true k ks h g = (h, g)
+  either_row false k ks h g = g
+
+  module _ (is : List ℕ) where
+    labels_sliced : {m : _} (n : ℕ) (row : Row_of-CaseItem m) → each_labels (case_sliced is n row) ≡ labels_in row
+    labels_sliced n end_of-CaseItem = refl
+    labels_sliced n (more_of-CaseItem labels body rest) = ap (λ z. exprs_in labels ++ z) (labels_sliced (n + steps_in body) rest)
+
+    branch_ready : (n : ℕ) (k : Stmt) → IsReadyStmt v (sliced is n k) → IsReadyStmt v (branch_sliced is n k (sliced is n k))
+    branch_ready n k h = either_ready (is_needed is n k) (sliced is n k) h
+
+    mutual
+      sliced_ready : (n : ℕ) (k : Stmt) → IsReadyStmt v k → IsReadyStmt v (sliced is n k)
+      sliced_ready n s.Empty h = tt
+      sliced_ready n (s.Block' name q row) h = block_ready (row_sliced is n row) (row_ready n row h)
+      sliced_ready n (s.If' a q (more_of-Stmt body end_of-Stmt)) h = if_ready a (branch_sliced is (suc n) body (sliced is (suc n) body)) h.0 (branch_ready (suc n) body (sliced_ready (suc n) body h.1))
+      sliced_ready n (s.IfElse' a q (more_of-Stmt body end_of-Stmt) i (more_of-Stmt other end_of-Stmt)) h =
+          let m = suc n + steps_in body in
+          if_else_ready a (branch_sliced is (suc n) body (sliced is (suc n) body)) (branch_sliced is m other (sliced is m other)) h.0 (branch_ready (suc n) body (sliced_ready (suc n) body h.1))
+          (branch_ready m other (sliced_ready m other h.2))
+      sliced_ready n (s.Case' kind a q row) h = case_ready kind a (case_sliced is (suc n) row) (subst (Compared a) (sym (labels_sliced (suc n) row)) h.0) (items_ready (suc n) row h.1)
+      sliced_ready n (s.Blocking left right) h = h
+      sliced_ready n (s.Nonblocking left right) h = h
+
+      row_ready : {m : _} (n : ℕ) (row : Row_of-Stmt m) → AreReadyStmts v row → EachReadyStmt v (row_sliced is n row)
+      row_ready n end_of-Stmt h = tt
+      row_ready n (more_of-Stmt a rest) h = either_row (is_needed is n a) (sliced is n a) (row_sliced is (n + steps_in a) rest) (sliced_ready n a h.0) (row_ready (n + steps_in a) rest h.1)
+
+      items_ready : {m : _} (n : ℕ) (row : Row_of-CaseItem m) → AreReadyItems v row → EachReadyItem v (case_sliced is n row)
+      items_ready n end_of-CaseItem h = tt
+      items_ready n (more_of-CaseItem labels body rest) h = (branch_ready n body (sliced_ready n body h.0), items_ready (n + steps_in body) rest h.1)
+
+    pub slice_ready : (k : Stmt) → IsReadyStmt v k → IsReadyStmt v (slice_of is k)
+    slice_ready k h = either_ready (is_needed is 0 k) (sliced is 0 k) (sliced_ready 0 k h)
 
 -- ---- places
 
@@ -228,52 +243,85 @@ undeclared (g ∷ gs) (l ∷ ls) x h e = by_test (undeclared gs ls x h.1) (bytes
         let z : entry_at (declared ls) x 0 ≡ None = ap (λ (t : Bool). if t then Some (entry_of l 0) else entry_at (declared ls) x 0) (sym q) ∙ (sym shape ∙ e) in
         ap (λ (t : Bool). if t then Some g else signal_at gs x) q ∙ rest z
 
-pub step_is : (ls : List Leaf) (k : Stmt) (t : Step) → ((x : Name) → Among (read_in k) x → IsPlaced ls t.reads x) → SparesOthers ls t.writes k → IsStepOf ls k t
-step_is ls k t reads spares gs h = record {
-  reads = λ x m.
-      let long = names_long gs ls h in
-      ⊎_elim
-      (λ (p : (i : ℕ) × Among t.reads i × (i < length ls) × (name_at ls i ≡ x)). inl (p.0, among_contains t.reads p.0 p.1, omega (arith, p.2, long), leaf_name gs ls p.0 h ∙ p.3))
-      (λ n. inr (undeclared gs ls x h n))
-      (reads x m);
-  leaves = λ i c lt n.
-      let long = names_long gs ls h in
-      let e = leaf_name gs ls i h in
-      ap (run true (flat gs) k c c) e ∙ (spares i (omega (arith, lt, long)) (λ m. n (among_contains t.writes i m)) gs true c c h ∙ ap c (sym e));
+found_of : (gs : List Signal) (ls : List Leaf) (is : List ℕ) (x : Name) → AreLeavesOf gs ls → IsPlaced ls is x → IsFound gs (map (λ (g : Signal). g.name) gs) is x
+found_of gs ls is x h p =
+    let long = names_long gs ls h in
+    ⊎_elim
+    (λ (q : (i : ℕ) × Among is i × (i < length ls) × (name_at ls i ≡ x)). inl (q.0, among_contains is q.0 q.1, omega (arith, q.2, long), leaf_name gs ls q.0 h ∙ q.3))
+    (λ n. inr (undeclared gs ls x h n))
+    p
+
+told_guard : (gs : List Signal) (ls : List Leaf) (g : Option ℕ) (t : Step) → IsGuarded ls g t.reads → IsUnder (guard_place ls) g t
+told_guard gs ls None t h = tt
+told_guard gs ls (Some g) t h = among_contains t.reads (guard_place ls g) h
+
+told_writes : (gs : List Signal) (ls : List Leaf) (n : ℕ) (k : Action) (t : Step) → AreLeavesOf gs ls → IsWritten ls n k t.writes → Tells gs (map (λ (g : Signal). g.name) gs) (guard_place ls) n k t
+told_writes gs ls n (Tests a) t h w = among_contains t.writes (guard_place ls n) w
+told_writes gs ls n (Chooses a labels) t h w = among_contains t.writes (guard_place ls n) w
+told_writes gs ls n (Stores left right) t h w = λ i c lt away.
+    let long = names_long gs ls h in
+    let e = leaf_name gs ls i h in
+    ap (run true (flat gs) (s.Blocking left right) c c) e ∙ (w i right (omega (arith, lt, long)) (λ m. away (among_contains t.writes i m)) gs true c c h ∙ ap c (sym e))
+
+pub step_is : (ls : List Leaf) (n : ℕ) (k : Part) (t : Step) → Needs ls k t.reads → IsWritten ls n k.action t.writes → IsStepOf ls n k t
+step_is ls n k t needs written gs h = record {
+  under = told_guard gs ls k.guard t needs.1;
+  found = λ x m. found_of gs ls t.reads x h (needs.0 x m);
+  tells = told_writes gs ls n k.action t h written;
 }
 
-pub steps_push : (ls : List Leaf) (ks : List Stmt) (ts : List Step) (k : Stmt) (t : Step) → AreStepsOf ls ks ts → IsStepOf ls k t → AreStepsOf ls (ks ++ k ∷ []) (ts ++ t ∷ [])
-steps_push ls [] [] k t h g = (g, tt)
-steps_push ls [] (u ∷ ts) k t h g = absurd h
-steps_push ls (j ∷ ks) [] k t h g = absurd h
-steps_push ls (j ∷ ks) (u ∷ ts) k t h g = (h.0, steps_push ls ks ts k t h.1 g)
+pub steps_push : (ls : List Leaf) (n : ℕ) (ks : List Part) (ts : List Step) (k : Part) (t : Step) → AreStepsOf ls n ks ts → IsStepOf ls (n + length ks) k t → AreStepsOf ls n (ks ++ k ∷ []) (ts ++ t ∷ [])
+steps_push ls n [] [] k t h g = let z : n + 0 ≡ n = omega arith in (subst (λ m. IsStepOf ls m k t) z g, tt)
+steps_push ls n [] (u ∷ ts) k t h g = absurd h
+steps_push ls n (j ∷ ks) [] k t h g = absurd h
+steps_push ls n (j ∷ ks) (u ∷ ts) k t h g = let z : n + suc (length ks) ≡ suc n + length ks = omega arith in (h.0, steps_push ls (suc n) ks ts k t h.1 (subst (λ m. IsStepOf ls m k t) z g))
 
-pub steps_long : (ls : List Leaf) (ks : List Stmt) (ts : List Step) → AreStepsOf ls ks ts → length ts ≡ length ks
-steps_long ls [] [] h = refl
-steps_long ls [] (t ∷ ts) h = absurd h
-steps_long ls (k ∷ ks) [] h = absurd h
-steps_long ls (k ∷ ks) (t ∷ ts) h = ap suc (steps_long ls ks ts h.1)
+steps_told : (gs : List Signal) (ls : List Leaf) (n : ℕ) (ks : List Part) (ts : List Step) → AreLeavesOf gs ls → AreStepsOf ls n ks ts → AreTold gs (map (λ (g : Signal). g.name) gs) (guard_place ls) n ks ts
+steps_told gs ls n [] [] h g = tt
+steps_told gs ls n [] (t ∷ ts) h g = absurd g
+steps_told gs ls n (k ∷ ks) [] h g = absurd g
+steps_told gs ls n (k ∷ ks) (t ∷ ts) h g = (g.0 gs h, steps_told gs ls (suc n) ks ts h g.1)
 
-steps_told : (gs : List Signal) (ls : List Leaf) (ks : List Stmt) (ts : List Step) → AreLeavesOf gs ls → AreStepsOf ls ks ts → AreTold gs (map (λ (g : Signal). g.name) gs) ks ts
-steps_told gs ls [] [] h g = tt
-steps_told gs ls [] (t ∷ ts) h g = absurd g
-steps_told gs ls (k ∷ ks) [] h g = absurd g
-steps_told gs ls (k ∷ ks) (t ∷ ts) h g = (g.0 gs h, steps_told gs ls ks ts h g.1)
+-- ---- steps, one after another
+
+-- what is asked of the steps holds of the one at a place
+pub part_ready : (v : List Entry) (ks : List Text) (i : ℕ) (k : Text) → i < length ks → k ≡ get_or ks i k → EachReadyStep v (map step_meant ks) → IsReadyAction v (action_meant k.action)
+part_ready v [] i k lt e h = absurd (omega (arith, lt))
+part_ready v (j ∷ ks) zero k lt e h = subst (λ (z : Text). IsReadyAction v (action_meant z.action)) (sym e) h.0
+part_ready v (j ∷ ks) (suc i) k lt e h = part_ready v ks i k (omega (arith, lt)) e h.1
+
+taken_long : (ks : List Text) (i : ℕ) → i ≤ length ks → length (map step_meant (take i ks)) ≡ i
+taken_long ks zero le = refl
+taken_long [] (suc i) le = absurd (omega (arith, le))
+taken_long (k ∷ ks) (suc i) le = ap suc (taken_long ks i (omega (arith, le)))
+
+pub step_next : (ls : List Leaf) (ks : List Text) (i : ℕ) (k : Text) (ts : List Step) (t : Step) → i < length ks → k ≡ get_or ks i k → AreStepsOf ls 0 (map step_meant (take i ks)) ts
+    → IsStepOf ls i (step_meant k) t → AreStepsOf ls 0 (map step_meant (take (i + 1) ks)) (ts ++ t ∷ [])
+step_next ls ks i k ts t lt e h g =
+    let before = map step_meant (take i ks) in
+    let split : map step_meant (take (i + 1) ks) ≡ before ++ step_meant k ∷ [] = ap (map step_meant) (take_next ks i k k lt e) ∙ map-append step_meant (take i ks) (k ∷ []) in
+    let long : 0 + length before ≡ i = let l = taken_long ks i (omega (arith, lt)) in omega (arith, l) in
+    subst (λ z. AreStepsOf ls 0 z (ts ++ t ∷ [])) (sym split) (steps_push ls 0 before ts (step_meant k) t h (subst (λ m. IsStepOf ls m (step_meant k) t) (sym long) g))
 
 -- ---- other leaves of the same names
 
-steps_same : (ls ms : List Leaf) (ks : List Stmt) (ts : List Step) → declared ms ≡ declared ls → AreStepsOf ls ks ts → AreStepsOf ms ks ts
-steps_same ls ms [] [] e h = tt
-steps_same ls ms [] (t ∷ ts) e h = absurd h
-steps_same ls ms (k ∷ ks) [] e h = absurd h
-steps_same ls ms (k ∷ ks) (t ∷ ts) e h = (λ gs g. h.0 gs (same_leaves gs ms ls (sym e) g), steps_same ls ms ks ts e h.1)
+leaves_long : (ls ms : List Leaf) → declared ms ≡ declared ls → length ms ≡ length ls
+leaves_long ls ms e = sym (declared_long ms) ∙ (ap length e ∙ declared_long ls)
+
+steps_same : (ls ms : List Leaf) (n : ℕ) (ks : List Part) (ts : List Step) → declared ms ≡ declared ls → AreStepsOf ls n ks ts → AreStepsOf ms n ks ts
+steps_same ls ms n [] [] e h = tt
+steps_same ls ms n [] (t ∷ ts) e h = absurd h
+steps_same ls ms n (k ∷ ks) [] e h = absurd h
+steps_same ls ms n (k ∷ ks) (t ∷ ts) e h =
+    (λ gs g. subst (λ l. IsTold gs (map (λ (g : Signal). g.name) gs) (λ i. min (l + i) 18446744073709551615) n k t) (sym (leaves_long ls ms e)) (h.0 gs (same_leaves gs ms ls (sym e) g)), steps_same ls ms (suc n) ks ts e h.1)
 
 block_same : (ls ms : List Leaf) (k : Stmt) (b : Block) → declared ms ≡ declared ls → IsBlockOf ls k b → IsBlockOf ms k b
 block_same ls ms k b e h = record {
-  stmts = h.stmts;
+  text = h.text;
   runnable = record {
-    ready = subst (λ v. EachReadyStmt v (stmts_in b)) (sym e) h.runnable.ready;
-    steps = steps_same ls ms (stmts_in b) b.steps e h.runnable.steps;
+    ready = subst (λ v. IsReadyStmt v b.text.stmt.now) (sym e) h.runnable.ready;
+    text = h.runnable.text;
+    steps = steps_same ls ms 0 (parts_of None 0 b.text.stmt.now) b.steps e h.runnable.steps;
   };
 }
 
@@ -282,72 +330,6 @@ blocks_same ls ms [] [] e h = tt
 blocks_same ls ms [] (b ∷ bs) e h = absurd h
 blocks_same ls ms (k ∷ ks) [] e h = absurd h
 blocks_same ls ms (k ∷ ks) (b ∷ bs) e h = (block_same ls ms k.body b e h.0, blocks_same ls ms ks bs e h.1)
-
--- ---- some of the statements, run one after another
-
-pub record Going (all : List Stmt) (done : List ℕ) (ls : List Leaf) (a : List Node) (ms : List Leaf) (b : List Node) : Type 0 where
-  pub keeps : Keeps a b
-  pub same : declared ms ≡ declared ls
-  pub set : AreSet None ms b
-  pub runs : Runs None (each_of (map (stmt_at all) done)) ls a ms b
-
-pub going_start : (all : List Stmt) (ls : List Leaf) (a : List Node) → AreSet None ls a → Going all [] ls a ls a
-going_start all ls a h = record { keeps = keeps_same a; same = refl; set = h; runs = λ gs e c d are before shown. shown }
-
-after_last : (p : Place) (ks : List Stmt) (k : Stmt) (c : Cycle) → after_each p (ks ++ k ∷ []) c ≡ run true p k (after_each p ks c) (after_each p ks c)
-after_last p [] k c = refl
-after_last p (j ∷ ks) k c = after_last p ks k (run true p j c c)
-
-pub going_next : (all : List Stmt) (done : List ℕ) (i : ℕ) (k : Stmt) (ls : List Leaf) (a : List Node) (ms : List Leaf) (b : List Node) (ns : List Leaf) (d : List Node) → Going all done ls a ms b → k ≡ stmt_at all i →
-    Keeps b d → declared ns ≡ declared ms → AreSet None ns d → Runs None (λ gs. run true (flat gs) k) ms b ns d → Going all (done ++ i ∷ []) ls a ns d
-going_next all done i k ls a ms b ns d h e keeps same set runs = record {
-  keeps = keeps_then a b d h.keeps keeps;
-  same = same ∙ h.same;
-  set = set;
-  runs = λ gs n c u are before shown.
-      let js = map (stmt_at all) done in
-      let now : Cycle = after_each (flat gs) js u in
-      let split : map (stmt_at all) (done ++ i ∷ []) ≡ js ++ stmt_at all i ∷ [] = map-append (stmt_at all) done (i ∷ []) in
-      let last : after_each (flat gs) (map (stmt_at all) (done ++ i ∷ [])) u ≡ run true (flat gs) k now now =
-      ap (λ z. after_each (flat gs) z u) split ∙ (after_last (flat gs) js (stmt_at all i) u ∙ ap (λ z. run true (flat gs) z now now) (sym e)) in
-      subst (λ z. AreShown n d ns z) (sym last) (runs gs n now now (same_leaves gs ls ms h.same are) tt (h.runs gs n c u are tt shown));
-}
-
-pub going_end : (all : List Stmt) (is : List ℕ) (n : ℕ) (ls : List Leaf) (a : List Node) (ms : List Leaf) (b : List Node) → length is ≤ n → Going all (take n is) ls a ms b → Runs None (each_of (map (stmt_at all) is)) ls a ms b
-going_end all is n ls a ms b le h = subst (λ z. Runs None (each_of (map (stmt_at all) z)) ls a ms b) (take_all n is le) h.runs
-
--- ---- nodes that are saved for statements
-
-saved_both : (ls : List Leaf) (xs ys : List Saved) → IsSaved ls xs → IsSaved ls ys → IsSaved ls (xs ++ ys)
-saved_both ls xs ys h g =
-    let places : places_of (xs ++ ys) ≡ places_of xs ++ places_of ys = map-append (λ (z : Saved). z.place) xs ys in
-    record {
-      within = subst (AreWithin ls) (sym places) (All-append (λ i. i < length ls) (places_of xs) (places_of ys) h.within g.within);
-      nodes = (λ r. h.nodes r ++ g.nodes r) ∙ (sym (map-append (λ i. record { place = i; node = node_at ls i }) (places_of xs) (places_of ys)) ∙ ap (saved_at ls) (sym places));
-    }
-
-covers_left : (ls : List Leaf) (xs ys : List Saved) (k : Stmt) → Covers ls xs k → Covers ls (xs ++ ys) k
-covers_left ls xs ys k h i lt away =
-    h i lt (λ m. away (subst (λ z. Contains z i) (sym (map-append (λ (z : Saved). z.place) xs ys)) (Contains-append_left (places_of xs) (places_of ys) i m)))
-
-covers_right : (ls : List Leaf) (xs ys : List Saved) (k : Stmt) → Covers ls ys k → Covers ls (xs ++ ys) k
-covers_right ls xs ys k h i lt away =
-    h i lt (λ m. away (subst (λ z. Contains z i) (sym (map-append (λ (z : Saved). z.place) xs ys)) (Contains-append_right (places_of xs) (places_of ys) i m)))
-
--- nodes are saved for each statement of these places
-pub record Saving (ls : List Leaf) (all : List Stmt) (done : List ℕ) (ss : List Saved) : Type 0 where
-  pub saved : IsSaved ls ss
-  pub covers : (i : ℕ) → Among done i → Covers ls ss (stmt_at all i)
-
-pub saving_start : (ls : List Leaf) (all : List Stmt) → Saving ls all [] []
-saving_start ls all = record { saved = record { within = λ k u lt. absurd (omega (arith, lt)); nodes = refl }; covers = λ i m. absurd m }
-
-pub saving_next : (ls : List Leaf) (all : List Stmt) (done : List ℕ) (i : ℕ) (xs ys : List Saved) → Saving ls all done xs → IsSaved ls ys → Covers ls ys (stmt_at all i) → Saving ls all (done ++ i ∷ []) (xs ++ ys)
-saving_next ls all done i xs ys h saved covers = record {
-  saved = saved_both ls xs ys h.saved saved;
-  covers = λ j m. ⊎_elim (λ q. covers_left ls xs ys (stmt_at all j) (h.covers j q)) (λ q. ⊎_elim (λ (e : i ≡ j). subst (λ z. Covers ls (xs ++ ys) (stmt_at all z)) e (covers_right ls xs ys (stmt_at all i) covers)) (λ n. absurd n) q)
-      (among_append done (i ∷ []) j m);
-}
 
 -- ---- nets that a slice gives
 
@@ -362,86 +344,48 @@ taking_same xs f g d h = λ r y. point y r
     point : (y : Name) → taking xs f d y ≡ taking xs g d y
     point y = ⊎_elim (λ m. taken xs y f d m ∙ (h y m ∙ sym (taken xs y g d m))) (λ n. kept xs y f d n ∙ sym (kept xs y g d n)) (among_or xs y)
 
-each_spares : (p : Place) (ks : List Stmt) (x : Name) → ((k : Stmt) → Among ks k → (c : Cycle) → run true p k c c x ≡ c x) → (c : Cycle) → after_each p ks c x ≡ c x
-each_spares p [] x h c = refl
-each_spares p (k ∷ ks) x h c = each_spares p ks x (λ j m. h j (inr m)) (run true p k c c) ∙ h k (inl refl) c
-
 named_by : (gs : List Signal) (is : List ℕ) (y : Name) → Among (names_of gs is) y → (i : ℕ) × Among is i × (name_of gs i ≡ y)
 named_by gs [] y m = absurd m
 named_by gs (i ∷ is) y m = ⊎_elim (λ e. (i, inl refl, e)) (λ n. let r = named_by gs is y n in (r.0, inr r.1, r.2)) m
 
-picked_by : (all : List Stmt) (is : List ℕ) (k : Stmt) → Among (map (stmt_at all) is) k → (i : ℕ) × Among is i × (stmt_at all i ≡ k)
-picked_by all [] k m = absurd m
-picked_by all (i ∷ is) k m = ⊎_elim (λ e. (i, inl refl, e)) (λ n. let r = picked_by all is k n in (r.0, inr r.1, r.2)) m
-
-module _ (all : List Stmt) (ts : List Step) (wanted chosen : List ℕ) (before : List Saved) (ls ms : List Leaf) (a b : List Node) (set : AreSet None ls a) (steps : AreStepsOf ls all ts) (slice : IsSlice ts wanted chosen)
-    (within : AreWithin ls wanted) (saving : Saving ls all chosen before) (going : Going all chosen ls a ms b) where
+module _ (k part : Stmt) (ts : List Step) (wanted chosen : List ℕ) (before : List Saved) (ls ms : List Leaf) (a b : List Node) (set : AreSet None ls a) (after : AreSet None ms b) (same : declared ms ≡ declared ls)
+    (keeps : Keeps a b) (saved : IsSaved ls before) (within : AreWithin ls wanted) where
   abbrev last : List Leaf
   last = put_back (put_back ms before) (saved_at ms wanted)
 
   board : (gs : List Signal) → AreLeavesOf gs ls → IsBoard gs ls a
   board gs are = record { leaves = are; ready = set.ready; apart = set.apart }
 
-  after : (gs : List Signal) → AreLeavesOf gs ls → IsBoard gs ms b
-  after gs are = record { leaves = same_leaves gs ls ms going.same are; ready = going.set.ready; apart = going.set.apart }
+  board_after : (gs : List Signal) → AreLeavesOf gs ls → IsBoard gs ms b
+  board_after gs are = record { leaves = same_leaves gs ls ms same are; ready = after.ready; apart = after.apart }
 
   pub driven_same : HaveSignals ls → declared last ≡ declared ls
-  driven_same s = last_same s.0 ls ms a b before wanted (board s.0 s.1) (after s.0 s.1) going.same going.keeps saving.saved within
+  driven_same h = last_same h.0 ls ms a b before wanted (board h.0 h.1) (board_after h.0 h.1) same keeps saved within
 
   pub driven_set : HaveSignals ls → AreSet None last b
-  driven_set s = set_of s.0 last b (last_board s.0 ls ms a b before wanted (board s.0 s.1) (after s.0 s.1) going.same going.keeps saving.saved within)
+  driven_set h = set_of h.0 last b (last_board h.0 ls ms a b before wanted (board h.0 h.1) (board_after h.0 h.1) same keeps saved within)
 
-  pub driven_runs : Runs None (nets_taking wanted all) ls a last b
-  driven_runs gs e c d are none shown =
+  pub driven_runs : part ≡ slice_of chosen k → AreStepsOf ls 0 (parts_of None 0 k) ts → IsSlice ts wanted chosen → Covers ls before part → Runs None (λ gs. run true (flat gs) part) ls a ms b
+      → Runs None (nets_taking wanted k) ls a last b
+  driven_runs is steps slice covers runs gs e c d are none shown =
       let names = map (λ (g : Signal). g.name) gs in
-      let f : Cycle → Cycle = after_each (flat gs) (map (stmt_at all) chosen) in
-      let shows = last_shown gs ls ms a b before wanted (board gs are) (after gs are) going.same going.keeps saving.saved within f
-      (λ i lt away u. each_spares (flat gs) (map (stmt_at all) chosen) (name_at ls i)
-      (λ k m v. let r = picked_by all chosen k m in
-      subst (λ z. run true (flat gs) z v v (name_at ls i) ≡ v (name_at ls i)) r.2 (saving.covers r.0 r.1 i lt away gs true v v are)) u)
-      (λ n u h. going.runs gs n u u are tt h) in
+      let f : Cycle → Cycle = λ u. run true (flat gs) part u u in
+      let shows = last_shown gs ls ms a b before wanted (board gs are) (board_after gs are) same keeps saved within f (λ i lt away u. covers i lt away gs true u u are) (λ n u h. runs gs n u u are tt h) in
       subst (AreShown e b last)
-      (taking_same (names_of gs wanted) (f d) (after_each (flat gs) all d) d
+      (taking_same (names_of gs wanted) (f d) (run true (flat gs) k d d) d
       (λ y m. let r = named_by gs wanted y m in
       let lt = each_within ls wanted within r.0 r.1 in
       let long = names_long gs ls are in
-      let is : get_or names r.0 [] ≡ y = name_is gs r.0 ∙ r.2 in
-      subst (λ z. f d z ≡ after_each (flat gs) all d z) is
-      (slices_give gs names all ts wanted chosen d r.0 (vectors_of gs ls are) (steps_told gs ls all ts are steps) slice (among_contains wanted r.0 r.1) (omega (arith, lt, long)))))
+      let at : get_or names r.0 [] ≡ y = name_is gs r.0 ∙ r.2 in
+      subst (λ z. f d z ≡ run true (flat gs) k d d z) at
+      (ap (λ z. run true (flat gs) z d d (get_or names r.0 [])) is
+      ∙ slices_give gs names (guard_place ls) k ts wanted chosen d r.0 (vectors_of gs ls are) (steps_told gs ls 0 (parts_of None 0 k) ts are steps) slice (among_contains wanted r.0 r.1) (omega (arith, lt, long)))))
       (shows e d shown)
-
--- ---- statements by their numbers
-
-pub stmt_index : (ks : List (Bor Stmt)) (i : ℕ) (u : Bor Stmt) → i < length ks → u ≡ get_or ks i u → u.now ≡ stmt_at (map stmt_meant ks) i
-stmt_index [] i u lt e = absurd (omega (arith, lt))
-stmt_index (k ∷ ks) zero u lt e = ap stmt_meant e
-stmt_index (k ∷ ks) (suc i) u lt e = stmt_index ks i u (omega (arith, lt)) e
-
-pub stmts_long : (ks : List (Bor Stmt)) → length (map stmt_meant ks) ≡ length ks
-stmts_long [] = refl
-stmts_long (k ∷ ks) = ap suc (stmts_long ks)
-
--- what is asked of a statement holds at its place
-pub ready_index : (v : List Entry) (ks : List (Bor Stmt)) (i : ℕ) (u : Bor Stmt) → i < length ks → u ≡ get_or ks i u → EachReadyStmt v (map stmt_meant ks) → IsReadyStmt v u.now
-ready_index v ks i u lt e h =
-    let long = stmts_long ks in
-    subst (IsReadyStmt v) (sym (stmt_index ks i u lt e)) (ready_at v (map stmt_meant ks) i (omega (arith, lt, long)) h)
-
--- ---- steps, one after another
-
-pub steps_next : (ls : List Leaf) (ks : List (Bor Stmt)) (i : ℕ) (k : Bor Stmt) (ts : List Step) (t : Step) → i < length ks → k ≡ get_or ks i k → AreStepsOf ls (map stmt_meant (take i ks)) ts
-    → ((x : Name) → Among (read_in k.now) x → IsPlaced ls t.reads x) → SparesOthers ls t.writes k.now → AreStepsOf ls (map stmt_meant (take (i + 1) ks)) (ts ++ t ∷ [])
-steps_next ls ks i k ts t lt e h reads spares =
-    let split : map stmt_meant (take (i + 1) ks) ≡ map stmt_meant (take i ks) ++ k.now ∷ [] = ap (map stmt_meant) (take_next ks i k k lt e) ∙ map-append stmt_meant (take i ks) (k ∷ []) in
-    subst (λ z. AreStepsOf ls z (ts ++ t ∷ [])) (sym split) (steps_push ls (map stmt_meant (take i ks)) ts k.now t h (step_is ls k.now t reads spares))
-
-pub steps_all : (ls : List Leaf) (ks : List (Bor Stmt)) (i : ℕ) (ts : List Step) → length ks ≤ i → AreStepsOf ls (map stmt_meant (take i ks)) ts → AreStepsOf ls (map stmt_meant ks) ts
-steps_all ls ks i ts le h = subst (λ z. AreStepsOf ls (map stmt_meant z) ts) (take_all i ks le) h
 
 -- ---- names, one after another
 
 -- the name of the next part, or one before it
-pub names_next : (parts : List Part) (i : ℕ) (q : Part) (x : Name) → i < length parts → q ≡ get_or parts i q → Among (map part_name (map part_meant (take (i + 1) parts))) x
+pub names_next : (parts : List Read) (i : ℕ) (q : Read) (x : Name) → i < length parts → q ≡ get_or parts i q → Among (map part_name (map part_meant (take (i + 1) parts))) x
     → Among (map part_name (map part_meant (take i parts))) x ⊎ (part_name (part_meant q) ≡ x)
 names_next parts i q x lt e m =
     let before = take i parts in
@@ -478,13 +422,11 @@ block_placed f ls bs n place b is le lt e h =
     let at : length f.assigns + (place - n) ≡ place = omega (arith, is, le) in
     (r.0, block_at f (place - n) r.0 r.0 within r.1 ∙ ap (statement_at (statements f)) at, r.2)
 
--- what nets take of a block's statements is what they take of the block
-pub net_shows : (gs : List Signal) (body : Stmt) (b : Block) (is : List ℕ) (ls ms : List Leaf) (a d : List Node) → AreLeavesOf gs ls → stmts_in b ≡ opened body → Runs None (nets_taking is (stmts_in b)) ls a ms d
+-- what nets take of a block is what they take of its text
+pub net_shows : (gs : List Signal) (body : Stmt) (b : Block) (is : List ℕ) (ls ms : List Leaf) (a d : List Node) → AreLeavesOf gs ls → b.text.stmt.now ≡ body → Runs None (nets_taking is b.text.stmt.now) ls a ms d
     → Shows (λ c. taking (names_of gs is) (run true (place_over gs) body c c) c) ls a ms d
 net_shows gs body b is ls ms a d are same runs e c shown =
-    let each : after_each (flat gs) (stmts_in b) c ≡ run true (place_over gs) body c c =
-    ap (λ z. after_each (flat gs) z c) same ∙ (λ r x. sym (blocks_open gs body c x (vectors_of gs ls are)) r) in
-    subst (λ z. AreShown e d ms (taking (names_of gs is) z c)) each (runs gs e c c are tt shown)
+    subst (λ z. AreShown e d ms (taking (names_of gs is) (run true (flat gs) z c c) c)) same (runs gs e c c are tt shown)
 
 pub blocks_push : (ls : List Leaf) (ks : List Always) (bs : List Block) (k : Always) (b : Block) → AreBlocksOf ls ks bs → IsBlockOf ls k.body b → AreBlocksOf ls (ks ++ k ∷ []) (bs ++ b ∷ [])
 blocks_push ls [] [] k b h g = (g, tt)

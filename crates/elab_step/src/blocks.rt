@@ -1,98 +1,84 @@
-// Blocks that are run in part: for some nets, the statements alone that they need.
-ghost use Rattle.std.specs.Prelude.{◌≡◌, ◌<◌, ◌++◌, [], ◌∷◌, None, map, length, ℕ, IfOk, OnOk};
+// Blocks that are run in part: for some nets, the steps alone that they need.
+ghost use Rattle.std.specs.Prelude.{◌≡◌, ◌++◌, ℕ, None, map, IfOk, OnOk};
 ghost use Rattle.std.specs.List.{flat_map};
 ghost use Rattle.word_dag.specs.Adding.{Keeps};
-ghost use Rattle.vlog_runs.specs.Places.{Name, Among};
-ghost use Rattle.elab_drive.specs.Parts.{part_meant};
-ghost use Rattle.elab_drive.specs.Pieces.{piece_meant, actions};
-ghost use Rattle.elab_drive.specs.Wanting.{action_reads};
+ghost use Rattle.vlog_runs.specs.Places.{Among};
+ghost use Rattle.elab_drive.specs.Parts.{part_meant, reads_of};
 ghost use Rattle.elab_node.specs.Leaves.{declared};
-ghost use Rattle.elab_block.specs.Ready.{IsReadyStmt, EachReadyStmt};
+ghost use Rattle.elab_block.specs.Ready.{IsReadyStmt, IsReadyLeft};
+ghost use Rattle.stmt_slices.specs.Parts.{item_labels};
 ghost use Rattle.elab_block.specs.Runs.{AreSet, Runs};
-ghost use Rattle.elab_block.specs.Saving.{AreWithin, IsSaved};
-ghost use Rattle.elab_block.specs.Sparing.{Covers};
+ghost use Rattle.elab_block.specs.Saving.{AreWithin};
 ghost use Rattle.elab_block.specs.Standing.{AreApart};
-ghost use Rattle.slice_laws.specs.Slices.{opened, read_in, stmt_at};
-ghost use Rattle.elab_step.specs.Steps.{stmt_meant, stmts_in, IsPlaced, AddsPlace, SparesOthers, AreStepsOf, IsRunnable, IsBlockOf, HaveSignals, each_of, nets_taking};
+ghost use Rattle.slice_laws.specs.Slices.{names_read};
+ghost use Rattle.stmt_slices.specs.Parts.{action_meant, part_meant as step_meant};
+ghost use Rattle.elab_step.specs.Steps.{parts_read, guard_place, AddsPlace, HavePlaces, AssignsAt, IsReadyAction, EachReadyStep, IsWritten, IsGuarded, Needs, AreStepsOf, IsRunnable, IsBlockOf, HaveSignals, nets_taking};
 
 use crate::nets::restore;
-use elab_block::{Saved, before_one, run};
-use elab_drive::{Part, Piece, add_reads, add_store_reads, name_of, pieces_of};
+use elab_block::{before_assign, before_one, run};
+use elab_drive::{Part, add_reads, add_store_reads, name_of};
 use elab_node::Leaves;
 use outside::Text;
 use sqlite_items::Items;
 use std::alloc::{AllocError, Global};
 use step_slices::Steps;
-use vlog_tree::Stmt;
+use stmt_slices::{Action, Outlined, Part as Step};
+use vlog_tree::{CaseItem, Expr, Labels, Lval, Stmt};
 use word_dag::Dag;
 
-/// A block's statements one after another, those of blocks within it in their places, and the places of the leaves that each reads and assigns.
+/// A block, and the places of the leaves that each of its steps reads and writes. A condition writes a place of its own, behind those of the
+/// leaves, which the steps within it read.
 #[derive(Drop)]
 pub struct Block<'a> {
-    stmts: Vec<&'a Stmt>,
+    text: Outlined<'a>,
     steps: Steps,
 }
 
-#[cycle(opened)]
-fn add_opened<'a>(all: &mut Vec<&'a Stmt>, stmt: &'a Stmt) -> Result<(), AllocError>
-    ensures { OnOk result (map stmt_meant all.new.items ≡ map stmt_meant all.old.items ++ opened stmt.now) }
+fn add_each_reads<'a>(all: &mut Vec<Part<'a>>, exprs: &'a [Expr]) -> Result<(), AllocError>
+    ensures { OnOk result (map part_meant all.new.items ≡ map part_meant all.old.items ++ flat_map reads_of exprs.now) }
 {
-    match stmt {
-        Stmt::Empty => Ok(()),
-        Stmt::Block(_, stmts) => add_row(all, stmts.as_slice()),
-        Stmt::If(_, _)
-        | Stmt::IfElse(_, _, _)
-        | Stmt::Case(_, _, _)
-        | Stmt::Blocking(_, _)
-        | Stmt::Nonblocking(_, _) => {
-            all.push(stmt)?;
-            Ok(())
-        }
-    }
-}
-
-#[cycle(opened)]
-fn add_row<'a>(all: &mut Vec<&'a Stmt>, stmts: &'a [Stmt]) -> Result<(), AllocError>
-    ensures { OnOk result (map stmt_meant all.new.items ≡ map stmt_meant all.old.items ++ flat_map opened stmts.now) }
-{
-    for stmt in stmts {
-        add_opened(all, stmt)?;
+    for expr in exprs {
+        add_reads(all, expr)?;
     }
     Ok(())
 }
 
-// The statements of a block one after another.
-fn opened(alloc: Global, body: &Stmt) -> Result<Vec<&Stmt>, AllocError>
-    ensures { IfOk result (λ r. map stmt_meant r.items ≡ opened body.now) }
+// What the labels of items read.
+fn add_label_reads<'a>(all: &mut Vec<Part<'a>>, items: &'a [CaseItem]) -> Result<(), AllocError>
+    ensures { OnOk result (map part_meant all.new.items ≡ map part_meant all.old.items ++ flat_map reads_of (flat_map item_labels items.now)) }
 {
-    let mut all = Vec::new(alloc);
-    add_opened(&mut all, body)?;
-    Ok(all)
+    for item in items {
+        match &item.labels {
+            Labels::Exprs(exprs) => add_each_reads(all, exprs.as_slice())?,
+            Labels::Default => {}
+        }
+    }
+    Ok(())
 }
 
-fn add_piece_reads<'a>(
+fn add_action_reads<'a>(
     all: &mut Vec<Part<'a>>,
     alloc: Global,
-    piece: Piece<'a>,
+    action: Action<'a>,
 ) -> Result<(), AllocError>
-    ensures { OnOk result (map part_meant all.new.items ≡ map part_meant all.old.items ++ action_reads (piece_meant piece.entry)) }
+    ensures { OnOk result (map part_meant all.new.items ≡ map part_meant all.old.items ++ parts_read (action_meant action.entry)) }
 {
-    match piece {
-        Piece::Test(expr) => add_reads(all, expr),
-        Piece::Blocking(left, right) => add_store_reads(all, alloc, left, right),
-        Piece::Nonblocking(left, right) => add_store_reads(all, alloc, left, right),
+    match action {
+        Action::Test(condition) => add_reads(all, condition),
+        Action::Choice(subject, items) => {
+            add_reads(all, subject)?;
+            add_label_reads(all, items)
+        }
+        Action::Store(left, right) => add_store_reads(all, alloc, left, right),
     }
 }
 
-// What a statement reads.
-fn parts_read(alloc: Global, stmt: &Stmt) -> Result<Vec<Part<'_>>, AllocError>
-    ensures { IfOk result (λ r. map part_meant r.items ≡ flat_map action_reads (actions stmt.now)) }
+// What a step reads.
+fn parts_read<'a>(alloc: Global, action: Action<'a>) -> Result<Vec<Part<'a>>, AllocError>
+    ensures { IfOk result (λ r. map part_meant r.items ≡ parts_read (action_meant action.entry)) }
 {
-    let pieces = pieces_of(alloc, stmt)?;
     let mut all = Vec::new(alloc);
-    for piece in &pieces {
-        add_piece_reads(&mut all, alloc, *piece)?;
-    }
+    add_action_reads(&mut all, alloc, action)?;
     Ok(all)
 }
 
@@ -106,11 +92,11 @@ fn add_place(places: &mut Vec<usize>, leaves: &Leaves, name: &Text) -> Result<()
     Ok(())
 }
 
-// The places of the leaves that a statement reads.
-fn places_read(alloc: Global, stmt: &Stmt, leaves: &Leaves) -> Result<Vec<usize>, AllocError>
-    ensures { IfOk result (λ r. (x : Name) → Among (read_in stmt.now) x → IsPlaced leaves.now r.items x) }
+// The places of the leaves that a step reads.
+fn places_read(alloc: Global, action: Action<'_>, leaves: &Leaves) -> Result<Vec<usize>, AllocError>
+    ensures { IfOk result (λ r. HavePlaces leaves.now r.items (names_read (action_meant action.entry))) }
 {
-    let parts = parts_read(alloc, stmt)?;
+    let parts = parts_read(alloc, action)?;
     let mut places = Vec::new(alloc);
     for part in &parts {
         add_place(&mut places, leaves, name_of(*part))?;
@@ -118,13 +104,20 @@ fn places_read(alloc: Global, stmt: &Stmt, leaves: &Leaves) -> Result<Vec<usize>
     Ok(places)
 }
 
-// The places of the leaves that a statement assigns.
-fn places_assigned(alloc: Global, stmt: &Stmt, leaves: &Leaves) -> Result<Vec<usize>, AllocError>
-    requires apart { AreApart leaves.now }
-    requires stmt { IsReadyStmt (declared leaves.now) stmt.now }
-    ensures { IfOk result (λ r. SparesOthers leaves.now r.items stmt.now) }
+// The place that a condition writes.
+fn guard_place(leaves: &Leaves, number: usize) -> usize
+    ensures { result ≡ guard_place leaves.now number }
 {
-    let saved = before_one(alloc, stmt, leaves)?;
+    leaves.len().saturating_add(number)
+}
+
+// The places of the leaves that a left side assigns.
+fn places_assigned(alloc: Global, left: &Lval, leaves: &Leaves) -> Result<Vec<usize>, AllocError>
+    requires apart { AreApart leaves.now }
+    requires left { IsReadyLeft (declared leaves.now) left.now }
+    ensures { IfOk result (λ r. AssignsAt leaves.now r.items left.now) }
+{
+    let saved = before_assign(alloc, left, leaves)?;
     let mut places = Vec::new(alloc);
     for one in &saved {
         places.push(one.place)?;
@@ -132,77 +125,80 @@ fn places_assigned(alloc: Global, stmt: &Stmt, leaves: &Leaves) -> Result<Vec<us
     Ok(places)
 }
 
-// What each statement reads and assigns.
-fn steps_of(alloc: Global, stmts: &[&Stmt], leaves: &Leaves) -> Result<Steps, AllocError>
+// The places that a step writes.
+fn places_written(
+    alloc: Global,
+    number: usize,
+    action: Action<'_>,
+    leaves: &Leaves,
+) -> Result<Vec<usize>, AllocError>
     requires apart { AreApart leaves.now }
-    requires stmts { EachReadyStmt (declared leaves.now) (map stmt_meant stmts.now) }
-    ensures { IfOk result (λ r. AreStepsOf leaves.now (map stmt_meant stmts.now) r) }
+    requires action { IsReadyAction (declared leaves.now) (action_meant action) }
+    ensures { IfOk result (λ r. IsWritten leaves.now number (action_meant action.entry) r.items) }
+{
+    match action {
+        Action::Test(_) | Action::Choice(_, _) => {
+            let mut places = Vec::new(alloc);
+            places.push(guard_place(leaves, number))?;
+            Ok(places)
+        }
+        Action::Store(left, _) => places_assigned(alloc, left, leaves),
+    }
+}
+
+// Adds the place of a condition, if there is one.
+fn add_guard(
+    places: &mut Vec<usize>,
+    leaves: &Leaves,
+    guard: Option<usize>,
+) -> Result<(), AllocError>
+    ensures kept { OnOk result ((i : ℕ) → Among places.old.items i → Among places.new.items i) }
+    ensures guard { OnOk result (IsGuarded leaves.now guard places.new.items) }
+{
+    if let Some(number) = guard {
+        places.push(guard_place(leaves, number))?;
+    }
+    Ok(())
+}
+
+// The places that a step reads, that of the condition that it is within among them.
+fn places_needed(alloc: Global, step: Step<'_>, leaves: &Leaves) -> Result<Vec<usize>, AllocError>
+    ensures { IfOk result (λ r. Needs leaves.now (step_meant step.entry) r.items) }
+{
+    let mut places = places_read(alloc, step.action, leaves)?;
+    add_guard(&mut places, leaves, step.guard)?;
+    Ok(places)
+}
+
+// What each step reads and writes.
+fn steps_of(alloc: Global, parts: &[Step<'_>], leaves: &Leaves) -> Result<Steps, AllocError>
+    requires apart { AreApart leaves.now }
+    requires parts { EachReadyStep (declared leaves.now) (map step_meant parts.now) }
+    ensures { IfOk result (λ r. AreStepsOf leaves.now 0 (map step_meant parts.now) r) }
 {
     let mut steps = Steps::new(alloc);
-    for stmt in stmts {
-        let reads = places_read(alloc, stmt, leaves)?;
-        let assigns = places_assigned(alloc, stmt, leaves)?;
-        steps = steps.with(alloc, reads, assigns)?;
+    for number in 0..parts.len() {
+        let part = parts[number];
+        let reads = places_needed(alloc, part, leaves)?;
+        let writes = places_written(alloc, number, part.action, leaves)?;
+        steps = steps.with(alloc, reads, writes)?;
     }
     Ok(steps)
 }
 
-/// A block, ready to be run in part, in time linear in its length. It is refused for want of memory alone.
+/// A block, ready to be run in part. It is refused for want of memory alone.
 pub fn block_of<'a>(alloc: Global, body: &'a Stmt, leaves: &Leaves) -> Result<Block<'a>, AllocError>
     requires apart { AreApart leaves.now }
     requires body { IsReadyStmt (declared leaves.now) body.now }
     ensures { IfOk result (λ b. IsBlockOf leaves.now body.now b) }
 {
-    let stmts = opened(alloc, body)?;
-    let steps = steps_of(alloc, &stmts, leaves)?;
-    Ok(Block { stmts, steps })
+    let text = Outlined::new(alloc, body)?;
+    let steps = steps_of(alloc, &text.parts, leaves)?;
+    Ok(Block { text, steps })
 }
 
-// The nodes of the leaves that some of the statements assign.
-fn saved_for(
-    alloc: Global,
-    stmts: &[&Stmt],
-    kept: &[usize],
-    state: &Leaves,
-) -> Result<Vec<Saved>, AllocError>
-    requires apart { AreApart state.now }
-    requires stmts { EachReadyStmt (declared state.now) (map stmt_meant stmts.now) }
-    requires kept { (i : ℕ) → Among kept.now i → i < length stmts.now }
-    ensures saved { IfOk result (λ r. IsSaved state.now r.items) }
-    ensures covers { IfOk result (λ r. (i : ℕ) → Among kept.now i → Covers state.now r.items (stmt_at (map stmt_meant stmts.now) i)) }
-{
-    let mut all = Vec::new(alloc);
-    for place in kept {
-        let before = before_one(alloc, stmts[*place], state)?;
-        all.extend_from_slice(&before)?;
-    }
-    Ok(all)
-}
-
-// Runs some of the statements on the leaves, in their order.
-fn run_some(
-    alloc: Global,
-    dag: &mut Dag,
-    stmts: &[&Stmt],
-    kept: &[usize],
-    state: &mut Leaves,
-) -> Result<(), AllocError>
-    requires set { AreSet None state.old dag.old }
-    requires stmts { EachReadyStmt (declared state.old) (map stmt_meant stmts.now) }
-    requires kept { (i : ℕ) → Among kept.now i → i < length stmts.now }
-    ensures keeps { Keeps dag.old dag.new }
-    ensures same { declared state.new ≡ declared state.old }
-    ensures set { IfOk result (λ u. AreSet None state.new dag.new) }
-    ensures runs { IfOk result (λ u. Runs None (each_of (map (stmt_at (map stmt_meant stmts.now)) kept.now)) state.old dag.old state.new dag.new) }
-{
-    for place in kept {
-        run(alloc, dag, stmts[*place], None, state)?;
-    }
-    Ok(())
-}
-
-/// Gives the leaves of nets what a block makes of them, and leaves the others as they are. Of the block it runs the statements alone that these
-/// nets need, in time near linear in their length. It is refused for want of memory alone, and then the leaves are half changed.
+/// Gives the leaves of nets what a block makes of them, and leaves the others as they are. Of the block it runs what these nets need: assignments,
+/// and the conditions around them. It is refused for want of memory alone, and then the leaves are half changed.
 pub fn drive_block(
     alloc: Global,
     dag: &mut Dag,
@@ -217,11 +213,12 @@ pub fn drive_block(
     ensures keeps { Keeps dag.old dag.new }
     ensures same { IfOk result (λ u. declared state.new ≡ declared state.old) }
     ensures set { IfOk result (λ u. AreSet None state.new dag.new) }
-    ensures runs { IfOk result (λ u. Runs None (nets_taking nets.now (stmts_in block.now)) state.old dag.old state.new dag.new) }
+    ensures runs { IfOk result (λ u. Runs None (nets_taking nets.now block.now.text.stmt.now) state.old dag.old state.new dag.new) }
 {
     let kept = block.steps.slice(alloc, nets)?;
-    let before = saved_for(alloc, &block.stmts, &kept, state)?;
-    run_some(alloc, dag, &block.stmts, &kept, state)?;
+    let part = block.text.slice(alloc, &kept)?;
+    let before = before_one(alloc, &part, state)?;
+    run(alloc, dag, &part, None, state)?;
     restore(alloc, &before, nets, state)?;
     Ok(())
 }

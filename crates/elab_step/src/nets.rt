@@ -22,9 +22,9 @@ use vlog_runs::Flat;
 use vlog_tree::Assign;
 use word_dag::Dag;
 
-// A module's text, its blocks ready to be run in part.
+// A module's continuous assignments and its blocks, the latter ready to be run in part.
 #[derive(Drop)]
-struct Text<'a> {
+struct Processes<'a> {
     flat: &'a Flat,
     blocks: Vec<Block<'a>>,
 }
@@ -132,7 +132,7 @@ fn blocks_of<'a>(
 fn drive(
     alloc: Global,
     dag: &mut Dag,
-    text: &Text<'_>,
+    text: &Processes<'_>,
     place: usize,
     nets: &[usize],
     state: &mut Leaves,
@@ -159,7 +159,7 @@ fn drive(
 fn settle(
     alloc: Global,
     dag: &mut Dag,
-    text: &Text<'_>,
+    text: &Processes<'_>,
     places: &[usize],
     nets: &[usize],
     state: &mut Leaves,
@@ -223,7 +223,7 @@ pub fn solve_nets(
     ensures board { IfOk result (λ u. IsBoard flat.now.signals state.new dag.new) }
     ensures shows { IfOk result (λ u. Shows (solved (flat_place flat.now) (processes flat.now) (groups_of flat.now.signals groups.now)) state.old dag.old state.new dag.new) }
 {
-    let text = Text {
+    let text = Processes {
         flat,
         blocks: blocks_of(alloc, flat, state)?,
     };

@@ -1,197 +1,154 @@
--- Blocks that are run in part.
-use Rattle.std.proofs.Common.{arith, ◌≡◌, ℕ, zero, suc, ◌+◌, ◌<◌, ◌≤◌, true, List, [], ◌∷◌, ◌++◌, length, map, sym, ap, ◌∙◌, refl, inl, inr, ⊎_elim, subst, ◌⊎◌}
-use Rattle.std.specs.List.{AllPairs, Contains}
-use Rattle.std.proofs.lemmas.List.Kept.{AllPairs-from_increasing}
-use Rattle.vlog_tree.specs.declared.stmt.Stmt.{Stmt, Row_of-Stmt, end_of-Stmt, more_of-Stmt}
+-- What a slice leaves of a statement leaves at the wanted places what the statement leaves.
+use Rattle.std.proofs.Common.{arith, ◌≡◌, ℕ, suc, ◌+◌, ◌<◌, ◌≤◌, Bool, true, false, List, ◌∷◌, ◌++◌, length, Option, Some, None, sym, ap, ◌∙◌, refl, inl, inr, ⊎_elim}
+use Rattle.std.specs.Prelude.{if◌then◌else◌}
+use Rattle.std.specs.List.{Contains}
+use Rattle.vlog_tree.specs.declared.expr.Expr.{Expr}
+use Rattle.vlog_tree.specs.declared.stmt.Labels.{Labels}
+use Rattle.vlog_tree.specs.declared.stmt.Lval.{Lval}
+use Rattle.vlog_tree.specs.declared.stmt.Stmt.{Stmt, Row_of-Stmt, end_of-Stmt, more_of-Stmt, Row_of-CaseItem, end_of-CaseItem, more_of-CaseItem}
 use Rattle.vlog_tree.specs.declared.stmt.Stmt.TheVariants as s
 use Rattle.vlog_runs.specs.declared.flat.Signal.{Signal}
-use Rattle.vlog_runs.specs.Places.{Name, Cycle, Among, Place}
-use Rattle.vlog_runs.specs.Blocks.{run, run_row}
+use Rattle.vlog_runs.specs.Places.{Name, Cycle, store}
+use Rattle.vlog_runs.specs.Blocks.{exprs_in, labels_in, is_default, run, run_row, run_items, run_default}
 use Rattle.flow_laws.specs.Laws.{place_over, AreVectors}
+use Rattle.flow_laws.proofs.Cases.{Agree}
 use Rattle.step_slices.specs.Slices.{Step, step_at, Writes, IsSlice}
-use Rattle.slice_laws.specs.Slices.{opened, row_opened, after_each, read_in, name_at, stmt_at, IsTold, AreTold, BlocksOpen, SlicesGive}
-use Rattle.slice_laws.proofs.Following.{follows}
+use Rattle.slice_laws.specs.Slices.{steps_in, row_steps, case_steps, Action, Tests, Chooses, Stores, parts_of, row_parts, case_parts, is_needed, branch_sliced, sliced, row_sliced, case_sliced, names_read, name_at, IsTold, SlicesGive}
+use Rattle.slice_laws.proofs.Following.{Alike, same_test, same_choice, same_stored}
+use Rattle.slice_laws.proofs.Guarding.{store_kept, if_kept, if_else_kept, case_kept}
+use Rattle.slice_laws.proofs.Leaving.{leaves}
+use Rattle.slice_laws.proofs.Numbers.{Found, some_in, none_in}
+use Rattle.slice_laws.proofs.Parts.{Told, told_from, split_parts}
+use Rattle.slice_laws.proofs.Running.{run_list, block_runs, if_runs, if_else_runs, labels_of, first_of, default_of, choice, chosen, case_runs}
 
--- ---- blocks, opened
-
-after_both : (p : Place) (ks js : List Stmt) (c : Cycle) → after_each p (ks ++ js) c ≡ after_each p js (after_each p ks c)
-after_both p [] js c = refl
-after_both p (k ∷ ks) js c = after_both p ks js (run true p k c c)
-
-module _ (gs : List Signal) (vectors : AreVectors gs) where
-  -- where assignments take effect at once, the cycle before the edge isn't read
-  unread : (k : Stmt) (c d u : Cycle) → run true (place_over gs) k c u ≡ run true (place_over gs) k d u
-  unread k c d u = λ r x. follows gs vectors (λ z. Unit {0}) k c d u u x (λ z m. tt) (λ z m. inl refl) refl r
-
-  one : (k : Stmt) (c u : Cycle) → run true (place_over gs) k c u ≡ after_each (place_over gs) (k ∷ []) u
-  one k c u = unread k c u u
-
-  mutual
-    open_is : (k : Stmt) (c u : Cycle) → run true (place_over gs) k c u ≡ after_each (place_over gs) (opened k) u
-    open_is s.Empty c u = refl
-    open_is (s.Block' n g row) c u = row_open_is row c u
-    open_is (s.If' a g row) c u = one (s.If' a g row) c u
-    open_is (s.IfElse' a g row h more) c u = one (s.IfElse' a g row h more) c u
-    open_is (s.Case' kind a g row) c u = one (s.Case' kind a g row) c u
-    open_is (s.Blocking left right) c u = one (s.Blocking left right) c u
-    open_is (s.Nonblocking left right) c u = one (s.Nonblocking left right) c u
-
-    row_open_is : {n : _} (row : Row_of-Stmt n) (c u : Cycle) → run_row true (place_over gs) row c u ≡ after_each (place_over gs) (row_opened row) u
-    row_open_is end_of-Stmt c u = refl
-    row_open_is (more_of-Stmt a rest) c u =
-        ap (λ v. run_row true (place_over gs) rest c v) (open_is a c u)
-        ∙ row_open_is rest c (after_each (place_over gs) (opened a) u)
-        ∙ sym (after_both (place_over gs) (opened a) (row_opened rest) u)
-
-pub blocks_open : BlocksOpen
-blocks_open gs k c x vectors = ap (λ (d : Cycle). d x) (open_is gs vectors k c c)
-
--- ---- lists of numbers
-
-split : (y : ℕ) (ys : List ℕ) (x : ℕ) → Contains (y ∷ ys) x → (y ≡ x) ⊎ Contains ys x
-split y ys x (zero, lt, e) = inl e
-split y ys x (suc k, lt, e) = inr (k, omega arith, e)
-
-first : (y : ℕ) (ys : List ℕ) → Contains (y ∷ ys) y
-first y ys = (0, omega arith, refl)
-
-behind : (y : ℕ) (ys : List ℕ) (x : ℕ) → Contains ys x → Contains (y ∷ ys) x
-behind y ys x m = (suc m.0, omega (arith, m.1), m.2)
-
--- what is left of a rising list, from a place on
-record IsLeft (kept left : List ℕ) (i : ℕ) : Type 0 where
-  pub among : (j : ℕ) → Contains kept j → i ≤ j → Contains left j
-  pub from : (j : ℕ) → Contains left j → (i ≤ j) × Contains kept j
-  pub rises : AllPairs (λ (j k : ℕ). j < k) left
-
-later : (j k : ℕ) (left : List ℕ) → AllPairs (λ (j k : ℕ). j < k) (j ∷ left) → Contains left k → j < k
-later j k left h m = subst (λ z. j < z) m.2 (h zero (suc m.0) k (omega arith) (omega (arith, m.1)))
-
-rest_rises : (j : ℕ) (left : List ℕ) → AllPairs (λ (j k : ℕ). j < k) (j ∷ left) → AllPairs (λ (j k : ℕ). j < k) left
-rest_rises j left h m n d lt within = h (suc m) (suc n) d (omega (arith, lt)) (omega (arith, within))
-
-compared : (i j : ℕ) → i ≤ j → (i ≡ j) ⊎ (i < j)
-compared zero zero h = inl refl
-compared zero (suc j) h = inr (omega arith)
-compared (suc i) zero h = absurd (omega (arith, h))
-compared (suc i) (suc j) h = ⊎_elim (λ e. inl (ap suc e)) (λ l. inr (omega (arith, l))) (compared i j (omega (arith, h)))
-
--- the first one is taken
-taken : (kept left : List ℕ) (i j : ℕ) → i ≡ j → IsLeft kept (j ∷ left) i → IsLeft kept left (suc i)
-taken kept left i j e h = record {
-  among = λ k m le. ⊎_elim (λ (q : j ≡ k). absurd (omega (arith, e, q, le))) (λ n. n) (split j left k (h.among k m (omega (arith, le))));
-  from = λ k m. let l = later j k left h.rises m in (omega (arith, e, l), (h.from k (behind j left k m)).1);
-  rises = rest_rises j left h.rises;
-}
-
--- the first one comes later, or there is none
-passed : (kept left : List ℕ) (i : ℕ) → (Contains left i → ⊥) → IsLeft kept left i → IsLeft kept left (suc i)
-passed kept left i n h = record {
-  among = λ k m le. h.among k m (omega (arith, le));
-  from = λ k m. let f = h.from k m in (⊎_elim (λ (e : i ≡ k). absurd (n (subst (Contains left) (sym e) m))) (λ l. omega (arith, l)) (compared i k f.0), f.1);
-  rises = h.rises;
-}
-
--- ---- slices
-
-module _ (gs : List Signal) (vectors : AreVectors gs) (xs : List Name) (all : List Stmt) (ss : List Step) (wanted kept : List ℕ) (slice : IsSlice ss wanted kept) where
+module _ (gs : List Signal) (vectors : AreVectors gs) (xs : List Name) (place : ℕ → ℕ) (ss : List Step) (wanted kept : List ℕ) (slice : IsSlice ss wanted kept) where
   -- the steps before this one that write a place are all kept
   abbrev Sound : ℕ → ℕ → Type 0
-  Sound i j = (k : ℕ) → k < i → Writes ss k j → Contains kept k
+  Sound n j = (i : ℕ) → i < n → Writes ss i j → Contains kept i
 
   -- two cycles agree where this is so
   abbrev Meets : ℕ → Cycle → Cycle → Type 0
-  Meets i c d = (j : ℕ) → j < length xs → Sound i j → c (name_at xs j) ≡ d (name_at xs j)
+  Meets n u v = (j : ℕ) → j < length xs → Sound n j → u (name_at xs j) ≡ v (name_at xs j)
 
-  earlier : (i j : ℕ) → Sound (suc i) j → Sound i j
-  earlier i j h k lt w = h k (omega (arith, lt)) w
+  -- this holds on while more steps are counted: fewer places are sound
+  later : (m n : ℕ) (u v : Cycle) → m ≤ n → Meets m u v → Meets n u v
+  later m n u v le h j lt sound = h j lt (λ i l w. sound i (omega arith) w)
 
-  -- a kept statement makes the same of both
-  kept_meets : (i : ℕ) (k : Stmt) (c d : Cycle) → Contains kept i → IsTold gs xs k (step_at ss i) → Meets i c d → Meets (suc i) (run true (place_over gs) k c c) (run true (place_over gs) k d d)
-  kept_meets i k c d m told meets j lt sound =
-      follows gs vectors (λ z. Among (read_in k) z) k c d c d (name_at xs j) (λ z q. q)
-      (λ z q. ⊎_elim
-      (λ (r : (b : ℕ) × Contains (step_at ss i).reads b × (b < length xs) × (name_at xs b ≡ z)).
-      inl (ap c (sym r.3) ∙ (meets r.0 r.2 (λ b l w. slice.before b i r.0 m r.1 l w) ∙ ap d r.3)))
+  -- two cycles agree on what a kept step reads
+  reads_meet : (g : Option ℕ) (n : ℕ) (a : Action) (u v : Cycle) → IsTold gs xs place n (record { action = a; guard = g }) (step_at ss n) → Contains kept n → Meets n u v → Alike gs vectors (names_read a) u v
+  reads_meet g n a u v t m meets z q =
+      ⊎_elim
+      (λ (r : (i : ℕ) × Contains (step_at ss n).reads i × (i < length xs) × (name_at xs i ≡ z)).
+      inl (ap u (sym r.3) ∙ (meets r.0 r.2 (λ i lt w. slice.before i n r.0 m r.1 lt w) ∙ ap v r.3)))
       (λ none. inr none)
-      (told.reads z q))
-      (meets j lt (earlier i j sound))
+      (t.found z q)
 
-  -- one that isn't kept leaves all that counts
-  other_meets : (i : ℕ) (k : Stmt) (c d : Cycle) → (Contains kept i → ⊥) → IsTold gs xs k (step_at ss i) → Meets i c d → Meets (suc i) (run true (place_over gs) k c c) d
-  other_meets i k c d n told meets j lt sound = told.leaves j c lt (λ w. n (sound i (omega arith) w)) ∙ meets j lt (earlier i j sound)
+  -- ---- what a statement leaves in one cycle, and what a slice leaves of it in another one
 
-  -- what all statements from a place on make of one cycle, and what those of them that are left make of another one
-  abbrev Ends : ℕ → List Stmt → List ℕ → Cycle → Cycle → Type 0
-  Ends i ks left c d = Meets (i + length ks) (after_each (place_over gs) ks c) (after_each (place_over gs) (map (stmt_at all) left) d)
+  abbrev Follows : Stmt → Type 0
+  Follows k =
+      (g : Option ℕ) (n : ℕ) (c d u v : Cycle) → Told gs xs place ss n (parts_of g n k) → Found kept n (n + steps_in k) → Meets n u v →
+      Meets (n + steps_in k) (run true (place_over gs) k c u) (run true (place_over gs) (sliced kept n k) d v)
 
-  rest_meets : (ks : List Stmt) (ts : List Step) (left : List ℕ) (i : ℕ) (c d : Cycle) → ((j : ℕ) → stmt_at all (i + j) ≡ stmt_at ks j) → ((j : ℕ) → step_at ss (i + j) ≡ step_at ts j) →
-      AreTold gs xs ks ts → IsLeft kept left i → ((j : ℕ) → Contains left j → j < i + length ks) → Meets i c d → Ends i ks left c d
-  rest_meets [] (t ∷ ts) left i c d at steps told h within meets = absurd told
-  rest_meets [] [] left i c d at steps told h within meets = none left h within
+  -- a branch, of which nothing may be left
+  branch_follows : (k : Stmt) → Follows k → (g : Option ℕ) (n : ℕ) (c d u v : Cycle) → Told gs xs place ss n (parts_of g n k) → Meets n u v →
+      Meets (n + steps_in k) (run true (place_over gs) k c u) (run true (place_over gs) (branch_sliced kept n k (sliced kept n k)) d v)
+  branch_follows k follows g n c d u v t meets = by_need (is_needed kept n k) refl
     where
-      none : (left : List ℕ) → IsLeft kept left i → ((j : ℕ) → Contains left j → j < i + 0) → Ends i [] left c d
-      none [] h within j lt sound = meets j lt (λ k l w. sound k (omega (arith, l)) w)
-      none (k ∷ rest) h within j lt sound = absurd (let f = (h.from k (first k rest)).0 in let w = within k (first k rest) in omega (arith, f, w))
-  rest_meets (k ∷ ks) [] left i c d at steps told h within meets = absurd told
-  rest_meets (k ∷ ks) (t ∷ ts) left i c d at steps told h within meets =
-      by_first
-      (λ js e l w m. rest_meets ks ts js (suc i) (run true (place_over gs) k c c) e (λ j. ap (stmt_at all) (next j) ∙ at (suc j)) (λ j. ap (step_at ss) (next j) ∙ steps (suc j)) told.1 l
-      (λ j q. let b = w j q in omega (arith, b)) m)
-      left h within
-    where
-      after : Cycle
-      after = run true (place_over gs) k c c
+      by_need : (b : Bool) → is_needed kept n k ≡ b → Meets (n + steps_in k) (run true (place_over gs) k c u) (run true (place_over gs) (if b then sliced kept n k else s.Empty) d v)
+      by_need true h j lt sound = follows g n c d u v t (some_in kept n (n + steps_in k) h) meets j lt sound
+      by_need false h j lt sound =
+          leaves gs xs place ss j lt k g n c u t (λ i from to w. none_in kept n (n + steps_in k) h i from to (sound i to w)) ∙ meets j lt (λ i l w. sound i (omega arith) w)
 
-      zeroth : i + 0 ≡ i
-      zeroth = omega arith
+  -- an assignment
+  store_follows : (left : Lval) (right : Expr) (g : Option ℕ) (n : ℕ) (u v : Cycle) → IsTold gs xs place n (record { action = Stores left right; guard = g }) (step_at ss n) → Found kept n (n + 1) →
+      Meets n u v → Meets (n + 1) (store (place_over gs) u left right u) (store (place_over gs) v left right v)
+  store_follows left right g n u v t need meets j lt sound =
+      same_stored gs vectors left right u v (name_at xs j)
+      (reads_meet g n (Stores left right) u v t (store_kept gs xs place ss wanted kept slice n need) meets)
+      (meets j lt (λ i l w. sound i (omega arith) w))
 
-      next : (j : ℕ) → suc i + j ≡ i + suc j
-      next j = omega arith
+  -- a statement that may be left out of a block
+  joined : (b : Bool) (k : Stmt) (ks : List Stmt) (d v : Cycle) (x : Name) →
+      run_list (place_over gs) (if b then k ∷ ks else ks) d v x ≡ run_list (place_over gs) ks d (run true (place_over gs) (if b then k else s.Empty) d v) x
+  joined true k ks d v x = refl
+  joined false k ks d v x = refl
 
-      first_told : IsTold gs xs k (step_at ss i)
-      first_told = subst (IsTold gs xs k) (sym (ap (step_at ss) (sym zeroth) ∙ steps zero)) told.0
+  -- a slice has all labels of a case statement
+  kept_labels : {m : _} (n : ℕ) (row : Row_of-CaseItem m) → labels_of (place_over gs) (case_sliced kept n row) ≡ labels_in row
+  kept_labels n end_of-CaseItem = refl
+  kept_labels n (more_of-CaseItem labels body rest) = ap (λ zs. exprs_in labels ++ zs) (kept_labels (n + steps_in body) rest)
 
-      -- what is to be shown of the statements behind this one
-      Rest : Type 0
-      Rest = (js : List ℕ) (e : Cycle) → IsLeft kept js (suc i) → ((j : ℕ) → Contains js j → j < i + suc (length ks)) → Meets (suc i) after e → Ends (suc i) ks js after e
+  mutual
+    -- a statement of which a step is kept
+    follows : (k : Stmt) → Follows k
+    follows s.Empty g n c d u v t need meets j lt sound = absurd (omega (arith, need.1, need.2))
+    follows (s.Block' name h row) g n c d u v t need meets j lt sound =
+        row_follows row g n c d u v t meets j lt sound
+        ∙ sym (ap (λ (z : Cycle). z (name_at xs j)) (block_runs (place_over gs) None (row_sliced kept n row) d v))
+    follows (s.If' a h (more_of-Stmt body end_of-Stmt)) g n c d u v t need meets j lt sound =
+        let k = if_kept gs xs place ss wanted kept slice body n t.1 t.0.tells need in
+        let q = same_test gs vectors u v a (reads_meet g n (Tests a) u v t.0 k meets) in
+        let b = branch_follows body (follows body) (Some n) (suc n) c d u v t.1 (later n (suc n) u v (omega arith) meets) j lt (λ i l w. sound i (omega arith) w) in
+        let e = meets j lt (λ i l w. sound i (omega arith) w) in
+        (λ r. if q r then e r else b r) ∙ sym (if_runs (place_over gs) a (branch_sliced kept (suc n) body (sliced kept (suc n) body)) d v (name_at xs j))
+    follows (s.IfElse' a h (more_of-Stmt body end_of-Stmt) i (more_of-Stmt other end_of-Stmt)) g n c d u v t need meets j lt sound =
+        let p = split_parts gs xs place ss (Some n) (suc n) body (parts_of (Some n) (suc n + steps_in body) other) t.1 in
+        let k = if_else_kept gs xs place ss wanted kept slice body other n p.0 p.1 t.0.tells need in
+        let q = same_test gs vectors u v a (reads_meet g n (Tests a) u v t.0 k meets) in
+        let b = branch_follows body (follows body) (Some n) (suc n) c d u v p.0 (later n (suc n) u v (omega arith) meets) j lt (λ i l w. sound i (omega arith) w) in
+        let o = branch_follows other (follows other) (Some n) (suc n + steps_in body) c d u v p.1 (later n (suc n + steps_in body) u v (omega arith) meets) j lt (λ i l w. sound i (omega arith) w) in
+        (λ r. if q r then o r else b r)
+        ∙ sym (if_else_runs (place_over gs) a (branch_sliced kept (suc n) body (sliced kept (suc n) body)) (branch_sliced kept (suc n + steps_in body) other (sliced kept (suc n + steps_in body) other)) d v (name_at xs j))
+    follows (s.Case' kind a h row) g n c d u v t need meets j lt sound =
+        let k = case_kept gs xs place ss wanted kept slice row n t.1 t.0.tells need in
+        let q = same_choice gs vectors u v kind a row (reads_meet g n (Chooses a (labels_in row)) u v t.0 k meets) in
+        let m = later n (suc n) u v (omega arith) meets in
+        let items = case_sliced kept (suc n) row in
+        let past = default_follows row (Some n) (suc n) c d u v t.1 m in
+        let test = choice (place_over gs) kind a (labels_in row) in
+        items_follow row (Some n) (suc n) (test u) (test v) c d u v (run_default true (place_over gs) row c u) (default_of (place_over gs) items d v) t.1 q m past j lt
+        (λ i l w. sound i (omega arith) w)
+        ∙ sym (ap (λ (z : Cycle). z (name_at xs j)) (case_runs (place_over gs) kind a items d v ∙ ap (λ zs. chosen (place_over gs) kind a zs items d v) (kept_labels (suc n) row)))
+    follows (s.Blocking left right) g n c d u v t need meets j lt sound = store_follows left right g n u v t.0 need meets j lt sound
+    follows (s.Nonblocking left right) g n c d u v t need meets j lt sound = store_follows left right g n u v t.0 need meets j lt sound
 
-      longer : (js : List ℕ) (e : Cycle) → Ends (suc i) ks js after e → Ends i (k ∷ ks) js c e
-      longer js e q =
-          let long : suc i + length ks ≡ i + suc (length ks) = omega arith in
-          subst (λ z. Meets z (after_each (place_over gs) ks after) (after_each (place_over gs) (map (stmt_at all) js) e)) long q
+    -- the statements of a block
+    row_follows : {m : _} (row : Row_of-Stmt m) (g : Option ℕ) (n : ℕ) (c d u v : Cycle) → Told gs xs place ss n (row_parts g n row) → Meets n u v →
+        Meets (n + row_steps row) (run_row true (place_over gs) row c u) (run_list (place_over gs) (row_sliced kept n row) d v)
+    row_follows end_of-Stmt g n c d u v t meets j lt sound = meets j lt (λ i l w. sound i (omega arith) w)
+    row_follows (more_of-Stmt a rest) g n c d u v t meets j lt sound =
+        let q = split_parts gs xs place ss g n a (row_parts g (n + steps_in a) rest) t in
+        let f = branch_follows a (follows a) g n c d u v q.0 meets in
+        row_follows rest g (n + steps_in a) c d (run true (place_over gs) a c u) (run true (place_over gs) (branch_sliced kept n a (sliced kept n a)) d v) q.1 f j lt
+        (λ i l w. sound i (omega arith) w)
+        ∙ sym (joined (is_needed kept n a) (sliced kept n a) (row_sliced kept (n + steps_in a) rest) d v (name_at xs j))
 
-      pass : Rest → (left : List ℕ) → (Contains left i → ⊥) → IsLeft kept left i → ((j : ℕ) → Contains left j → j < i + suc (length ks)) → Ends i (k ∷ ks) left c d
-      pass rest left n h within = longer left d (rest left d (passed kept left i n h) within (other_meets i k c d (λ m. n (h.among i m (omega arith))) first_told meets))
+    -- the first item of which a label matches
+    items_follow : {m : _} (row : Row_of-CaseItem m) (g : Option ℕ) (n : ℕ) (test other : Labels → Bool) (c d u v o w : Cycle) → Told gs xs place ss n (case_parts g n row) → Agree test other row →
+        Meets n u v → Meets (n + case_steps row) o w → Meets (n + case_steps row) (run_items true (place_over gs) test row c u o) (first_of (place_over gs) other (case_sliced kept n row) d v w)
+    items_follow end_of-CaseItem g n test other c d u v o w t agree meets past j lt sound = past j lt sound
+    items_follow (more_of-CaseItem labels body rest) g n test other c d u v o w t agree meets past j lt sound =
+        let p = split_parts gs xs place ss g n body (case_parts g (n + steps_in body) rest) t in
+        let q = agree.0 in
+        let b = branch_follows body (follows body) g n c d u v p.0 meets j lt (λ i l w. sound i (omega arith) w) in
+        let r =
+        items_follow rest g (n + steps_in body) test other c d u v o w p.1 agree.1 (later n (n + steps_in body) u v (omega arith) meets)
+        (later (n + (steps_in body + case_steps rest)) ((n + steps_in body) + case_steps rest) o w (omega arith) past) j lt (λ i l w. sound i (omega arith) w) in
+        λ z. if q z then b z else r z
 
-      take_first : Rest → (j : ℕ) (js : List ℕ) → i ≡ j → IsLeft kept (j ∷ js) i → ((b : ℕ) → Contains (j ∷ js) b → b < i + suc (length ks)) → Ends i (k ∷ ks) (j ∷ js) c d
-      take_first rest j js e h within =
-          let same : k ≡ stmt_at all j = sym (at zero) ∙ (ap (stmt_at all) zeroth ∙ ap (stmt_at all) e) in
-          let m : Contains kept i = subst (Contains kept) (sym e) (h.from j (first j js)).1 in
-          subst (λ z. Meets (i + suc (length ks)) (after_each (place_over gs) ks after) (after_each (place_over gs) (map (stmt_at all) js) (run true (place_over gs) z d d))) same
-          (longer js (run true (place_over gs) k d d)
-          (rest js (run true (place_over gs) k d d) (taken kept js i j e h) (λ b q. within b (behind j js b q)) (kept_meets i k c d m first_told meets)))
-
-      by_first : Rest → (left : List ℕ) → IsLeft kept left i → ((j : ℕ) → Contains left j → j < i + suc (length ks)) → Ends i (k ∷ ks) left c d
-      by_first rest [] h within = pass rest [] (λ m. omega (arith, m.1)) h within
-      by_first rest (j ∷ js) h within =
-          ⊎_elim (λ e. take_first rest j js e h within)
-          (λ lt. pass rest (j ∷ js) (λ m. ⊎_elim (λ (e : j ≡ i). absurd (omega (arith, e, lt))) (λ q. let l = later j i js h.rises q in absurd (omega (arith, l, lt))) (split j js i m)) h within)
-          (compared i j (h.from j (first j js)).0)
-
-told_long : (gs : List Signal) (xs : List Name) (ks : List Stmt) (ts : List Step) → AreTold gs xs ks ts → length ts ≡ length ks
-told_long gs xs [] [] h = refl
-told_long gs xs [] (t ∷ ts) h = absurd h
-told_long gs xs (k ∷ ks) [] h = absurd h
-told_long gs xs (k ∷ ks) (t ∷ ts) h = ap suc (told_long gs xs ks ts h.1)
+    -- what stands for `default`
+    default_follows : {m : _} (row : Row_of-CaseItem m) (g : Option ℕ) (n : ℕ) (c d u v : Cycle) → Told gs xs place ss n (case_parts g n row) → Meets n u v →
+        Meets (n + case_steps row) (run_default true (place_over gs) row c u) (default_of (place_over gs) (case_sliced kept n row) d v)
+    default_follows end_of-CaseItem g n c d u v t meets j lt sound = meets j lt (λ i l w. sound i (omega arith) w)
+    default_follows (more_of-CaseItem labels body rest) g n c d u v t meets j lt sound =
+        let p = split_parts gs xs place ss g n body (case_parts g (n + steps_in body) rest) t in
+        let b = branch_follows body (follows body) g n c d u v p.0 meets j lt (λ i l w. sound i (omega arith) w) in
+        let r = default_follows rest g (n + steps_in body) c d u v p.1 (later n (n + steps_in body) u v (omega arith) meets) j lt (λ i l w. sound i (omega arith) w) in
+        λ z. if is_default labels then b z else r z
 
 pub slices_give : SlicesGive
-slices_give gs xs ks ts wanted kept c i vectors told slice m lt =
-    let start : IsLeft kept kept 0 = record { among = λ j q le. q; from = λ j q. (omega arith, q); rises = AllPairs-from_increasing kept slice.rises } in
-    let long = told_long gs xs ks ts told in
-    let ends : Ends gs vectors xs ks ts wanted kept slice 0 ks kept c c =
-    rest_meets gs vectors xs ks ts wanted kept slice ks ts kept 0 c c
-    (λ j. let z : 0 + j ≡ j = omega arith in ap (stmt_at ks) z)
-    (λ j. let z : 0 + j ≡ j = omega arith in ap (step_at ts) z)
-    told start (λ j q. let w = slice.within j q in omega (arith, w, long)) (λ j l sound. refl) in
-    sym (ends i lt (λ k l w. slice.last k i m w))
+slices_give gs xs place k ts wanted kept c i vectors t slice m lt =
+    sym (branch_follows gs vectors xs place ts wanted kept slice k (follows gs vectors xs place ts wanted kept slice k) None 0 c c c c
+    (told_from gs xs place ts 0 (parts_of None 0 k) ts (λ j. let z : 0 + j ≡ j = omega arith in ap (step_at ts) z) t)
+    (λ j l sound. refl) i lt (λ n l w. slice.last n i m w))

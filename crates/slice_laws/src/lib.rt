@@ -3,4 +3,4 @@
 
 mod law;
 
-pub use law::{blocks_open, slices_give};
+pub use law::slices_give;

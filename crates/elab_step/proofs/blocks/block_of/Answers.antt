@@ -1,25 +1,31 @@
-use Rattle.std.proofs.Common.{◌≡◌, List, map, sym, ap, ◌∙◌, subst, Bor}
+use Rattle.std.proofs.Common.{◌≡◌, List, None, map, sym, ap, ◌∙◌, subst}
 use Rattle.vlog_tree.specs.declared.stmt.Stmt.{Stmt}
 use Rattle.elab_node.specs.Leaves.{declared}
-use Rattle.elab_block.specs.Ready.{EachReadyStmt}
-use Rattle.slice_laws.specs.Slices.{opened}
-use Rattle.elab_step.specs.Steps.{stmt_meant, AreStepsOf}
-use Rattle.elab_step.proofs.Steps.{opened_ready}
+use Rattle.elab_block.specs.Ready.{IsReadyStmt}
+use Rattle.slice_laws.specs.Slices.{Part, parts_of}
+use Rattle.stmt_slices.specs.Outlined.{IsOutlinedOf}
+use Rattle.stmt_slices.specs.Parts.{part_meant}
+use Rattle.elab_step.specs.Steps.{EachReadyStep, AreStepsOf}
+use Rattle.elab_step.proofs.Steps.{parts_ready}
 use Rattle.elab_step.proofs.blocks.block_of.Goals as goal
 
-pub steps_of-requires-clause-stmts : goal.steps_of-requires-clause-stmts
-steps_of-requires-clause-stmts c =
+pub steps_of-requires-clause-parts : goal.steps_of-requires-clause-parts
+steps_of-requires-clause-parts c =
     let v = declared c.args.leaves.now in
-    let is : map stmt_meant c.deref.result.now ≡ opened c.args.body.now = ap (map stmt_meant) c.deref.ensures.value ∙ c.in_ok-stmts.ensures in
-    subst (EachReadyStmt v) (sym is) (opened_ready v c.args.body.now c.requires.body)
+    let is : map part_meant c.deref.result.now ≡ parts_of None 0 c.args.body.now = ap (map part_meant) c.deref.ensures.value ∙ c.in_ok-text.ensures.parts in
+    subst (EachReadyStep v) (sym is) (parts_ready v None 0 c.args.body.now c.requires.body)
 
 pub returns : goal.returns
 returns c =
-    let v = declared c.args.leaves.now in
+    let ls = c.args.leaves.now in
+    let text = c.in_ok-text.text in
+    let same : c.args.body.now ≡ text.stmt.now = sym c.in_ok-text.ensures.stmt in
+    let is : map part_meant c.deref.result.now ≡ parts_of None 0 c.args.body.now = ap (map part_meant) c.deref.ensures.value ∙ c.in_ok-text.ensures.parts in
     record {
-      stmts = c.in_ok-stmts.ensures;
+      text = c.in_ok-text.ensures.stmt;
       runnable = record {
-        ready = subst (EachReadyStmt v) (sym c.in_ok-stmts.ensures) (opened_ready v c.args.body.now c.requires.body);
-        steps = subst (λ (z : List (Bor Stmt)). AreStepsOf c.args.leaves.now (map stmt_meant z) c.in_ok-steps.steps) c.deref.ensures.value c.in_ok-steps.ensures;
+        ready = subst (IsReadyStmt (declared ls)) same c.requires.body;
+        text = subst (λ (z : Stmt). IsOutlinedOf z text) same c.in_ok-text.ensures;
+        steps = subst (λ (z : Stmt). AreStepsOf ls 0 (parts_of None 0 z) c.in_ok-steps.steps) same (subst (λ (z : List Part). AreStepsOf ls 0 z c.in_ok-steps.steps) is c.in_ok-steps.ensures);
       };
     }

@@ -1,14 +1,13 @@
 use Rattle.std.proofs.Common.{◌≡◌, ◌<◌, List, length, map, sym, ap, ◌∙◌, subst, inl, inr, ⊎_elim, arith}
-use Rattle.std.specs.List.{flat_map}
 use Rattle.std.proofs.lemmas.List.{take_all}
 use Rattle.vlog_tree.specs.declared.stmt.Lval.{Lval}
 use Rattle.vlog_runs.specs.Places.{Among}
 use Rattle.elab_drive.specs.declared.parts.Part.{Part}
 use Rattle.elab_drive.specs.Claims.{part_name}
 use Rattle.elab_drive.specs.Parts.{part_meant}
-use Rattle.elab_drive.specs.Pieces.{actions}
-use Rattle.elab_drive.specs.Wanting.{action_reads}
-use Rattle.elab_step.proofs.Steps.{reads_seen, placed_next, names_next}
+use Rattle.stmt_slices.specs.Parts.{action_meant}
+use Rattle.elab_step.specs.Steps.{parts_read}
+use Rattle.elab_step.proofs.Steps.{action_seen, placed_next, names_next}
 use Rattle.elab_step.proofs.blocks.places_read.Goals as goal
 
 pub loop-part-preserved : goal.loop-part-preserved
@@ -23,7 +22,7 @@ loop-part-preserved c x m =
 pub returns : goal.returns
 returns c x m =
     let parts = c.deref-part-items.result.now in
-    let all : map part_meant parts ≡ flat_map action_reads (actions c.args.stmt.now) = ap (map part_meant) c.deref-part-items.ensures.value ∙ c.in_ok-parts.ensures in
+    let all : map part_meant parts ≡ parts_read (action_meant c.args.action) = ap (map part_meant) c.deref-part-items.ensures.value ∙ c.in_ok-parts.ensures in
     c.loop-part.invariant x
     (subst (λ (z : List Part). Among (map part_name (map part_meant z)) x) (sym (take_all c.loop-part.part-index parts (omega arith)))
-    (subst (λ (z : List Lval). Among (map part_name z) x) (sym all) (reads_seen x c.args.stmt.now m)))
+    (subst (λ (z : List Lval). Among (map part_name z) x) (sym all) (action_seen x (action_meant c.args.action) m)))

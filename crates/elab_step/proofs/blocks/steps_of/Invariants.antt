@@ -1,6 +1,7 @@
 use Rattle.std.proofs.Common.{map, take}
-use Rattle.elab_step.specs.Steps.{stmt_meant, AreStepsOf}
+use Rattle.stmt_slices.specs.Parts.{part_meant}
+use Rattle.elab_step.specs.Steps.{AreStepsOf}
 use Rattle.elab_step.proofs.blocks.steps_of.Given as goal
 
-abbrev pub invariant-loop-stmt : goal.invariant-loop-stmt
-invariant-loop-stmt l = AreStepsOf l.leaves (map stmt_meant (take l.stmt-index l.stmts)) l.steps
+abbrev pub invariant-loop-number : goal.invariant-loop-number
+invariant-loop-number l = AreStepsOf l.leaves 0 (map part_meant (take l.number l.parts)) l.steps

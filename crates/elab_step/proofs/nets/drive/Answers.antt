@@ -38,4 +38,4 @@ returns-clause-shows c =
     let d = c.drive_block.new.dag in
     let r = block_placed f ls c.args.text.now.blocks.items c.len-assigns.result c.args.place c.index.result.now c.len-assigns.ensures (omega arith) c.requires.within c.index.ensures c.requires.blocks in
     subst (λ (z : Stmt). Shows (λ (u : Cycle). taking (names_of f.signals c.args.nets.now) (run true (flat_place f) z u u) u) ls a ms d) r.1
-    (net_shows f.signals r.0.body c.index.result.now c.args.nets.now ls ms a d c.requires.board.leaves r.2.stmts c.in_ok-drive_block.ensures.runs)
+    (net_shows f.signals r.0.body c.index.result.now c.args.nets.now ls ms a d c.requires.board.leaves r.2.text c.in_ok-drive_block.ensures.runs)

@@ -1,0 +1,5 @@
+pub mod Parts
+pub mod Rows
+pub mod Outlines
+pub mod Outlined
+pub mod Kept
