@@ -153,12 +153,30 @@ def block_from_its_end(size):
 
 
 def block_from_its_end_within_an_if(size):
-    """The same in a branch of an `if`, which is one statement, run for each signal."""
+    """The same in a branch of an `if`."""
     count = size // 45
     names = "".join(f"reg [7:0] c{k};\n" for k in range(count))
     given = "".join(f"c{k} = c{k + 1};\n" for k in range(count - 1))
     other = "".join(f"c{k} = i;\n" for k in range(count))
     return module(f"{names}always @* if (i[0]) begin\n{given}c{count - 1} = i;\nend else begin\n{other}end\n"), SET
+
+
+def block_from_its_end_within_a_case(size):
+    """The same in an item of a `case`."""
+    count = size // 45
+    names = "".join(f"reg [7:0] c{k};\n" for k in range(count))
+    given = "".join(f"c{k} = c{k + 1};\n" for k in range(count - 1))
+    other = "".join(f"c{k} = i;\n" for k in range(count))
+    return module(f"{names}always @* case (i)\n8'd1: begin\n{given}c{count - 1} = i;\nend\ndefault: begin\n{other}end\nendcase\n"), SET
+
+
+def block_from_its_end_over_items(size):
+    """The same with each signal's value in an item of its own: each slice has all labels, so the labels are run once for each signal."""
+    count = size // 60
+    names = "".join(f"reg [7:0] c{k};\n" for k in range(count))
+    zero = "".join(f"c{k} = 8'd0;\n" for k in range(count))
+    chosen = "".join(f"16'd{k}: c{k} = c{k + 1};\n" for k in range(count - 1))
+    return module(f"{names}always @* begin\n{zero}case ({{i, i}})\n{chosen}endcase\nend\n"), SET
 
 
 def block_of_pairs(size):
@@ -368,6 +386,8 @@ KINDS = {
     "one combinational block, an item of a case each": case_of_block,
     "one combinational block, a chain from its end": block_from_its_end,
     "one combinational block, a chain from its end within an if": block_from_its_end_within_an_if,
+    "one combinational block, a chain from its end within a case": block_from_its_end_within_a_case,
+    "one combinational block, a chain from its end over items": block_from_its_end_over_items,
     "one combinational block, each signal by all others": block_of_pairs,
     "one signal assigned again and again": one_signal,
     "a list of events": events,
