@@ -4,6 +4,8 @@
 gate.py run [WORD..]        runs `rt ci WORD..` at the top of the repository, and then prints a table: for each crate the processor seconds of
                             its proof, of its tests' proof, of its wrong bodies (with the check that they begin with) and of compiling its tests or
                             its program, and the most memory of one process; below it the wall time, and user and system seconds of all processes
+gate.py build [CRATE..]     runs `bin/build CRATE..`, and then prints its wall time, user and system seconds of all processes, and the most memory that all of them
+                            had at one time
 gate.py where CRATE [N]     of the last `rt check --jobs 1` of a crate from nothing (its out/ removed before): the N functions and the N files that
                             took longest, by the times at which the prover wrote its files
 """
@@ -72,6 +74,36 @@ def sample(seen, top):
             pass
 
 
+def resident(top):
+    """The megabytes that a process and all that it started hold now."""
+    pages = 0
+    for pid in filter(str.isdigit, os.listdir("/proc")):
+        try:
+            if below(pid, top):
+                with open(f"/proc/{pid}/statm", encoding="utf-8") as it:
+                    pages += int(it.read().split()[1])
+        except (OSError, IndexError):
+            pass
+    return pages * os.sysconf("SC_PAGE_SIZE") // 1_000_000
+
+
+def spent(since):
+    """The wall time, and what all processes took that have ended."""
+    used = resource.getrusage(resource.RUSAGE_CHILDREN)
+    return f"wall {(time.time() - since) / 60:.0f} minutes; user {used.ru_utime / 60:.0f} and system {used.ru_stime / 60:.0f} minutes of all processes"
+
+
+def build(words):
+    """Builds the program, and prints what that cost."""
+    most, since = 0, time.time()
+    work = subprocess.Popen([f"{TOP}/bin/build", *words], cwd=TOP)
+    while work.poll() is None:
+        most = max(most, resident(str(work.pid)))
+        time.sleep(0.5)
+    print(f"{spent(since)}; at most {most} MB at one time")
+    return work.returncode
+
+
 def run(words):
     """Runs the gate, and prints what it cost."""
     seen, since = {}, time.time()
@@ -79,7 +111,7 @@ def run(words):
     while work.poll() is None:
         sample(seen, str(work.pid))
         time.sleep(0.5)
-    wall, used = time.time() - since, resource.getrusage(resource.RUSAGE_CHILDREN)
+    cost = spent(since)
     rows = collections.defaultdict(lambda: dict.fromkeys((*KINDS, "MB"), 0))
     for crate, kind, seconds, memory in seen.values():
         rows[crate][kind] += seconds
@@ -89,7 +121,7 @@ def run(words):
         print(f"| `{crate}` | {' | '.join(f'{row[kind]:.0f}' if row[kind] else '' for kind in KINDS)} | {row['MB']} |")
     sums = [sum(row[kind] for row in rows.values()) / 60 for kind in KINDS]
     print(f"| all, in minutes | {' | '.join(f'{it:.0f}' for it in sums)} | |")
-    print(f"wall {wall / 60:.0f} minutes; user {used.ru_utime / 60:.0f} and system {used.ru_stime / 60:.0f} minutes of all processes")
+    print(cost)
     return work.returncode
 
 
@@ -121,6 +153,8 @@ def where(crate, count):
 if __name__ == "__main__":
     if sys.argv[1:2] == ["run"]:
         sys.exit(run(sys.argv[2:]))
+    if sys.argv[1:2] == ["build"]:
+        sys.exit(build(sys.argv[2:]))
     if sys.argv[1:2] == ["where"] and len(sys.argv) > 2:
         where(sys.argv[2], int(sys.argv[3]) if len(sys.argv) > 3 else 20)
     else:
