@@ -171,11 +171,11 @@ def block_from_its_end_within_a_case(size):
 
 
 def block_from_its_end_over_items(size):
-    """The same with each signal's value in an item of its own: each slice has all labels, so the labels are run once for each signal."""
-    count = size // 60
-    names = "".join(f"reg [7:0] c{k};\n" for k in range(count))
-    zero = "".join(f"c{k} = 8'd0;\n" for k in range(count))
-    chosen = "".join(f"16'd{k}: c{k} = c{k + 1};\n" for k in range(count - 1))
+    """A chain whose signals are given in an item each: each slice has the whole `case` but for the other items' statements."""
+    count = size // 75
+    names = "".join(f"reg [7:0] d{k};\nwire [7:0] c{k} = d{k};\n" for k in range(count))
+    zero = "".join(f"d{k} = 8'd0;\n" for k in range(count))
+    chosen = "".join(f"16'd{k}: d{k} = c{k + 1};\n" for k in range(count - 1))
     return module(f"{names}always @* begin\n{zero}case ({{i, i}})\n{chosen}endcase\nend\n"), SET
 
 
