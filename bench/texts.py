@@ -144,30 +144,29 @@ def one_block(unit):
     return text
 
 
-def block_from_its_end(size):
-    """A combinational block that gives each signal the next one's value, so that each has to be solved before the one before it."""
-    count = size // 33
+def chained(count):
+    """Signals, statements that give each the next one's value and the last one the input, and such that give each the input."""
     names = "".join(f"reg [7:0] c{k};\n" for k in range(count))
     given = "".join(f"c{k} = c{k + 1};\n" for k in range(count - 1))
-    return module(f"{names}always @* begin\n{given}c{count - 1} = i;\nend\n"), SET
+    return names, f"{given}c{count - 1} = i;\n", "".join(f"c{k} = i;\n" for k in range(count))
+
+
+def block_from_its_end(size):
+    """A combinational block that gives each signal the next one's value, so that each has to be solved before the one before it."""
+    names, given, _ = chained(size // 33)
+    return module(f"{names}always @* begin\n{given}end\n"), SET
 
 
 def block_from_its_end_within_an_if(size):
     """The same in a branch of an `if`."""
-    count = size // 45
-    names = "".join(f"reg [7:0] c{k};\n" for k in range(count))
-    given = "".join(f"c{k} = c{k + 1};\n" for k in range(count - 1))
-    other = "".join(f"c{k} = i;\n" for k in range(count))
-    return module(f"{names}always @* if (i[0]) begin\n{given}c{count - 1} = i;\nend else begin\n{other}end\n"), SET
+    names, given, other = chained(size // 45)
+    return module(f"{names}always @* if (i[0]) begin\n{given}end else begin\n{other}end\n"), SET
 
 
 def block_from_its_end_within_a_case(size):
     """The same in an item of a `case`."""
-    count = size // 45
-    names = "".join(f"reg [7:0] c{k};\n" for k in range(count))
-    given = "".join(f"c{k} = c{k + 1};\n" for k in range(count - 1))
-    other = "".join(f"c{k} = i;\n" for k in range(count))
-    return module(f"{names}always @* case (i)\n8'd1: begin\n{given}c{count - 1} = i;\nend\ndefault: begin\n{other}end\nendcase\n"), SET
+    names, given, other = chained(size // 45)
+    return module(f"{names}always @* case (i)\n8'd1: begin\n{given}end\ndefault: begin\n{other}end\nendcase\n"), SET
 
 
 def block_from_its_end_over_items(size):
