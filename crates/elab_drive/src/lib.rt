@@ -21,4 +21,4 @@ pub use masks::{Bit, clash, no_bits};
 pub use names::{Form, add_left_names, block_names};
 pub use parts::{Part, add_parts, add_reads, name_of, parts_of, reads_of};
 pub use pieces::{Piece, pieces_of};
-pub use wanted::{add_body_reads, add_store_reads};
+pub use wanted::add_store_reads;

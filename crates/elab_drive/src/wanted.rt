@@ -69,8 +69,8 @@ fn add_piece_reads<'a>(
     }
 }
 
-/// Adds what a statement reads: conditions, case expressions and labels, the numbers of left sides, and right sides. Refused only for want of memory.
-pub fn add_body_reads<'a>(
+// Adds what a statement reads: conditions, case expressions and labels, the numbers of left sides, and right sides.
+fn add_body_reads<'a>(
     all: &mut Vec<Part<'a>>,
     alloc: Global,
     body: &'a Stmt,
