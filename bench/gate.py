@@ -74,17 +74,17 @@ def sample(seen, top):
             pass
 
 
-def resident(top):
-    """The megabytes that a process and all that it started hold now."""
-    pages = 0
+def held(top):
+    """The megabytes that a process and all that it started hold now. What several of them share counts once (the prover forks)."""
+    kilobytes = 0
     for pid in filter(str.isdigit, os.listdir("/proc")):
         try:
             if below(pid, top):
-                with open(f"/proc/{pid}/statm", encoding="utf-8") as it:
-                    pages += int(it.read().split()[1])
-        except (OSError, IndexError):
+                with open(f"/proc/{pid}/smaps_rollup", encoding="utf-8") as lines:
+                    kilobytes += next(int(it.split()[1]) for it in lines if it.startswith("Pss:"))
+        except (OSError, StopIteration):
             pass
-    return pages * os.sysconf("SC_PAGE_SIZE") // 1_000_000
+    return kilobytes * 1024 // 1_000_000
 
 
 def spent(since):
@@ -98,8 +98,8 @@ def build(words):
     most, since = 0, time.time()
     work = subprocess.Popen([f"{TOP}/bin/build", *words], cwd=TOP)
     while work.poll() is None:
-        most = max(most, resident(str(work.pid)))
-        time.sleep(0.5)
+        most = max(most, held(str(work.pid)))
+        time.sleep(2)
     print(f"{spent(since)}; at most {most} MB at one time")
     return work.returncode
 

@@ -178,6 +178,37 @@ def block_from_its_end_over_items(size):
     return module(f"{names}always @* begin\n{zero}case ({{i, i}})\n{chosen}endcase\nend\n"), SET
 
 
+def block_from_its_end_over_items_and_a_default(size):
+    """The same, with a default that gives all of them."""
+    count = size // 95
+    names = "".join(f"reg [7:0] d{k};\nwire [7:0] c{k} = d{k};\n" for k in range(count))
+    zero = "".join(f"d{k} = 8'd0;\n" for k in range(count))
+    chosen = "".join(f"16'd{k}: d{k} = c{k + 1};\n" for k in range(count - 1))
+    other = "".join(f"d{k} = i;\n" for k in range(count))
+    return module(f"{names}always @* begin\n{zero}case ({{i, i}})\n{chosen}default: begin\n{other}end\nendcase\nend\n"), SET
+
+
+def halved(parts):
+    """An exclusive or of these, in halves, so that it isn't high."""
+    middle = len(parts) // 2
+    return f"({halved(parts[:middle])} ^ {halved(parts[middle:])})" if middle else parts[0]
+
+
+def block_from_its_end_under_a_condition(size):
+    """A chain within an `if` whose condition is as long as the chain."""
+    names, given, other = chained(size // 90)
+    condition = halved([f"i[{k % 8}]" for k in range(size // 18)])
+    return module(f"{names}always @* if ({condition}) begin\n{given}end else begin\n{other}end\n"), SET
+
+
+def block_from_its_end_behind_statements(size):
+    """A chain each of whose signals takes what as many statements before it make."""
+    count = size // 60
+    names, given, _ = chained(count)
+    sums = "".join("s = s ^ (s << 1);\n" for _ in range(count))
+    return module(f"{names}reg [7:0] s;\nalways @* begin\ns = i;\n{sums}{given.replace(';', ' + s;')}end\n"), SET
+
+
 def block_of_pairs(size):
     """A combinational block each of whose signals depends on each of as many wires: the pairs are quadratic in the text."""
     count = size // 56
@@ -387,6 +418,9 @@ KINDS = {
     "one combinational block, a chain from its end within an if": block_from_its_end_within_an_if,
     "one combinational block, a chain from its end within a case": block_from_its_end_within_a_case,
     "one combinational block, a chain from its end over items": block_from_its_end_over_items,
+    "one combinational block, a chain from its end over items and a default": block_from_its_end_over_items_and_a_default,
+    "one combinational block, a chain from its end under a long condition": block_from_its_end_under_a_condition,
+    "one combinational block, a chain from its end behind statements": block_from_its_end_behind_statements,
     "one combinational block, each signal by all others": block_of_pairs,
     "one signal assigned again and again": one_signal,
     "a list of events": events,

@@ -36,7 +36,7 @@ use Rattle.elab_block.proofs.Saving.{back_declared, back_saved, back_after, back
 use Rattle.elab_block.specs.Runs.{AreSet, Runs}
 use Rattle.flow_laws.specs.Laws.{place_over}
 use Rattle.elab_step.specs.Solving.{taking, driven, settled, drivers_in, solved, processes, drivers_of, AreDistinct}
-use Rattle.elab_step.specs.Boards.{IsBoard, IsBegun, AreBegun, IsFreeOf, Shows, statements, statement_at, picked, name_of, names_of, groups_of, list_at, list_in, ArePlacesOf}
+use Rattle.elab_step.specs.Boards.{IsBoard, IsProcess, IsBegun, AreBegun, IsFreeOf, Shows, statements, statement_at, picked, name_of, names_of, groups_of, list_at, list_in, ArePlacesOf}
 use Rattle.elab_step.proofs.Solving.{taken, kept}
 use Rattle.elab_step.proofs.Fitting.{one_entry}
 
@@ -127,7 +127,7 @@ number_among (n ∷ is) (suc i) u l = inr (number_among is i u (omega arith))
 
 -- ---- values taken
 
-lacks_name : (x : Name) (gs : List Signal) (ls : List Leaf) (i : ℕ) → AreLeavesOf gs ls → i < length ls → Lacks x ls → x ≢ name_of gs i
+pub lacks_name : (x : Name) (gs : List Signal) (ls : List Leaf) (i : ℕ) → AreLeavesOf gs ls → i < length ls → Lacks x ls → x ≢ name_of gs i
 lacks_name x [] [] i h lt n = absurd (omega arith)
 lacks_name x [] (l ∷ ls) i h lt n = absurd h
 lacks_name x (g ∷ gs) [] i h lt n = absurd h
@@ -138,11 +138,11 @@ lacks_name x (g ∷ gs) (l ∷ ls) (suc i) h lt n = lacks_name x gs ls i h.1 (om
 alone : (x y : Name) → x ≢ y → Among (x ∷ []) y → ⊥
 alone x y n m = ⊎_elim n (λ u. u) m
 
-others_shown : (e : Naming) (b : List Node) (x : Name) (d c : Cycle) (ls : List Leaf) → Lacks x ls → AreShown e b ls c → AreShown e b ls (taking (x ∷ []) d c)
+pub others_shown : (e : Naming) (b : List Node) (x : Name) (d c : Cycle) (ls : List Leaf) → Lacks x ls → AreShown e b ls c → AreShown e b ls (taking (x ∷ []) d c)
 others_shown e b x d c [] n h = tt
 others_shown e b x d c (l ∷ ls) n h = (kept (x ∷ []) l.name d c (alone x l.name n.0) ∙ h.0, others_shown e b x d c ls n.1 h.1)
 
-shown_taking : (e : Naming) (b : List Node) (d c : Cycle) (gs : List Signal) (ls : List Leaf) (i n : ℕ) → AreLeavesOf gs ls → AreApart ls → i < length ls → AreShown e b ls c → d (name_of gs i) ≡ number_at e b n → AreShown e b (with_node ls i n) (taking (name_of gs i ∷ []) d c)
+pub shown_taking : (e : Naming) (b : List Node) (d c : Cycle) (gs : List Signal) (ls : List Leaf) (i n : ℕ) → AreLeavesOf gs ls → AreApart ls → i < length ls → AreShown e b ls c → d (name_of gs i) ≡ number_at e b n → AreShown e b (with_node ls i n) (taking (name_of gs i ∷ []) d c)
 shown_taking e b d c [] [] i n are apart lt h v = absurd (omega arith)
 shown_taking e b d c [] (l ∷ ls) i n are apart lt h v = absurd are
 shown_taking e b d c (g ∷ gs) [] i n are apart lt h v = absurd are
@@ -175,7 +175,7 @@ taken_apart true false v w = refl
 taken_apart false true v w = refl
 taken_apart false false v w = refl
 
-taking_next : (x : Name) (xs : List Name) (d c : Cycle) → taking (x ∷ xs) d c ≡ taking xs d (taking (x ∷ []) d c)
+pub taking_next : (x : Name) (xs : List Name) (d c : Cycle) → taking (x ∷ xs) d c ≡ taking xs d (taking (x ∷ []) d c)
 taking_next x xs d c = λ r y. taken_apart (bytes_eq x y) (is_among xs y) (d y) (c y) r
 
 -- leaves with some nodes of others, which show d
@@ -515,7 +515,7 @@ places_long f (g ∷ gs) [] h = absurd h
 places_long f (g ∷ gs) (v ∷ vs) h = ap suc (places_long f gs vs h.2)
 
 pub places_at : (f : Flat) (gs : List Signal) (vs : List (Vec ℕ Global)) (i : ℕ) → ArePlacesOf f gs vs → i < length vs
-    → ((k : ℕ) → Among (list_at vs i) k → k < length (statements f)) × (picked (statements f) (list_at vs i) ≡ drivers_of (processes f) (name_of gs i))
+    → ((k : ℕ) → Among (list_at vs i) k → IsProcess f k) × (picked (statements f) (list_at vs i) ≡ drivers_of (processes f) (name_of gs i))
 places_at f [] [] i h l = absurd (omega arith)
 places_at f [] (w ∷ vs) i h l = absurd h
 places_at f (g ∷ gs) [] i h l = absurd h
@@ -533,7 +533,7 @@ list_first vs (i ∷ is) l = refl
 
 -- the places of the statements that assign a group
 pub places_in : (f : Flat) (gs : List Signal) (vs : List (Vec ℕ Global)) (is : List ℕ) → ArePlacesOf f gs vs → ((i : ℕ) → Among is i → i < length vs)
-    → ((k : ℕ) → Among (list_in vs is) k → k < length (statements f)) × (picked (statements f) (list_in vs is) ≡ drivers_in (processes f) (names_of gs is))
+    → ((k : ℕ) → Among (list_in vs is) k → IsProcess f k) × (picked (statements f) (list_in vs is) ≡ drivers_in (processes f) (names_of gs is))
 places_in f gs vs [] h w = (λ k m. absurd m, refl)
 places_in f gs vs (i ∷ is) h w = places_at f gs vs i h (w i (inl refl))
 

@@ -8,4 +8,6 @@ pub mod Boards
 pub mod Runs
 pub mod Edges
 pub mod Solutions
-pub mod Steps
+pub mod Leaving
+pub mod Sources
+pub mod Driving

@@ -23,7 +23,7 @@ use Rattle.elab_step.specs.Solving.{clocked, processes, after_edge, solved, join
 use Rattle.elab_step.specs.Boards.{IsBoard, AreBegun, IsFreeOf, Shows, ShowsEdge, IsSolution, name_of, unset}
 use Rattle.elab_step.proofs.Boards.{shown_kept, shown_at, begun_grown, leaves_long}
 
-shown_before : (e : Naming) (ls : List Leaf) (a b : List Node) (c : Cycle) → Keeps a b → AreReady ls a → AreShown e b ls c → AreShown e a ls c
+pub shown_before : (e : Naming) (ls : List Leaf) (a b : List Node) (c : Cycle) → Keeps a b → AreReady ls a → AreShown e b ls c → AreShown e a ls c
 shown_before e [] a b c k r h = tt
 shown_before e (l ∷ ls) a b c k r h = (h.0 ∙ number_kept e a b l.node l.width k r.1, shown_before e ls a b c k r.2 h.1)
 

@@ -1,5 +1,5 @@
 -- Leaves of a module that show its cycles.
-use Rattle.std.specs.Prelude.{ℕ, zero, suc, ◌≡◌, ◌<◌, ◌⊎◌, ◌%◌, ◌^◌, pos, Bool, true, false, if◌then◌else◌, List, [], ◌∷◌, ◌++◌, map, length, Some}
+use Rattle.std.specs.Prelude.{ℕ, zero, suc, ◌≡◌, ◌<◌, ◌+◌, ◌⊎◌, ◌%◌, ◌^◌, pos, Bool, true, false, if◌then◌else◌, List, [], ◌∷◌, ◌++◌, map, length, get_or, Some}
 use Rattle.std.proofs.Common.{Vec, Global}
 use Rattle.vlog_tree.specs.declared.item.Assign.{Assign}
 use Rattle.vlog_tree.specs.declared.stmt.Stmt.{Stmt}
@@ -53,13 +53,21 @@ name_of [] i = []
 name_of (g ∷ gs) zero = g.name
 name_of (g ∷ gs) (suc i) = name_of gs i
 
--- for each signal the places of the statements that assign it
+-- the block of a statement's place, if it is that of a block, isn't clocked
+abbrev pub IsUnclocked : Flat → ℕ → Type 0
+IsUnclocked f i = (j : ℕ) (k : Always) → i ≡ length f.assigns + j → j < length f.blocks → k ≡ get_or f.blocks j k → k.clocked ≡ false
+
+-- the place of a continuous assignment or of a combinational block
+abbrev pub IsProcess : Flat → ℕ → Type 0
+IsProcess f i = (i < length (statements f)) × IsUnclocked f i
+
+-- for each signal the places of those that assign it
 abbrev pub ArePlacesOf : Flat → List Signal → List (Vec ℕ Global) → Type 0
 ArePlacesOf f [] [] = Unit {0}
 ArePlacesOf f [] (v ∷ vs) = ⊥
 ArePlacesOf f (g ∷ gs) [] = ⊥
 ArePlacesOf f (g ∷ gs) (v ∷ vs) =
-    ((i : ℕ) → Among v.items i → i < length (statements f)) × (picked (statements f) v.items ≡ drivers_of (processes f) g.name) × ArePlacesOf f gs vs
+    ((i : ℕ) → Among v.items i → IsProcess f i) × (picked (statements f) v.items ≡ drivers_of (processes f) g.name) × ArePlacesOf f gs vs
 
 -- a leaf is begun: the leaf of a net has the value 0, any other one is a free word
 abbrev pub IsBegun : List Node → Signal → Bool → Leaf → Type 0

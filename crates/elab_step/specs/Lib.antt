@@ -2,4 +2,4 @@ pub mod Solving
 pub mod Asked
 pub mod Boards
 pub mod Laws
-pub mod Steps
+pub mod Outcomes

@@ -1,11 +1,11 @@
 //! Modules without instances as functions of words.
 #![tactic(auto)]
 
-mod blocks;
 mod edge;
 mod law;
 mod nets;
 mod nodes;
+mod outcomes;
 mod solution;
 mod start;
 

@@ -1,32 +1,41 @@
 // Nets, solved group after group.
-ghost use Rattle.std.specs.Prelude.{◌≡◌, ◌<◌, ◌+◌, true, length, IfOk, ℕ};
+ghost use Rattle.std.specs.Prelude.{◌≡◌, ◌<◌, ◌+◌, ℕ, true, false, List, None, length, map, get_or, slice_index, IfOk};
 ghost use Rattle.word_dag.specs.Adding.{Keeps};
+ghost use Rattle.vlog_runs.specs.declared.flat.Always.{Always};
 ghost use Rattle.vlog_runs.specs.Blocks.{run};
 ghost use Rattle.vlog_runs.specs.Places.{Among};
 ghost use Rattle.vlog_runs.specs.Cycles.{flat_place};
-ghost use Rattle.elab_node.specs.Leaves.{declared};
+ghost use Rattle.word_dag.specs.declared.node.Node.{Node as OneNode};
+ghost use Rattle.elab_node.specs.declared.leaves.Leaf.{Leaf as OneLeaf};
+ghost use Rattle.vlog_tree.specs.declared.stmt.Stmt.{Stmt as OneStmt};
+ghost use Rattle.elab_node.specs.Leaves.{declared, AreReady};
+ghost use Rattle.elab_block.specs.declared.branches.Saved.{Saved as OneSaved};
 ghost use Rattle.elab_block.specs.Saving.{saved_at, places_of, put_back, AreWithin, IsSaved};
 ghost use Rattle.elab_block.specs.Sparing.{Covers};
 ghost use Rattle.elab_block.specs.Standing.{AreLeavesOf, AreApart};
 ghost use Rattle.elab_step.specs.Solving.{taking, settled, solved, processes};
 ghost use Rattle.elab_step.specs.Asked.{CanElaborate};
-ghost use Rattle.elab_step.specs.Steps.{AreBlocksOf};
-ghost use Rattle.elab_step.specs.Boards.{IsBoard, Shows, statements, statement_at, picked, names_of, groups_of, list_at, list_in, ArePlacesOf, AreBelow};
+ghost use Rattle.elab_step.specs.Boards.{IsBoard, IsProcess, Shows, statements, statement_at, picked, names_of, groups_of, list_at, list_in, ArePlacesOf, AreBelow};
+ghost use Rattle.elab_step.specs.Outcomes.{IsFound, IsOutcome, IsSource, AreOutcomes, AreRoots, AreProcesses, AreSameProcesses, ArePending};
 
-use crate::blocks::{Block, block_of, drive_block};
+use crate::edge::copy_of;
 use crate::nodes::zero;
+use crate::outcomes::{Outcome, outcome_of};
+use crate::start::begun;
 use elab_block::{Saved, assign, before_assign, put_back, saved_at};
+use elab_copies::Copier;
 use elab_node::Leaves;
 use std::alloc::{AllocError, Global};
 use vlog_runs::Flat;
-use vlog_tree::Assign;
 use word_dag::Dag;
 
-// A module's continuous assignments and its blocks, the latter ready to be run in part.
+/// A module's continuous assignments, and what its combinational blocks leave, with the leaves over which they were run.
 #[derive(Drop)]
-struct Processes<'a> {
+pub struct Processes<'a> {
     flat: &'a Flat,
-    blocks: Vec<Block<'a>>,
+    first: Leaves,
+    outcomes: Vec<Outcome>,
+    copier: Copier,
 }
 
 // Runs a continuous assignment on the leaves.
@@ -69,8 +78,8 @@ fn saved_for_assign(
     Ok(before)
 }
 
-/// Puts saved nodes back, but for the leaves of some nets, which keep their own. It is refused for want of memory alone, and then nothing changes.
-pub fn restore(
+// Puts saved nodes back, but for the leaves of some nets, which keep their own.
+fn restore(
     alloc: Global,
     before: &[Saved],
     nets: &[usize],
@@ -88,7 +97,6 @@ pub fn restore(
 
 // Gives the leaves of nets what a continuous assignment makes of them, and leaves the others as they are.
 fn drive_assign(
-    alloc: Global,
     dag: &mut Dag,
     flat: &Flat,
     place: usize,
@@ -104,75 +112,179 @@ fn drive_assign(
     ensures board { IfOk result (λ u. IsBoard flat.now.signals state.new dag.new) }
     ensures shows { IfOk result (λ u. Shows (λ c. taking (names_of flat.now.signals nets.now) (run true (flat_place flat.now) (statement_at (statements flat.now) place) c c) c) state.old dag.old state.new dag.new) }
 {
+    let alloc = state.allocator();
     let before = saved_for_assign(alloc, flat, place, state)?;
     run_assign(alloc, dag, flat, place, state)?;
     restore(alloc, &before, nets, state)?;
     Ok(())
 }
 
-// The blocks of a module, ready to be run in part.
-fn blocks_of<'a>(
-    alloc: Global,
-    flat: &'a Flat,
-    state: &Leaves,
-) -> Result<Vec<Block<'a>>, AllocError>
+// What the combinational blocks of a module leave over a source.
+fn outcomes_of(flat: &Flat, source: &mut Dag, first: &Leaves) -> Result<Vec<Outcome>, AllocError>
     requires can { CanElaborate flat.now }
-    requires leaves { AreLeavesOf flat.now.signals state.now }
-    requires apart { AreApart state.now }
-    ensures { IfOk result (λ r. AreBlocksOf state.now flat.now.blocks r.items) }
+    requires source { IsSource flat.now.signals first.now source.old }
+    ensures source { IfOk result (λ r. IsSource flat.now.signals first.now source.new) }
+    ensures outcomes { IfOk result (λ r. AreOutcomes first.now source.new flat.now.blocks r.items) }
 {
+    let alloc = first.allocator();
+    let mut work = copy_of(alloc, first)?;
     let mut all = Vec::new(alloc);
     for block in flat.blocks.as_slice() {
-        all.push(block_of(alloc, &block.body, state)?)?;
+        let outcome = if block.clocked {
+            Outcome::none(alloc)
+        } else {
+            outcome_of(source, &block.body, &mut work)?
+        };
+        all.push(outcome)?;
     }
     Ok(all)
 }
 
+// For each place the number of groups up to the last one that it stands in.
+fn rounds_of(alloc: Global, count: usize, groups: &[Vec<usize>]) -> Result<Vec<usize>, AllocError>
+    requires { AreBelow count groups.now }
+    ensures long { IfOk result (λ r. length r.items ≡ count) }
+    ensures last { IfOk result (λ r. (i j : ℕ) → i < length groups.now → Among (list_at groups.now i) j → i < slice_index r.items j) }
+{
+    let mut rounds = vec![in alloc; 0; count]?;
+    for i in 0..groups.len() {
+        for net in &groups[i] {
+            rounds[*net] = i + 1;
+        }
+    }
+    Ok(rounds)
+}
+
+// A module's processes, ready to solve groups of its nets: its combinational blocks are run, once each, over a source of their own.
+fn processes_of<'a>(alloc: Global, flat: &'a Flat, groups: &[Vec<usize>]) -> Result<Processes<'a>, AllocError>
+    requires can { CanElaborate flat.now }
+    requires groups { AreBelow (length flat.now.signals) groups.now }
+    ensures flat { IfOk result (λ p. p.flat.now ≡ flat.now) }
+    ensures round { IfOk result (λ p. p.copier.round ≡ 0) }
+    ensures rounds { IfOk result (λ p. (i j : ℕ) → i < length groups.now → Among (list_at groups.now i) j → i < slice_index p.copier.rounds.items j) }
+    ensures ready { IfOk result (λ p. (ls : List OneLeaf) (ns : List OneNode) → IsBoard flat.now.signals ls ns → AreProcesses p ls ns) }
+{
+    let count = flat.signals.len();
+    let mut source = Dag::new(alloc);
+    let no_nets = vec![in alloc; false; count]?;
+    let first = begun(alloc, &mut source, flat.signals.as_slice(), &no_nets)?;
+    let outcomes = outcomes_of(flat, &mut source, &first)?;
+    let copier = Copier::new(alloc, source, rounds_of(alloc, count, groups)?)?;
+    Ok(Processes {
+        flat,
+        first,
+        outcomes,
+        copier,
+    })
+}
+
+// For each of these places the node that a block leaves there: the place's free word where the block doesn't assign it.
+fn roots_of(first: &Leaves, outcome: &Outcome, places: &[usize]) -> Result<Vec<u64>, AllocError>
+    requires within { AreWithin first.now places.now }
+    requires outcome { IsFound outcome.now }
+    ensures { IfOk result (λ r. (ns : List OneNode) (body : OneStmt) → AreReady first.now ns → IsOutcome first.now ns body outcome.now → AreRoots first.now ns body places.now r.items) }
+{
+    let mut roots = Vec::new(first.allocator());
+    for place in places {
+        let root = match outcome.node(*place) {
+            Some(node) => node,
+            None => first.leaf(*place).node,
+        };
+        roots.push(root)?;
+    }
+    Ok(roots)
+}
+
+// These nodes for the leaves of these places.
+fn saved_for(alloc: Global, places: &[usize], nodes: &[u64]) -> Result<Vec<Saved>, AllocError>
+    requires { length nodes.now ≡ length places.now }
+    ensures places { IfOk result (λ r. places_of r.items ≡ places.now) }
+    ensures nodes { IfOk result (λ r. map (λ (s : OneSaved). s.node) r.items ≡ nodes.now) }
+{
+    let mut saved = Vec::new(alloc);
+    for k in 0..places.len() {
+        saved.push(Saved { place: places[k], node: nodes[k] })?;
+    }
+    Ok(saved)
+}
+
+// Gives the leaves of nets what a block makes of them, and leaves the others as they are.
+fn drive_block(
+    text: &mut Processes<'_>,
+    dag: &mut Dag,
+    at: usize,
+    nets: &[usize],
+    state: &mut Leaves,
+) -> Result<(), AllocError>
+    requires board { IsBoard text.old.flat.now.signals state.old dag.old }
+    requires processes { AreProcesses text.old state.old dag.old }
+    requires block { (at < length text.old.flat.now.blocks) × ((k : Always) → k ≡ get_or text.old.flat.now.blocks at k → k.clocked ≡ false) }
+    requires pending { ArePending text.old nets.now }
+    requires nets { AreWithin state.old nets.now }
+    ensures keeps { Keeps dag.old dag.new }
+    ensures same { IfOk result (λ u. AreSameProcesses text.old text.new) }
+    ensures long { IfOk result (λ u. length state.new ≡ length state.old) }
+    ensures board { IfOk result (λ u. IsBoard text.old.flat.now.signals state.new dag.new) }
+    ensures processes { IfOk result (λ u. AreProcesses text.new state.new dag.new) }
+    ensures shows { IfOk result (λ u. (k : Always) → k ≡ get_or text.old.flat.now.blocks at k → Shows (λ c. taking (names_of text.old.flat.now.signals nets.now) (run true (flat_place text.old.flat.now) k.body c c) c) state.old dag.old state.new dag.new) }
+{
+    let alloc = state.allocator();
+    let roots = roots_of(&text.first, &text.outcomes[at], nets)?;
+    let copies = text.copier.copy_each(alloc, dag, state, &roots)?;
+    let after = saved_for(alloc, nets, &copies)?;
+    put_back(state, &after);
+    Ok(())
+}
+
 // Gives the leaves of nets what a statement makes of them, and leaves the others as they are.
 fn drive(
-    alloc: Global,
+    text: &mut Processes<'_>,
     dag: &mut Dag,
-    text: &Processes<'_>,
     place: usize,
     nets: &[usize],
     state: &mut Leaves,
 ) -> Result<(), AllocError>
-    requires can { CanElaborate text.now.flat.now }
-    requires board { IsBoard text.now.flat.now.signals state.old dag.old }
-    requires blocks { AreBlocksOf state.old text.now.flat.now.blocks text.now.blocks.items }
-    requires within { place < length text.now.flat.now.assigns + length text.now.flat.now.blocks }
+    requires can { CanElaborate text.old.flat.now }
+    requires board { IsBoard text.old.flat.now.signals state.old dag.old }
+    requires processes { AreProcesses text.old state.old dag.old }
+    requires process { IsProcess text.old.flat.now place }
+    requires pending { ArePending text.old nets.now }
     requires nets { AreWithin state.old nets.now }
     ensures keeps { Keeps dag.old dag.new }
+    ensures same { IfOk result (λ u. AreSameProcesses text.old text.new) }
     ensures long { IfOk result (λ u. length state.new ≡ length state.old) }
-    ensures board { IfOk result (λ u. IsBoard text.now.flat.now.signals state.new dag.new) }
-    ensures shows { IfOk result (λ u. Shows (λ c. taking (names_of text.now.flat.now.signals nets.now) (run true (flat_place text.now.flat.now) (statement_at (statements text.now.flat.now) place) c c) c) state.old dag.old state.new dag.new) }
+    ensures board { IfOk result (λ u. IsBoard text.old.flat.now.signals state.new dag.new) }
+    ensures processes { IfOk result (λ u. AreProcesses text.new state.new dag.new) }
+    ensures shows { IfOk result (λ u. Shows (λ c. taking (names_of text.old.flat.now.signals nets.now) (run true (flat_place text.old.flat.now) (statement_at (statements text.old.flat.now) place) c c) c) state.old dag.old state.new dag.new) }
 {
     let assigns = text.flat.assigns.len();
     if place < assigns {
-        return drive_assign(alloc, dag, text.flat, place, nets, state);
+        return drive_assign(dag, text.flat, place, nets, state);
     }
-    drive_block(alloc, dag, &text.blocks[place - assigns], nets, state)?;
+    drive_block(text, dag, place - assigns, nets, state)?;
     Ok(())
 }
 
 // Solves nets together: their leaves are 0 and then in turn what each statement of these places makes of them; the others stay as they are.
 fn settle(
-    alloc: Global,
+    text: &mut Processes<'_>,
     dag: &mut Dag,
-    text: &Processes<'_>,
     places: &[usize],
     nets: &[usize],
     state: &mut Leaves,
 ) -> Result<(), AllocError>
-    requires can { CanElaborate text.now.flat.now }
-    requires board { IsBoard text.now.flat.now.signals state.old dag.old }
-    requires blocks { AreBlocksOf state.old text.now.flat.now.blocks text.now.blocks.items }
-    requires within { (i : ℕ) → Among places.now i → i < length text.now.flat.now.assigns + length text.now.flat.now.blocks }
+    requires can { CanElaborate text.old.flat.now }
+    requires board { IsBoard text.old.flat.now.signals state.old dag.old }
+    requires processes { AreProcesses text.old state.old dag.old }
+    requires places { (i : ℕ) → Among places.now i → IsProcess text.old.flat.now i }
+    requires pending { ArePending text.old nets.now }
     requires nets { AreWithin state.old nets.now }
     ensures keeps { Keeps dag.old dag.new }
+    ensures same { IfOk result (λ u. AreSameProcesses text.old text.new) }
     ensures long { IfOk result (λ u. length state.new ≡ length state.old) }
-    ensures board { IfOk result (λ u. IsBoard text.now.flat.now.signals state.new dag.new) }
-    ensures shows { IfOk result (λ u. Shows (settled (flat_place text.now.flat.now) (picked (statements text.now.flat.now) places.now) (names_of text.now.flat.now.signals nets.now)) state.old dag.old state.new dag.new) }
+    ensures board { IfOk result (λ u. IsBoard text.old.flat.now.signals state.new dag.new) }
+    ensures processes { IfOk result (λ u. AreProcesses text.new state.new dag.new) }
+    ensures shows { IfOk result (λ u. Shows (settled (flat_place text.old.flat.now) (picked (statements text.old.flat.now) places.now) (names_of text.old.flat.now.signals nets.now)) state.old dag.old state.new dag.new) }
 {
     for net in nets {
         let width = state.leaf(*net).width;
@@ -180,7 +292,7 @@ fn settle(
         state.set_node(*net, node);
     }
     for place in places {
-        drive(alloc, dag, text, *place, nets, state)?;
+        drive(text, dag, *place, nets, state)?;
     }
     Ok(())
 }
@@ -205,10 +317,9 @@ fn list_of<'a>(places: &'a [Vec<usize>], nets: &[usize]) -> &'a [usize]
     }
 }
 
-/// Solves groups of nets one after another, in an order of their places, each by the places of the statements that assign it: they are run once
-/// for the whole group, and of a block the statements alone that the group needs. It is refused for want of memory alone, and then the leaves are half changed.
+/// Solves groups of nets one after another, in an order of their places, each by the places of the statements that assign it. Each combinational
+/// block is run once, over free words, and a group's nodes are made of what it leaves. It is refused for want of memory alone, and then the leaves are half changed.
 pub fn solve_nets(
-    alloc: Global,
     dag: &mut Dag,
     flat: &Flat,
     places: &[Vec<usize>],
@@ -223,12 +334,11 @@ pub fn solve_nets(
     ensures board { IfOk result (λ u. IsBoard flat.now.signals state.new dag.new) }
     ensures shows { IfOk result (λ u. Shows (solved (flat_place flat.now) (processes flat.now) (groups_of flat.now.signals groups.now)) state.old dag.old state.new dag.new) }
 {
-    let text = Processes {
-        flat,
-        blocks: blocks_of(alloc, flat, state)?,
-    };
-    for nets in groups {
-        settle(alloc, dag, &text, list_of(places, nets), nets, state)?;
+    let mut text = processes_of(state.allocator(), flat, groups)?;
+    for round in 0..groups.len() {
+        let nets = groups[round].as_slice();
+        text.copier.begin_round(round);
+        settle(&mut text, dag, list_of(places, nets), nets, state)?;
     }
     Ok(())
 }

@@ -38,7 +38,7 @@ pub fn solve(
     let mut dag = Dag::new(alloc);
     let begun = begun(alloc, &mut dag, flat.signals.as_slice(), nets)?;
     let mut now = copy_of(alloc, &begun)?;
-    solve_nets(alloc, &mut dag, flat, places, groups, &mut now)?;
+    solve_nets(&mut dag, flat, places, groups, &mut now)?;
     let mut next = copy_of(alloc, &now)?;
     run_clocked(alloc, &mut dag, flat, &now, &mut next)?;
     Ok(Solution {

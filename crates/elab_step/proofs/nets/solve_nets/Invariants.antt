@@ -1,7 +1,5 @@
-use Rattle.std.proofs.Common.{drop}
-use Rattle.elab_step.specs.Boards.{groups_of}
-use Rattle.elab_step.proofs.Boards.{Solving}
+use Rattle.elab_step.proofs.Driving.{Rounds}
 use Rattle.elab_step.proofs.nets.solve_nets.Given as goal
 
-abbrev pub invariant-loop-nets : goal.invariant-loop-nets
-invariant-loop-nets l = Solving l.flat (groups_of l.flat.signals l.groups) (groups_of l.flat.signals (drop l.nets-index l.groups)) l.fn.state l.fn.dag l.state l.dag
+abbrev pub invariant-loop-round : goal.invariant-loop-round
+invariant-loop-round l = Rounds l.flat l.text l.groups l.round l.fn.state l.fn.dag l.state l.dag

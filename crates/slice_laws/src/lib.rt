@@ -1,6 +1,0 @@
-//! Laws of blocks: some signals need some of a block's statements alone.
-#![tactic(auto)]
-
-mod law;
-
-pub use law::slices_give;

@@ -1,4 +1,0 @@
-pub mod Noting
-pub mod Putting
-pub mod Asking
-pub mod Slicing

@@ -1,6 +1,0 @@
-pub mod Forms
-pub mod Adding
-pub mod Searching
-pub mod Slicing
-pub mod Making
-pub mod Whole
