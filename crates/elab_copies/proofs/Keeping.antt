@@ -85,7 +85,7 @@ copies_passed k ls ms a b keeps same numbers h = record {
     rounds = h.made.rounds ∙ sym (long_same ls ms same);
     words = λ n m at. of_leaf_moved ls ms m same (h.made.words n m at);
     made = λ n m is. copy_moved (is_read k.rounds.items k.round m.lasts) k.source ls ms a b n m.node keeps same
-    (λ e j lt passes. numbers e j lt (read_final k.rounds.items k.round j m.lasts (lasting k ls a n m h is) passes)) (h.made.made n m is);
+        (λ e j lt passes. numbers e j lt (read_final k.rounds.items k.round j m.lasts (lasting k ls a n m h is) passes)) (h.made.made n m is);
     passing = h.made.passing;
     within = h.made.within;
   };

@@ -90,7 +90,7 @@ processes_passed p is f ls ms a b old new keeps within pending shows h =
       source = h.source;
       outcomes = h.outcomes;
       copies = copies_passed p.copier ls ms a b keeps same
-      (λ e j lt passes. others_kept gs is f ls ms a b old new (same_long ls ms same) within shows e j lt (λ m. true≢false (sym passes ∙ pending j m))) h.copies;
+          (λ e j lt passes. others_kept gs is f ls ms a b old new (same_long ls ms same) within shows e j lt (λ m. true≢false (sym passes ∙ pending j m))) h.copies;
     }
 
 -- ---- cycles that a source shows

@@ -156,7 +156,11 @@ fn rounds_of(alloc: Global, count: usize, groups: &[Vec<usize>]) -> Result<Vec<u
 }
 
 // A module's processes, ready to solve groups of its nets: its combinational blocks are run, once each, over a source of their own.
-fn processes_of<'a>(alloc: Global, flat: &'a Flat, groups: &[Vec<usize>]) -> Result<Processes<'a>, AllocError>
+fn processes_of<'a>(
+    alloc: Global,
+    flat: &'a Flat,
+    groups: &[Vec<usize>],
+) -> Result<Processes<'a>, AllocError>
     requires can { CanElaborate flat.now }
     requires groups { AreBelow (length flat.now.signals) groups.now }
     ensures flat { IfOk result (λ p. p.flat.now ≡ flat.now) }
@@ -203,7 +207,10 @@ fn saved_for(alloc: Global, places: &[usize], nodes: &[u64]) -> Result<Vec<Saved
 {
     let mut saved = Vec::new(alloc);
     for k in 0..places.len() {
-        saved.push(Saved { place: places[k], node: nodes[k] })?;
+        saved.push(Saved {
+            place: places[k],
+            node: nodes[k],
+        })?;
     }
     Ok(saved)
 }
