@@ -170,7 +170,7 @@ def block_from_its_end_within_a_case(size):
 
 
 def block_from_its_end_over_items(size):
-    """A chain whose signals are given in an item each: each slice has the whole `case` but for the other items' statements."""
+    """A chain whose signals are given in an item of one `case` each, so that all of them share its labels."""
     count = size // 75
     names = "".join(f"reg [7:0] d{k};\nwire [7:0] c{k} = d{k};\n" for k in range(count))
     zero = "".join(f"d{k} = 8'd0;\n" for k in range(count))
@@ -207,6 +207,14 @@ def block_from_its_end_behind_statements(size):
     names, given, _ = chained(count)
     sums = "".join("s = s ^ (s << 1);\n" for _ in range(count))
     return module(f"{names}reg [7:0] s;\nalways @* begin\ns = i;\n{sums}{given.replace(';', ' + s;')}end\n"), SET
+
+
+def block_from_its_end_behind_parts(size):
+    """A chain that takes a vector of which as many statements before it assign parts, and which is solved behind the chain."""
+    count = size // 70
+    names, given, _ = chained(count)
+    parts = "".join(f"y[{k % 8}] = i[{3 * k % 8}] ^ i[{k // 8 % 8}];\n" for k in range(count))
+    return module(f"{names}reg [7:0] y;\nalways @* begin\n{parts}{given.replace(';', ' ^ y;')}end\n"), SET
 
 
 def block_of_pairs(size):
@@ -421,6 +429,7 @@ KINDS = {
     "one combinational block, a chain from its end over items and a default": block_from_its_end_over_items_and_a_default,
     "one combinational block, a chain from its end under a long condition": block_from_its_end_under_a_condition,
     "one combinational block, a chain from its end behind statements": block_from_its_end_behind_statements,
+    "one combinational block, a chain from its end behind parts": block_from_its_end_behind_parts,
     "one combinational block, each signal by all others": block_of_pairs,
     "one signal assigned again and again": one_signal,
     "a list of events": events,
