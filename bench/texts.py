@@ -217,6 +217,16 @@ def block_from_its_end_behind_parts(size):
     return module(f"{names}reg [7:0] y;\nalways @* begin\n{parts}{given.replace(';', ' ^ y;')}end\n"), SET
 
 
+def block_of_vectors_in_turn(size):
+    """Signals that each take an exclusive or of all vectors of which the block assigns parts. Each vector is solved by itself between two of them."""
+    count = size // 114
+    names = "".join(f"reg [1:0] v{k};\nwire x{k} = i[0];\nreg [1:0] c{k};\n" for k in range(count))
+    parts = "".join(f"v{k}[0] = i[{k % 8}];\nv{k}[1] = i[{3 * k % 8}];\n" for k in range(count))
+    sums = "".join(f"s = s ^ v{k};\n" for k in range(count))
+    given = "".join(f"c{k} = s;\n" for k in range(count))
+    return module(f"{names}reg [1:0] s;\nalways @* begin\ns = 2'd0;\n{parts}{sums}{given}end\n"), SET
+
+
 def block_of_pairs(size):
     """A combinational block each of whose signals depends on each of as many wires: the pairs are quadratic in the text."""
     count = size // 56
@@ -430,6 +440,7 @@ KINDS = {
     "one combinational block, a chain from its end under a long condition": block_from_its_end_under_a_condition,
     "one combinational block, a chain from its end behind statements": block_from_its_end_behind_statements,
     "one combinational block, a chain from its end behind parts": block_from_its_end_behind_parts,
+    "one combinational block, vectors solved in turn": block_of_vectors_in_turn,
     "one combinational block, each signal by all others": block_of_pairs,
     "one signal assigned again and again": one_signal,
     "a list of events": events,

@@ -5,29 +5,29 @@ use Rattle.std.proofs.lemmas.List.{get_or-take}
 use Rattle.word_dag.specs.declared.node.Node.{Node}
 use Rattle.word_dag.specs.Adding.{IsAt, Keeps}
 use Rattle.word_dag.specs.Nodes.{FitFrom}
+use Rattle.word_dag.specs.Order.{operands_of}
 use Rattle.word_dag.specs.Walks.{Each, operands}
 use Rattle.word_dag.proofs.NodeValues.{operands_at}
 use Rattle.word_dag.proofs.Walking.{top_of}
 use Rattle.elab_node.specs.declared.leaves.Leaf.{Leaf}
 use Rattle.elab_node.specs.Leaves.{AreReady}
 use Rattle.elab_node.proofs.Kept.{keeps_then, ready_kept}
-use Rattle.elab_copies.specs.declared.made.Made.{Made}
 use Rattle.elab_copies.specs.declared.copier.Copier.{Copier}
-use Rattle.elab_copies.specs.Copies.{made_at}
-use Rattle.elab_copies.specs.Walks.{HasCopy, HaveCopies, IsLater, MakesOne, first_unmade, operands_of}
-use Rattle.elab_copies.proofs.Making.{later_then, operands_are}
+use Rattle.elab_copies.specs.Copies.{HasCopy, HaveCopies, made_at}
+use Rattle.elab_copies.specs.Walks.{IsLater, MakesOne, first_unmade}
+use Rattle.elab_copies.proofs.Making.{operands_are}
 
 -- ---- which operand has no copy
 
-some_or : (o : Option Made) → (is_none o ≡ true) × (o ≡ None) ⊎ (is_none o ≡ false) × (is_some o ≡ true)
+some_or : (o : Option ℕ) → (is_none o ≡ true) × (o ≡ None) ⊎ (is_none o ≡ false) × (is_some o ≡ true)
 some_or None = inl (refl, refl)
 some_or (Some m) = inr (refl, refl)
 
 -- what the search for an operand without a copy says
-abbrev pub Tells : (ℕ → Type 0) → List (Option Made) → List ℕ → Option ℕ → Type 0
+abbrev pub Tells : (ℕ → Type 0) → List (Option ℕ) → List ℕ → Option ℕ → Type 0
 Tells P ms xs found = MatchOption found (HaveCopies ms xs) (λ a. P a × (made_at ms a ≡ None))
 
-first_tells : (P : ℕ → Type 0) (ms : List (Option Made)) (xs : List ℕ) → Each P xs → Tells P ms xs (first_unmade ms xs)
+first_tells : (P : ℕ → Type 0) (ms : List (Option ℕ)) (xs : List ℕ) → Each P xs → Tells P ms xs (first_unmade ms xs)
 first_tells P ms [] h = tt
 first_tells P ms (x ∷ xs) h = elim (some_or (made_at ms x)) [
   | inl none ↦ subst (λ b. Tells P ms (x ∷ xs) (if b then Some x else first_unmade ms xs)) (sym none.0) (h.0, none.1)
@@ -38,7 +38,7 @@ first_tells P ms (x ∷ xs) h = elim (some_or (made_at ms x)) [
     more None c t = (c, t)
     more (Some a) c t = t
 
-pub unmade_tells : (source : List Node) (ms : List (Option Made)) (n : ℕ) (k : Node) (found : Option ℕ) → FitFrom [] source → IsAt source n k → found ≡ first_unmade ms (operands k) →
+pub unmade_tells : (source : List Node) (ms : List (Option ℕ)) (n : ℕ) (k : Node) (found : Option ℕ) → FitFrom [] source → IsAt source n k → found ≡ first_unmade ms (operands k) →
     MatchOption found (HaveCopies ms (operands_of source n)) (λ a. (a < n) × (made_at ms a ≡ None))
 unmade_tells source ms n k found fit at e =
     let t = first_tells (λ a. a < n) ms (operands k) (operands_at source n k fit at.0 at.1) in
@@ -47,7 +47,7 @@ unmade_tells source ms n k found fit at e =
 
 -- ---- the path of nodes without copies, from the root down
 
-pub record IsPath (ms : List (Option Made)) (stack : List ℕ) (root : ℕ) : Type 0 where
+pub record IsPath (ms : List (Option ℕ)) (stack : List ℕ) (root : ℕ) : Type 0 where
   pub within : (j : ℕ) → j < length stack → slice_index stack j < length ms
   pub are_open : (j : ℕ) → j < length stack → made_at ms (slice_index stack j) ≡ None
   pub falls : (j k : ℕ) → j < k → k < length stack → slice_index stack k < slice_index stack j
@@ -55,19 +55,19 @@ pub record IsPath (ms : List (Option Made)) (stack : List ℕ) (root : ℕ) : Ty
   pub done : length stack ≡ 0 → HasCopy ms root
 
 -- how many nodes have no copy
-abbrev pub unmade_in : List (Option Made) → ℕ
+abbrev pub unmade_in : List (Option ℕ) → ℕ
 unmade_in [] = 0
 unmade_in (None ∷ ms) = suc (unmade_in ms)
 unmade_in (Some m ∷ ms) = unmade_in ms
 
-unmade_set : (ms : List (Option Made)) (i : ℕ) (m : Made) → i < length ms → made_at ms i ≡ None → suc (unmade_in (set ms i (Some m))) ≡ unmade_in ms
+unmade_set : (ms : List (Option ℕ)) (i : ℕ) (m : ℕ) → i < length ms → made_at ms i ≡ None → suc (unmade_in (set ms i (Some m))) ≡ unmade_in ms
 unmade_set [] i m lt e = absurd (omega arith)
 unmade_set (None ∷ ms) zero m lt e = refl
 unmade_set (Some q ∷ ms) zero m lt e = cc
 unmade_set (None ∷ ms) (suc i) m lt e = ap suc (unmade_set ms i m (omega arith) e)
 unmade_set (Some q ∷ ms) (suc i) m lt e = unmade_set ms i m (omega arith) e
 
-module _ (ms : List (Option Made)) (stack : List ℕ) (root : ℕ) (m : Made) (some : 0 < length stack) (w : IsPath ms stack root) where
+module _ (ms : List (Option ℕ)) (stack : List ℕ) (root : ℕ) (m : ℕ) (some : 0 < length stack) (w : IsPath ms stack root) where
   short : length (take (length stack - 1) stack) ≡ length stack - 1
   short = length-take-le (length stack - 1) stack (omega arith)
 
@@ -94,7 +94,7 @@ module _ (ms : List (Option Made)) (stack : List ℕ) (root : ℕ) (m : Made) (s
   left_done e =
       let one : length stack - 1 ≡ 0 = sym short ∙ e in
       let is_root : top_of stack ≡ root = ap (slice_index stack) one ∙ w.bottom some in
-      ap (λ i. is_some (made_at (set ms (top_of stack) (Some m)) i)) (sym is_root) ∙ ap (λ (o : Option Made). is_some o) (get_or-set_same ms (top_of stack) (Some m) None top_in)
+      ap (λ i. is_some (made_at (set ms (top_of stack) (Some m)) i)) (sym is_root) ∙ ap (λ (o : Option ℕ). is_some o) (get_or-set_same ms (top_of stack) (Some m) None top_in)
 
   path_pop : IsPath (set ms (top_of stack) (Some m)) (take (length stack - 1) stack) root
   path_pop = record {
@@ -119,6 +119,13 @@ module _ (ms : List (Option Made)) (stack : List ℕ) (root : ℕ) (m : Made) (s
       omega (arith, times, small)
 
 -- ---- the walk
+
+pub later_then : (k l m : Copier) (ls : List Leaf) (a b : List Node) → IsLater k l ls a → IsLater l m ls b → IsLater k m ls b
+later_then k l m ls a b h g = record {
+  source = g.source ∙ h.source;
+  kept = λ n i is. g.kept n i (h.kept n i is);
+  copies = g.copies;
+}
 
 abbrev pub measure : Copier → List ℕ → ℕ
 measure k stack = unmade_in k.copies.items * (length k.copies.items + 1) + top_of stack

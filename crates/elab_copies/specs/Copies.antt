@@ -1,23 +1,32 @@
 -- Nodes of a source made again in another dag, where the free words of the source are the nodes of leaves.
-use Rattle.std.specs.Prelude.{ℕ, ◌≡◌, ◌<◌, nat_le, Bool, true, false, if◌then◌else◌, List, [], length, map, slice_index, get_or, Option, Some, None}
+use Rattle.std.specs.Prelude.{ℕ, zero, suc, ◌≡◌, ◌<◌, true, false, IsTrue, List, [], ◌∷◌, length, map, slice_index, get_or, Option, Some, None, is_some}
+use Rattle.std.proofs.Common.{Vec, Global}
 use Rattle.vlog_tree.specs.Valuation.{place_at}
 use Rattle.vlog_runs.specs.Places.{Cycle, Among}
+use Rattle.word_core.specs.Words.{Bits}
 use Rattle.word_dag.specs.declared.node.Node.{Node}
 use Rattle.word_dag.specs.declared.node.Node.TheVariants.{Free, Const, Two, Not, Slice, Zext, Sext, Mux}
-use Rattle.word_dag.specs.Adding.{IsAt}
-use Rattle.word_dag.specs.Nodes.{Naming, width_of, word_at}
+use Rattle.word_dag.specs.Adding.{IsAt, Keeps}
+use Rattle.word_dag.specs.Given.{is_free}
+use Rattle.word_dag.specs.Nodes.{FitFrom, Naming, named, node_value, width_of, word_at}
+use Rattle.word_dag.specs.Order.{operands_of}
+use Rattle.word_dag.specs.Walks.{Each, operands}
 use Rattle.word_design.specs.Designs.{free, naming_of}
 use Rattle.elab_node.specs.declared.leaves.Leaf.{Leaf}
 use Rattle.elab_node.specs.Leaves.{declared}
 use Rattle.elab_node.specs.Nodes.{IsNode, number_at, words}
 use Rattle.elab_block.specs.Saving.{node_at}
+use Rattle.elab_block.specs.Standing.{AreShown}
 use Rattle.elab_block.specs.Targets.{name_at, width_at}
-use Rattle.elab_copies.specs.declared.made.Made.{Made}
 use Rattle.elab_copies.specs.declared.copier.Copier.{Copier}
+
+-- a node is the free word of the leaf of this number
+abbrev pub IsWordOf : List Leaf → Node → ℕ → Type 0
+IsWordOf ls z j = (j < length ls) × (z ≡ free (name_at ls j) (width_at ls j))
 
 -- a free word is that of the first leaf of its name
 abbrev pub IsOfLeaf : List Leaf → Node → Type 0
-IsOfLeaf ls (Free x w side t) = (j : ℕ) × (place_at (declared ls) x 0 ≡ Some j) × (j < length ls) × (Free x w side t ≡ free (name_at ls j) (width_at ls j))
+IsOfLeaf ls (Free x w side t) = (j : ℕ) × (place_at (declared ls) x 0 ≡ Some j) × IsWordOf ls (Free x w side t) j
 IsOfLeaf ls (Const w) = Unit {0}
 IsOfLeaf ls (Two op w a b) = Unit {0}
 IsOfLeaf ls (Not w a) = Unit {0}
@@ -28,48 +37,84 @@ IsOfLeaf ls (Mux w c a b) = Unit {0}
 
 -- so is each free word of a source
 abbrev pub AreOfLeaves : List Node → List Leaf → Type 0
-AreOfLeaves source ls = (n : ℕ) (k : Node) → IsAt source n k → IsOfLeaf ls k
+AreOfLeaves source ls = (n : ℕ) (z : Node) → IsAt source n z → IsOfLeaf ls z
 
--- the leaves at the places that pass a test show a cycle
-abbrev pub AreShownAt : (ℕ → Bool) → Naming → List Node → List Leaf → Cycle → Type 0
-AreShownAt t e ns ls c = (j : ℕ) → j < length ls → t j ≡ true → c (name_at ls j) ≡ number_at e ns (node_at ls j)
-
--- node i has the word of node n of the source, whose free words have the values of a cycle that the leaves at these places show
-pub record IsCopy (t : ℕ → Bool) (source : List Node) (ls : List Leaf) (ns : List Node) (n i : ℕ) : Type 0 where
+-- node i has the word of node n of the source, whose free words have the values of a cycle that the leaves show
+pub record IsCopy (source : List Node) (ls : List Leaf) (ns : List Node) (n i : ℕ) : Type 0 where
   pub node : IsNode ns i (slice_index (map width_of source) n)
-  pub word : (e : Naming) (c : Cycle) → AreShownAt t e ns ls c → word_at (words e ns) i ≡ word_at (words (naming_of c) source) n
-
--- the leaf of a place keeps its node from a round on
-abbrev pub is_final : List ℕ → ℕ → ℕ → Bool
-is_final rounds round j = nat_le (slice_index rounds j) round
-
--- the places whose leaves a copy reads: one that lasts reads final ones alone
-abbrev pub is_read : List ℕ → ℕ → Bool → ℕ → Bool
-is_read rounds round lasts j = if lasts then is_final rounds round j else true
-
--- the copy of a node, if there is one
-abbrev pub made_at : List (Option Made) → ℕ → Option Made
-made_at ms n = get_or ms n None
-
--- what a copier has made is right, and it has noted the copies that don't last
-pub record HasMade (k : Copier) (ls : List Leaf) (ns : List Node) : Type 0 where
-  pub long : length k.copies.items ≡ length k.source
-  pub rounds : length k.rounds.items ≡ length ls
-  pub words : AreOfLeaves k.source ls
-  pub made : (n : ℕ) (m : Made) → made_at k.copies.items n ≡ Some m → IsCopy (is_read k.rounds.items k.round m.lasts) k.source ls ns n m.node
-  pub passing : (n : ℕ) (m : Made) → made_at k.copies.items n ≡ Some m → m.lasts ≡ false → Among k.passing.items n
-  pub within : (n : ℕ) → Among k.passing.items n → n < length k.copies.items
-
--- so it is, and all copies last
-pub record AreCopies (k : Copier) (ls : List Leaf) (ns : List Node) : Type 0 where
-  pub made : HasMade k ls ns
-  pub none_passes : k.passing.items ≡ []
-
--- two copiers have the same source, and their leaves are final from the same rounds on
-pub record HaveSameSource (k l : Copier) : Type 0 where
-  pub source : l.source ≡ k.source
-  pub rounds : l.rounds.items ≡ k.rounds.items
+  pub word : (e : Naming) (c : Cycle) → AreShown e ns ls c → word_at (words e ns) i ≡ word_at (words (naming_of c) source) n
 
 -- nodes that are copies of these nodes of a source
 abbrev pub EachCopy : List Node → List Leaf → List Node → List ℕ → List ℕ → Type 0
-EachCopy source ls ns roots is = (length is ≡ length roots) × ((k : ℕ) → k < length roots → IsCopy (λ j. true) source ls ns (slice_index roots k) (slice_index is k))
+EachCopy source ls ns roots is = (length is ≡ length roots) × ((k : ℕ) → k < length roots → IsCopy source ls ns (slice_index roots k) (slice_index is k))
+
+-- ---- what a copier keeps
+
+-- the list of this number
+abbrev pub list_at : List (Vec ℕ Global) → ℕ → List ℕ
+list_at [] i = []
+list_at (v ∷ vs) zero = v.items
+list_at (v ∷ vs) (suc i) = list_at vs i
+
+-- the copy of a node, if there is one
+abbrev pub made_at : List (Option ℕ) → ℕ → Option ℕ
+made_at copies n = get_or copies n None
+
+abbrev pub number_in : Option ℕ → ℕ
+number_in None = 0
+number_in (Some i) = i
+
+-- the number of a node's copy
+abbrev pub copy_at : List (Option ℕ) → ℕ → ℕ
+copy_at copies n = number_in (made_at copies n)
+
+-- this node has a copy
+abbrev pub HasCopy : List (Option ℕ) → ℕ → Type 0
+HasCopy copies n = IsTrue (is_some (made_at copies n))
+
+-- all these nodes have copies
+abbrev pub HaveCopies : List (Option ℕ) → List ℕ → Type 0
+HaveCopies copies as' = Each (HasCopy copies) as'
+
+-- a free word became a node with the number of its leaf's, and is noted with the leaf
+pub record IsRead (noted : List (Vec ℕ Global)) (ls : List Leaf) (ns : List Node) (n : ℕ) (z : Node) (i : ℕ) : Type 0 where
+  pub place : ℕ
+  pub word : IsWordOf ls z place
+  pub there : Among (list_at noted place) n
+  pub node : IsNode ns i (width_of z)
+  pub number : (e : Naming) → number_at e ns i ≡ number_at e ns (node_at ls place)
+
+-- any other node became one that has its word over the copies of its operands, whatever words these have
+pub record IsOver (copies : List (Option ℕ)) (ns : List Node) (z : Node) (i : ℕ) : Type 0 where
+  pub node : IsNode ns i (width_of z)
+  pub word : (e : Naming) (vs : List Bits) → Each (λ a. word_at (words e ns) (copy_at copies a) ≡ word_at vs a) (operands z) → word_at (words e ns) i ≡ node_value (named e z) vs z
+
+pub record IsMade (copies : List (Option ℕ)) (noted : List (Vec ℕ Global)) (ls : List Leaf) (ns : List Node) (n : ℕ) (z : Node) (i : ℕ) : Type 0 where
+  pub read : is_free z ≡ true → IsRead noted ls ns n z i
+  pub over : is_free z ≡ false → IsOver copies ns z i
+
+-- what has a copy stands over copies, and is noted with each of them
+pub record IsNetwork (source : List Node) (copies : List (Option ℕ)) (readers : List (Vec ℕ Global)) : Type 0 where
+  pub long : length copies ≡ length source
+  pub readers_long : length readers ≡ length source
+  pub within : (a n : ℕ) → Among (list_at readers a) n → n < length source
+  pub noted : (n a : ℕ) → HasCopy copies n → Among (operands_of source n) a → HasCopy copies a × Among (list_at readers a) n
+
+-- so it is in a copier for so many leaves
+pub record IsSound (k : Copier) (count : ℕ) : Type 0 where
+  pub fit : FitFrom [] k.source
+  pub network : IsNetwork k.source k.copies.items k.readers.items
+  pub words_long : length k.words.items ≡ count
+  pub within : (j n : ℕ) → Among (list_at k.words.items j) n → n < length k.source
+
+-- and each copy is made of what the leaves are
+pub record AreCopies (k : Copier) (ls : List Leaf) (ns : List Node) : Type 0 where
+  pub sound : IsSound k (length ls)
+  pub words : AreOfLeaves k.source ls
+  pub made : (n : ℕ) (z : Node) (i : ℕ) → IsAt k.source n z → made_at k.copies.items n ≡ Some i → IsMade k.copies.items k.words.items ls ns n z i
+
+-- the dag has grown, and leaves of other places than these have nodes of the same numbers as before
+pub record AreMoved (places : List ℕ) (ls : List Leaf) (a : List Node) (ms : List Leaf) (b : List Node) : Type 0 where
+  pub keeps : Keeps a b
+  pub same : declared ms ≡ declared ls
+  pub numbers : (e : Naming) (j : ℕ) → j < length ls → (Among places j → ⊥) → number_at e b (node_at ms j) ≡ number_at e a (node_at ls j)

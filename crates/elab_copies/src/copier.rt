@@ -1,34 +1,37 @@
 // Copies of nodes, each made once as long as the leaves that it reads keep their nodes.
-ghost use Rattle.std.specs.Prelude.{◌≡◌, ◌≤◌, ◌<◌, ◌++◌, ℕ, List, [], ◌∷◌, length, map, true, false, None, IfOk, OnOk, MatchOption, if◌then◌else◌};
+ghost use Rattle.std.specs.Prelude.{◌≡◌, ◌<◌, ℕ, List, [], length, map, true, false, Some, None, IfOk, OnOk, MatchOption};
 ghost use Rattle.std.specs.List.{All};
 ghost use Rattle.vlog_runs.specs.Places.{Among};
-ghost use Rattle.word_dag.specs.Adding.{Adds, Keeps};
+ghost use Rattle.word_dag.specs.Adding.{Adds, IsAt, Keeps};
 ghost use Rattle.word_dag.specs.Given.{is_free};
 ghost use Rattle.word_dag.specs.Nodes.{FitFrom, FitsNode, width_of};
-ghost use Rattle.word_dag.specs.declared.node.Node.{Node};
+ghost use Rattle.word_dag.specs.Order.{operands_of};
+ghost use Rattle.word_dag.specs.Walks.{renumbered};
+ghost use Rattle.word_dag.specs.declared.node.Node.{Node as OneNode};
 ghost use Rattle.elab_node.specs.Leaves.{AreReady};
 ghost use Rattle.elab_node.specs.declared.leaves.Leaf.{Leaf};
-ghost use Rattle.elab_copies.specs.Copies.{AreCopies, AreOfLeaves, EachCopy, HasMade, HaveSameSource, IsCopy, IsOfLeaf, is_read, made_at};
-ghost use Rattle.elab_copies.specs.Walks.{HasCopy, HaveCopies, IsLater, IsMadeOfWord, MakesOne, operands_of};
+ghost use Rattle.elab_block.specs.Saving.{AreWithin};
+ghost use Rattle.elab_copies.specs.Copies.{AreCopies, AreMoved, AreOfLeaves, EachCopy, HasCopy, HaveCopies, IsNetwork, IsSound, copy_at, made_at};
+ghost use Rattle.elab_copies.specs.Walks.{CanMake, IsForgotten, IsLater, IsRenewed, MakesOne};
 
-use crate::made::{Made, is_unmade, node_of, operands_last, over_copies, unmade_operand};
+use crate::lists::{empty_lists, note, note_at, take_list};
+use crate::made::{is_other, is_unmade, node_of, over_copies, unmade_operand};
 use crate::words::word_leaf;
 use elab_node::Leaves;
 use std::alloc::{AllocError, Global};
 use word_dag::{Dag, Node};
 
 /// Makes nodes of a source again in another dag, where the source's free words are the nodes of leaves. What a node becomes is kept
-/// as long as the leaves that it reads keep their nodes, so that each node is made once.
+/// until a leaf that it reads gets another node.
 #[derive(Drop)]
 pub struct Copier {
     source: Dag,
-    // For each node of the source its copy, if it has one.
-    copies: Vec<Option<Made>>,
-    // The nodes whose copies don't last.
-    passing: Vec<u64>,
-    // For each leaf the round from which on it keeps its node.
-    rounds: Vec<usize>,
-    round: usize,
+    // For each node of the source its copy's number, if it has a copy.
+    copies: Vec<Option<u64>>,
+    // For each node of the source those that were copied over its copy.
+    readers: Vec<Vec<u64>>,
+    // For each leaf the free words that became its node.
+    words: Vec<Vec<u64>>,
 }
 
 // Adds a node that isn't a free word; the older ones are kept also where it is refused.
@@ -43,59 +46,58 @@ fn put(dag: &mut Dag, node: Node) -> Result<u64, AllocError>
     Ok(number)
 }
 
-// Notes a node whose copy doesn't last.
-fn note(passing: &mut Vec<u64>, number: u64, lasts: bool) -> Result<(), AllocError>
-    ensures { OnOk result (passing.new.items ≡ (if lasts then passing.old.items else passing.old.items ++ number ∷ [])) }
-{
-    if lasts {
-        return Ok(());
-    }
-    passing.push(number)?;
-    Ok(())
-}
-
-// Leaves some nodes without copies.
-fn unmake(copies: &mut [Option<Made>], numbers: &[u64])
-    requires { (n : ℕ) → Among numbers.now n → n < length copies.old }
-    ensures gone { (n : ℕ) → Among numbers.now n → made_at copies.new n ≡ None }
-    ensures left { (n : ℕ) (m : Made) → made_at copies.new n ≡ Some m → made_at copies.old n ≡ Some m }
+// Whether one of these nodes has a copy that isn't this node.
+fn is_stale(copies: &[Option<u64>], numbers: &[u64], node: u64) -> bool
+    requires { (n : ℕ) → Among numbers.now n → n < length copies.now }
+    ensures { result ≡ false → (n i : ℕ) → Among numbers.now n → made_at copies.now n ≡ Some i → i ≡ node }
 {
     for number in numbers {
-        copies[*number as usize] = None;
+        if is_other(copies, *number, node) {
+            return true;
+        }
     }
+    false
 }
 
 impl Copier {
-    /// A copier in round 0 that has made nothing yet. `rounds` has for each leaf the round from which on it keeps its node. Refused
-    /// only for want of memory.
-    pub fn new(alloc: Global, source: Dag, rounds: Vec<usize>) -> Result<Copier, AllocError>
+    /// A copier that has made nothing yet, for so many leaves. Refused only for want of memory.
+    pub fn new(alloc: Global, source: Dag, leaves: usize) -> Result<Copier, AllocError>
         ensures source { IfOk result (λ k. k.source ≡ source) }
-        ensures rounds { IfOk result (λ k. k.rounds.items ≡ rounds.items) }
-        ensures round { IfOk result (λ k. k.round ≡ 0) }
-        ensures copies { IfOk result (λ k. (ls : List Leaf) (ns : List Node) → length rounds.items ≡ length ls → AreOfLeaves source ls → AreCopies k ls ns) }
+        ensures copies { IfOk result (λ k. (ls : List Leaf) (ns : List OneNode) → length ls ≡ leaves → AreOfLeaves source ls → AreCopies k ls ns) }
     {
-        let copies = vec![in alloc; None; source.nodes().len()]?;
+        let count = source.nodes().len();
+        let copies = vec![in alloc; None; count]?;
+        let readers = empty_lists(alloc, count)?;
+        let words = empty_lists(alloc, leaves)?;
         Ok(Copier {
             source,
             copies,
-            passing: Vec::new(alloc),
-            rounds,
-            round: 0,
+            readers,
+            words,
         })
     }
 
-    /// Goes on to a round. The leaves that are final before it stay so.
-    pub fn begin_round(&mut self, round: usize)
-        requires { self.old.round ≤ round }
-        ensures same { HaveSameSource self.old self.new }
-        ensures round { self.new.round ≡ round }
-        ensures copies { (ls : List Leaf) (ns : List Node) → AreCopies self.old ls ns → AreCopies self.new ls ns }
+    /// Forgets the copies that read a leaf of these places which has another node by now, and all that was made over them. Refused only
+    /// for want of memory, and then the copier is half changed.
+    pub fn renew(
+        &mut self,
+        alloc: Global,
+        leaves: &Leaves,
+        places: &[usize],
+    ) -> Result<(), AllocError>
+        requires sound { IsSound self.old (length leaves.now) }
+        requires places { AreWithin leaves.now places.now }
+        ensures source { IfOk result (λ u. self.new.source ≡ self.old.source) }
+        ensures copies { IfOk result (λ u. (ls : List Leaf) (a b : List OneNode) → AreCopies self.old ls a → AreMoved places.now ls a leaves.now b → AreCopies self.new leaves.now b) }
     {
-        self.round = round;
+        for place in places {
+            self.renew_leaf(alloc, leaves, *place)?;
+        }
+        Ok(())
     }
 
     /// For each of these nodes of the source a node of the dag that has its word, where the free words of the source have the values of
-    /// the leaves' nodes. Each takes time once, as long as the leaves that it reads are final. Refused only for want of memory, and then
+    /// the leaves' nodes. Each takes time once, until a leaf that it reads gets another node. Refused only for want of memory, and then
     /// the copier is half changed.
     pub fn copy_each(
         &mut self,
@@ -108,8 +110,7 @@ impl Copier {
         requires copies { AreCopies self.old leaves.now dag.old }
         requires roots { All (λ n. n < length self.old.source) roots.now }
         ensures keeps { Keeps dag.old dag.new }
-        ensures same { IfOk result (λ r. HaveSameSource self.old self.new) }
-        ensures round { IfOk result (λ r. self.new.round ≡ self.old.round) }
+        ensures source { IfOk result (λ r. self.new.source ≡ self.old.source) }
         ensures copies { IfOk result (λ r. AreCopies self.new leaves.now dag.new) }
         ensures each { IfOk result (λ r. EachCopy self.old.source leaves.now dag.new roots.now r.items) }
         ensures fit { IfOk result (λ r. FitFrom [] dag.new) }
@@ -119,10 +120,39 @@ impl Copier {
             let copy = self.reach(alloc, dag, leaves, *root)?;
             made.push(copy)?;
         }
-        self.forget();
         // the nodes of a dag fit
         let _fit = dag.nodes();
         Ok(made)
+    }
+
+    // Forgets the copies that read a leaf, if it has another node than the one that they read.
+    fn renew_leaf(&mut self, alloc: Global, leaves: &Leaves, place: usize) -> Result<(), AllocError>
+        requires sound { IsSound self.old (length leaves.now) }
+        requires place { place < length leaves.now }
+        ensures { OnOk result (IsRenewed self.old self.new leaves.now place) }
+    {
+        let node = leaves.leaf(place).node;
+        if !is_stale(&self.copies, &self.words[place], node) {
+            return Ok(());
+        }
+        let mut stale = Vec::new(alloc);
+        take_list(&mut self.words, place, &mut stale)?;
+        self.forget(stale)?;
+        Ok(())
+    }
+
+    // Forgets the copies of these nodes, and of all that read them.
+    fn forget(&mut self, numbers: Vec<u64>) -> Result<(), AllocError>
+        requires network { IsNetwork self.old.source self.old.copies.items self.old.readers.items }
+        requires numbers { (n : ℕ) → Among numbers.items n → n < length self.old.source }
+        ensures { OnOk result (IsForgotten self.old self.new numbers.items) }
+    {
+        let mut stack = numbers;
+        while let Some(top) = stack.pop() {
+            self.copies[top as usize] = None;
+            take_list(&mut self.readers, top as usize, &mut stack)?;
+        }
+        Ok(())
     }
 
     // The copy of a node.
@@ -134,11 +164,11 @@ impl Copier {
         root: u64,
     ) -> Result<u64, AllocError>
         requires ready { AreReady leaves.now dag.old }
-        requires made { HasMade self.old leaves.now dag.old }
+        requires copies { AreCopies self.old leaves.now dag.old }
         requires root { root < length self.old.source }
         ensures keeps { Keeps dag.old dag.new }
         ensures later { OnOk result (IsLater self.old self.new leaves.now dag.new) }
-        ensures copy { IfOk result (λ i. IsCopy (λ j. true) self.old.source leaves.now dag.new root i) }
+        ensures copy { IfOk result (λ i. made_at self.new.copies.items root ≡ Some i) }
     {
         if !is_unmade(&self.copies, root) {
             return Ok(node_of(&self.copies, root));
@@ -156,7 +186,7 @@ impl Copier {
         root: u64,
     ) -> Result<(), AllocError>
         requires ready { AreReady leaves.now dag.old }
-        requires made { HasMade self.old leaves.now dag.old }
+        requires copies { AreCopies self.old leaves.now dag.old }
         requires root { root < length self.old.source }
         requires unmade { made_at self.old.copies.items root ≡ None }
         ensures keeps { Keeps dag.old dag.new }
@@ -188,63 +218,47 @@ impl Copier {
 
     // Makes the copy of a node whose operands have copies.
     fn make(&mut self, dag: &mut Dag, leaves: &Leaves, number: u64) -> Result<(), AllocError>
-        requires ready { AreReady leaves.now dag.old }
-        requires made { HasMade self.old leaves.now dag.old }
-        requires number { number < length self.old.source }
-        requires operands { HaveCopies self.old.copies.items (operands_of self.old.source number) }
+        requires { CanMake self.old leaves.now dag.old number }
         ensures keeps { Keeps dag.old dag.new }
         ensures one { OnOk result (MakesOne self.old self.new leaves.now dag.new number) }
     {
-        let made = self.made_of(dag, leaves, number)?;
-        note(&mut self.passing, number, made.lasts)?;
-        self.copies[number as usize] = Some(made);
+        match over_copies(&self.source.nodes()[number as usize], &self.copies) {
+            Some(copied) => self.make_over(dag, number, copied)?,
+            None => self.make_word(leaves, number)?,
+        }
         Ok(())
     }
 
-    // What a node becomes: a free word the node of its leaf, any other one itself over the copies of its operands.
-    fn made_of(&self, dag: &mut Dag, leaves: &Leaves, number: u64) -> Result<Made, AllocError>
-        requires ready { AreReady leaves.now dag.old }
-        requires made { HasMade self.now leaves.now dag.old }
-        requires number { number < length self.now.source }
-        requires operands { HaveCopies self.now.copies.items (operands_of self.now.source number) }
+    // Makes the copy of a node that isn't a free word: it becomes this one, over the copies of its operands.
+    fn make_over(&mut self, dag: &mut Dag, number: u64, copied: Node) -> Result<(), AllocError>
+        requires number { number < length self.old.source }
+        requires network { IsNetwork self.old.source self.old.copies.items self.old.readers.items }
+        requires fits { FitsNode (map width_of dag.old) copied }
+        requires bound { is_free copied ≡ false }
         ensures keeps { Keeps dag.old dag.new }
-        ensures copy { IfOk result (λ m. IsCopy (is_read self.now.rounds.items self.now.round m.lasts) self.now.source leaves.now dag.new number m.node) }
+        ensures one { OnOk result ((ls : List Leaf) (z : OneNode) → CanMake self.old ls dag.old number → IsAt self.old.source number z → is_free z ≡ false → copied ≡ renumbered (copy_at self.old.copies.items) z → MakesOne self.old self.new ls dag.new number) }
     {
-        // the nodes of a dag fit
-        let _fit = dag.nodes();
-        let node = &self.source.nodes()[number as usize];
-        match over_copies(node, &self.copies) {
-            Some(copied) => {
-                let lasts = operands_last(node, &self.copies);
-                let copy = put(dag, copied)?;
-                Ok(Made { node: copy, lasts })
-            }
-            None => Ok(self.made_of_word(leaves, node)),
-        }
+        note(
+            &mut self.readers,
+            &self.source.nodes()[number as usize],
+            number,
+        )?;
+        let copy = put(dag, copied)?;
+        self.copies[number as usize] = Some(copy);
+        Ok(())
     }
 
-    // What a free word becomes: the node of its leaf.
-    fn made_of_word(&self, leaves: &Leaves, word: &Node) -> Made
-        requires free { is_free word.now ≡ true }
-        requires leaf { IsOfLeaf leaves.now word.now }
-        requires rounds { length self.now.rounds.items ≡ length leaves.now }
-        ensures { IsMadeOfWord leaves.now self.now.rounds.items self.now.round word.now result }
+    // Makes the copy of a free word: it becomes the node of its leaf.
+    fn make_word(&mut self, leaves: &Leaves, number: u64) -> Result<(), AllocError>
+        requires number { number < length self.old.source }
+        requires sound { IsSound self.old (length leaves.now) }
+        requires words { AreOfLeaves self.old.source leaves.now }
+        requires free { (z : OneNode) → IsAt self.old.source number z → is_free z ≡ true }
+        ensures { OnOk result ((ns : List OneNode) → CanMake self.old leaves.now ns number → MakesOne self.old self.new leaves.now ns number) }
     {
-        let place = word_leaf(word, leaves);
-        Made {
-            node: leaves.leaf(place).node,
-            lasts: self.rounds[place] <= self.round,
-        }
-    }
-
-    // Forgets the copies that don't last.
-    fn forget(&mut self)
-        requires { (n : ℕ) → Among self.old.passing.items n → n < length self.old.copies.items }
-        ensures same { HaveSameSource self.old self.new }
-        ensures round { self.new.round ≡ self.old.round }
-        ensures copies { (ls : List Leaf) (ns : List Node) → HasMade self.old ls ns → AreCopies self.new ls ns }
-    {
-        unmake(self.copies.as_mut_slice(), &self.passing);
-        self.passing.clear();
+        let place = word_leaf(&self.source.nodes()[number as usize], leaves);
+        note_at(&mut self.words, place, number)?;
+        self.copies[number as usize] = Some(leaves.leaf(place).node);
+        Ok(())
     }
 }

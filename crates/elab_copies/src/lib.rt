@@ -2,6 +2,7 @@
 #![tactic(auto)]
 
 mod copier;
+mod lists;
 mod made;
 mod words;
 

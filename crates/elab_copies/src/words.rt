@@ -3,8 +3,7 @@ ghost use Rattle.std.specs.Prelude.{◌≡◌, ℕ, Some, true};
 ghost use Rattle.vlog_tree.specs.Valuation.{place_at};
 ghost use Rattle.word_dag.specs.Given.{is_free};
 ghost use Rattle.elab_node.specs.Leaves.{declared};
-ghost use Rattle.elab_copies.specs.Copies.{IsOfLeaf};
-ghost use Rattle.elab_copies.specs.Walks.{IsWordOf};
+ghost use Rattle.elab_copies.specs.Copies.{IsOfLeaf, IsWordOf};
 
 use elab_node::Leaves;
 use outside::Text;

@@ -36,7 +36,8 @@ use Rattle.elab_block.proofs.Saving.{back_declared, back_saved, back_after, back
 use Rattle.elab_block.specs.Runs.{AreSet, Runs}
 use Rattle.flow_laws.specs.Laws.{place_over}
 use Rattle.elab_step.specs.Solving.{taking, driven, settled, drivers_in, solved, processes, drivers_of, AreDistinct}
-use Rattle.elab_step.specs.Boards.{IsBoard, IsProcess, IsBegun, AreBegun, IsFreeOf, Shows, statements, statement_at, picked, name_of, names_of, groups_of, list_at, list_in, ArePlacesOf}
+use Rattle.elab_copies.specs.Copies.{list_at}
+use Rattle.elab_step.specs.Boards.{IsBoard, IsProcess, IsBegun, AreBegun, IsFreeOf, Shows, statements, statement_at, picked, name_of, names_of, groups_of, list_in, ArePlacesOf}
 use Rattle.elab_step.proofs.Solving.{taken, kept}
 use Rattle.elab_step.proofs.Fitting.{one_entry}
 

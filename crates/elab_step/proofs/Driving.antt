@@ -1,9 +1,8 @@
 -- Nets that statements drive, and the copies of what blocks leave.
-use Rattle.std.proofs.Common.{arith, ◌≡◌, ℕ, zero, suc, ◌+◌, ◌-◌, ◌^◌, ◌<◌, ◌≤◌, Bool, true, false, true≢false, List, [], ◌∷◌, refl, sym, ap, ◌∙◌, subst, inl, inr, ⊎_elim, map, length, get_or, drop, slice_index, Vec, Global}
-use Rattle.std.specs.Prelude.{nat_le, replicate, Result, Ok, Err, IfOk}
+use Rattle.std.proofs.Common.{arith, ◌≡◌, ℕ, zero, suc, ◌+◌, ◌-◌, ◌^◌, ◌<◌, ◌≤◌, true, false, List, [], ◌∷◌, refl, sym, ap, ◌∙◌, subst, inl, inr, ⊎_elim, map, length, get_or, drop, Vec, Global}
+use Rattle.std.specs.Prelude.{replicate}
 use Rattle.std.specs.List.{All}
 use Rattle.std.proofs.Math.Nat.{mod-eq_of_lt}
-use Rattle.std.proofs.lemmas.Bool.Decides.{leb_tells}
 use Rattle.vlog_tree.specs.declared.stmt.Stmt.{Stmt}
 use Rattle.vlog_runs.specs.declared.flat.Always.{Always}
 use Rattle.vlog_runs.specs.declared.flat.Flat.{Flat}
@@ -14,30 +13,31 @@ use Rattle.vlog_runs.specs.Cycles.{flat_place}
 use Rattle.word_core.specs.Words.{Bits}
 use Rattle.word_dag.specs.declared.node.Node.{Node}
 use Rattle.word_dag.specs.Adding.{Keeps}
-use Rattle.word_dag.specs.Nodes.{FitFrom, Naming, width_of}
+use Rattle.word_dag.specs.Nodes.{FitFrom, Naming}
 use Rattle.word_design.specs.Designs.{naming_of}
 use Rattle.elab_node.specs.declared.leaves.Leaf.{Leaf}
 use Rattle.elab_node.specs.Leaves.{declared, AreReady, with_node}
-use Rattle.elab_node.specs.Nodes.{IsNode, number_at}
-use Rattle.elab_node.proofs.Kept.{number_fits, ready_kept, keeps_then}
+use Rattle.elab_node.specs.Nodes.{number_at}
+use Rattle.elab_node.proofs.Kept.{number_fits, ready_kept, keeps_same}
 use Rattle.elab_node.proofs.Leaving.{declared_with}
 use Rattle.elab_block.specs.declared.branches.Saved.{Saved}
 use Rattle.elab_block.specs.Saving.{node_at, places_of, put_back, AreWithin, AreSaved}
 use Rattle.elab_block.specs.Standing.{flat, AreLeavesOf, AreApart, AreShown}
-use Rattle.elab_block.specs.Targets.{name_at, width_at}
+use Rattle.elab_block.specs.Targets.{name_at}
 use Rattle.elab_block.proofs.Joins.{apart_same}
 use Rattle.elab_block.proofs.Saving.{back_declared, back_ready}
 use Rattle.elab_block.proofs.Saving as saving
 use Rattle.flow_laws.specs.Laws.{AreFit}
 use Rattle.elab_copies.specs.declared.copier.Copier.{Copier}
-use Rattle.elab_copies.specs.Copies.{AreCopies, EachCopy, HaveSameSource, is_final}
-use Rattle.elab_copies.proofs.Keeping.{name_same, width_same, copies_passed, copies_kept, copies_moved}
+use Rattle.elab_copies.specs.Copies.{AreCopies, AreMoved, EachCopy, IsSound}
+use Rattle.elab_copies.proofs.Moving.{width_same}
 use Rattle.elab_step.specs.declared.nets.Processes.{Processes}
 use Rattle.elab_step.specs.declared.outcomes.Outcome.{Outcome}
-use Rattle.elab_step.specs.Solving.{taking, settled, driven, drivers_in, solved, processes}
-use Rattle.elab_step.specs.Boards.{IsBoard, IsProcess, AreBegun, Shows, statements, statement_at, picked, name_of, names_of, groups_of, list_at}
-use Rattle.elab_step.specs.Outcomes.{IsSource, IsRoot, IsOutcome, AreOutcomes, AreRoots, AreProcesses, AreSameProcesses, ArePending}
-use Rattle.elab_step.proofs.Boards.{shown_kept, shown_at, shown_taking, leaves_long, others_shown, lacks_name, taking_next, same_leaves, same_long, rest_is, each_within, all_within, block_at, statements_long, Clearing, Settling, clearing_start, clearing_next, settling_start, settling_next, settling_end, Solving, solving_start, solving_next}
+use Rattle.elab_step.specs.Solving.{taking, settled, driven, drivers_in, processes}
+use Rattle.elab_step.specs.Asked.{CanElaborate}
+use Rattle.elab_step.specs.Boards.{IsBoard, IsProcess, AreBegun, Shows, driven_by, statements, statement_at, picked, name_of, names_of, groups_of}
+use Rattle.elab_step.specs.Outcomes.{IsSource, IsOutcome, AreOutcomes, AreRoots, AreProcesses, AreSameProcesses, CanDrive, AreDriven}
+use Rattle.elab_step.proofs.Boards.{shown_kept, shown_at, shown_taking, leaves_long, others_shown, lacks_name, taking_next, same_leaves, same_long, rest_is, each_within, block_at, statements_long, Clearing, Settling, settling_start, settling_next, settling_end, follows_end, Solving, solving_start, solving_next}
 use Rattle.elab_step.proofs.Solving.{taken, kept}
 
 -- ---- leaves that a step leaves as they are
@@ -80,18 +80,22 @@ others_kept gs is f ls ms a b old new long within shows e j lt miss =
     sym (shown_at e b d gs ms j new.leaves (omega (arith, lt, long)) m)
     ∙ (kept (names_of gs is) (name_of gs j) (f c) c (names_miss gs ls is j old.leaves old.apart lt (each_within ls is within) miss) ∙ shown_at e a c gs ls j old.leaves lt h)
 
--- so the copies that last hold for them
-pub processes_passed : (p : Processes) (is : List ℕ) (f : Cycle → Cycle) (ls ms : List Leaf) (a b : List Node) → IsBoard p.flat.now.signals ls a → IsBoard p.flat.now.signals ms b → Keeps a b → AreWithin ls is → ArePending p is
-    → Shows (λ c. taking (names_of p.flat.now.signals is) (f c) c) ls a ms b → AreProcesses p ls a → AreProcesses p ms b
-processes_passed p is f ls ms a b old new keeps within pending shows h =
-    let gs = p.flat.now.signals in
+-- so the leaves of nets alone have moved
+pub nets_moved : (gs : List Signal) (is : List ℕ) (f : Cycle → Cycle) (ls ms : List Leaf) (a b : List Node) → IsBoard gs ls a → IsBoard gs ms b → Keeps a b → AreWithin ls is → Shows (λ c. taking (names_of gs is) (f c) c) ls a ms b → AreMoved is ls a ms b
+nets_moved gs is f ls ms a b old new keeps within shows =
     let same : declared ms ≡ declared ls = rest_is gs ms new.leaves ∙ sym (rest_is gs ls old.leaves) in
-    record {
-      source = h.source;
-      outcomes = h.outcomes;
-      copies = copies_passed p.copier ls ms a b keeps same
-          (λ e j lt passes. others_kept gs is f ls ms a b old new (same_long ls ms same) within shows e j lt (λ m. true≢false (sym passes ∙ pending j m))) h.copies;
-    }
+    record { keeps = keeps; same = same; numbers = others_kept gs is f ls ms a b old new (same_long ls ms same) within shows }
+
+back_apart : (ls : List Leaf) (ss : List Saved) (j : ℕ) → (Among (places_of ss) j → ⊥) → node_at (put_back ls ss) j ≡ node_at ls j
+back_apart ls [] j miss = refl
+back_apart ls (s ∷ ss) j miss = back_apart (with_node ls s.place s.node) ss j (λ m. miss (inr m)) ∙ saving.node_off ls s.place j s.node (λ q. miss (inl q))
+
+pub back_moved : (ls : List Leaf) (ss : List Saved) (is : List ℕ) (ns : List Node) → places_of ss ≡ is → AreMoved is ls ns (put_back ls ss) ns
+back_moved ls ss is ns places = record {
+  keeps = keeps_same ns;
+  same = back_declared ls ss;
+  numbers = λ e j lt miss. ap (number_at e ns) (back_apart ls ss j (λ m. miss (subst (λ (z : List ℕ). Among z j) places m)));
+}
 
 -- ---- cycles that a source shows
 
@@ -150,7 +154,7 @@ module _ (gs : List Signal) (first : List Leaf) (source : List Node) (body : Stm
       let d = run true (flat gs) body c c in
       let root : d (name_at first s.place) ≡ number_at (naming_of c) source r = roots.0.number gs (naming_of c) c old here in
       let copy = copies.1 0 (omega arith) in
-      let number : number_at e b s.node ≡ number_at (naming_of c) source r = ap (λ (w : Bits). w.value) (copy.word e c (λ j lt t. saving.shown_at e b ls c j lt there)) in (
+      let number : number_at e b s.node ≡ number_at (naming_of c) source r = ap (λ (w : Bits). w.value) (copy.word e c there) in (
         within 0 0 (omega arith),
         ap d (sym (names_same gs first s.place old)) ∙ (root ∙ sym number),
         given e c here there ss rs roots.1 (rest_copies source ls b r s.node rs (map (λ (s : Saved). s.node) ss) copies) (λ k u lt. within (suc k) u (omega (arith, lt))),
@@ -200,10 +204,6 @@ roots_within ls ns body (p ∷ ps) [] h k u lt = absurd h
 roots_within ls ns body (p ∷ ps) (r ∷ rs) h zero u lt = h.0.node.0
 roots_within ls ns body (p ∷ ps) (r ∷ rs) h (suc k) u lt = roots_within ls ns body ps rs h.1 k u (omega (arith, lt))
 
-copies_back : (k : Copier) (ss : List Saved) (ls : List Leaf) (ns : List Node) → ((i : ℕ) → Among (places_of ss) i → is_final k.rounds.items k.round i ≡ false) → AreCopies k ls ns → AreCopies k (put_back ls ss) ns
-copies_back k [] ls ns off h = h
-copies_back k (s ∷ ss) ls ns off h = copies_back k ss (with_node ls s.place s.node) ns (λ i m. off i (inr m)) (copies_moved k ls ns s.place s.node (off s.place (inl refl)) h)
-
 module _ (p : Processes) (body : Stmt) (is rs cs : List ℕ) (ss : List Saved) (ls : List Leaf) (a b : List Node) (board : IsBoard p.flat.now.signals ls a) (keeps : Keeps a b) (are : AreProcesses p ls a)
     (roots : AreRoots p.first p.copier.source body is rs) (copies : EachCopy p.copier.source ls b rs cs) (within : AreWithin ls is) (places : places_of ss ≡ is) (nodes : map (λ (s : Saved). s.node) ss ≡ cs) where
   abbrev gs : List Signal
@@ -236,13 +236,12 @@ module _ (p : Processes) (body : Stmt) (is rs cs : List ℕ) (ss : List Saved) (
       (shown_given e b d gs (length ls) ss ls c board.leaves board.apart refl
       (given gs p.first p.copier.source body ls b are.source.board.leaves board.leaves e c here there ss rs roots_there copies_there within_there) there)
 
--- the processes after that, with another copier
-pub block_processes : (p : Processes) (k : Copier) (is : List ℕ) (ss : List Saved) (ls : List Leaf) (a b : List Node) → AreProcesses p ls a → HaveSameSource p.copier k → k.round ≡ p.copier.round → ArePending p is → places_of ss ≡ is → AreCopies k ls b
-    → AreProcesses (record p { copier = k }) (put_back ls ss) b
-block_processes p k is ss ls a b are same round pending places copies = record {
-  source = subst (λ (z : List Node). IsSource p.flat.now.signals p.first z) (sym same.source) are.source;
-  outcomes = subst (λ (z : List Node). AreOutcomes p.first z p.flat.now.blocks p.outcomes.items) (sym same.source) are.outcomes;
-  copies = copies_back k ss ls b (λ i m. (λ r. is_final (same.rounds r) (round r) i) ∙ pending i (subst (λ (z : List ℕ). Among z i) places m)) copies;
+-- processes with another copier of the same source
+pub processes_with : (p : Processes) (k : Copier) (ls ms : List Leaf) (a b : List Node) → AreProcesses p ls a → k.source ≡ p.copier.source → AreCopies k ms b → AreProcesses (record p { copier = k }) ms b
+processes_with p k ls ms a b are same copies = record {
+  source = subst (λ (z : List Node). IsSource p.flat.now.signals p.first z) (sym same) are.source;
+  outcomes = subst (λ (z : List Node). AreOutcomes p.first z p.flat.now.blocks p.outcomes.items) (sym same) are.outcomes;
+  copies = copies;
 }
 
 -- ---- a block by its place
@@ -255,107 +254,83 @@ block_unclocked f n place long le h =
     let is : place ≡ length f.assigns + (place - n) = omega (arith, long, le) in
     (at, λ k e. h.1 (place - n) k is at e)
 
-pub block_shows : (f : Flat) (n place : ℕ) (is : List ℕ) (ls ms : List Leaf) (a b : List Node) → n ≡ length f.assigns → n ≤ place → IsProcess f place
-    → ((k : Always) → k ≡ get_or f.blocks (place - n) k → Shows (λ c. taking (names_of f.signals is) (run true (flat_place f) k.body c c) c) ls a ms b)
-    → Shows (λ c. taking (names_of f.signals is) (run true (flat_place f) (statement_at (statements f) place) c c) c) ls a ms b
-block_shows f n place is ls ms a b long le h shows =
+pub block_driven : (p q : Processes) (n place : ℕ) (is : List ℕ) (ls ms : List Leaf) (a b : List Node) → n ≡ length p.flat.now.assigns → n ≤ place → IsProcess p.flat.now place
+    → ((k : Always) → k ≡ get_or p.flat.now.blocks (place - n) k → AreDriven (driven_by p.flat.now is k.body) p q ls a ms b) → AreDriven (driven_by p.flat.now is (statement_at (statements p.flat.now) place)) p q ls a ms b
+block_driven p q n place is ls ms a b long le h driven =
+    let f = p.flat.now in
     let at = (block_unclocked f n place long le h).0 in
     let k = block_there f.blocks (place - n) at in
     let same : length f.assigns + (place - n) ≡ place = omega (arith, long, le) in
     let e : k.0.body ≡ statement_at (statements f) place = block_at f (place - n) k.0 k.0 at k.1 ∙ ap (statement_at (statements f)) same in
-    let P : Stmt → Type 0 = λ z. Shows (λ c. taking (names_of f.signals is) (run true (flat_place f) z c c) c) ls a ms b in
-    subst P e (shows k.0 k.1)
+    let P : Stmt → Type 0 = λ z. AreDriven (driven_by f is z) p q ls a ms b in
+    subst P e (driven k.0 k.1)
+
+pub within_moved : (ls ms : List Leaf) (is : List ℕ) → length ms ≡ length ls → AreWithin ls is → AreWithin ms is
+within_moved ls ms is long within j u lt = let w = within j u lt in omega (arith, w, long)
 
 -- ---- the same processes
 
 pub processes_same : (p : Processes) → AreSameProcesses p p
-processes_same p = record { flat = refl; first = refl; outcomes = refl; source = record { source = refl; rounds = refl }; round = refl }
+processes_same p = record { flat = refl; first = refl; outcomes = refl; source = refl }
 
 pub processes_then : (p q r : Processes) → AreSameProcesses p q → AreSameProcesses q r → AreSameProcesses p r
-processes_then p q r h k = record {
-  flat = k.flat ∙ h.flat;
-  first = k.first ∙ h.first;
-  outcomes = k.outcomes ∙ h.outcomes;
-  source = record { source = k.source.source ∙ h.source.source; rounds = k.source.rounds ∙ h.source.rounds };
-  round = k.round ∙ h.round;
-}
-
-pub pending_same : (p q : Processes) (is : List ℕ) → AreSameProcesses p q → ArePending p is → ArePending q is
-pending_same p q is same h i m = (λ r. is_final (same.source.rounds r) (same.round r) i) ∙ h i m
+processes_then p q r h k = record { flat = k.flat ∙ h.flat; first = k.first ∙ h.first; outcomes = k.outcomes ∙ h.outcomes; source = k.source ∙ h.source }
 
 -- ---- nets that are 0, and then driven
 
-pub record Clears (p : Processes) (all rest : List Name) (ls : List Leaf) (a : List Node) (ms : List Leaf) (b : List Node) : Type 0 where
-  pub clearing : Clearing p.flat.now all rest ls a ms b
-  pub processes : AreProcesses p ms b
+-- the leaves of nets alone have moved where they are 0
+pub cleared_moved : (f : Flat) (is : List ℕ) (ls ms : List Leaf) (a b : List Node) → IsBoard f.signals ls a → AreWithin ls is → Clearing f (names_of f.signals is) [] ls a ms b → AreMoved is ls a ms b
+cleared_moved f is ls ms a b board within h = nets_moved f.signals is (λ c y. 0) ls ms a b board h.board h.keeps within (follows_end (taking (names_of f.signals is) (λ y. 0)) ls ms a b h.follows)
 
-pub clears_start : (p : Processes) (all : List Name) (ls : List Leaf) (a : List Node) → IsBoard p.flat.now.signals ls a → AreProcesses p ls a → Clears p all all ls a ls a
-clears_start p all ls a board are = record { clearing = clearing_start p.flat.now all ls a board; processes = are }
+pub sound_moved : (p : Processes) (ls ms : List Leaf) (ns : List Node) → AreProcesses p ls ns → length ms ≡ length ls → IsSound p.copier (length ms)
+sound_moved p ls ms ns are long = subst (λ (n : ℕ). IsSound p.copier n) (sym long) are.copies.sound
 
-pub clears_next : (p : Processes) (all rest : List Name) (i n : ℕ) (l : Leaf) (ls ms : List Leaf) (a b d : List Node) → Clears p all (name_of p.flat.now.signals i ∷ rest) ls a ms b → Keeps b d → i < length ms → l ≡ get_or ms i l → IsNode d n l.width
-    → ((e : Naming) → number_at e d n ≡ 0) → is_final p.copier.rounds.items p.copier.round i ≡ false → Clears p all rest ls a (with_node ms i n) d
-clears_next p all rest i n l ls ms a b d h keeps lt at node z off = record {
-  clearing = clearing_next p.flat.now all rest i n l ls ms a b d h.clearing keeps lt at node z;
-  processes = record {
-    source = h.processes.source;
-    outcomes = h.processes.outcomes;
-    copies = copies_moved p.copier ms d i n off (copies_kept p.copier ms b d keeps h.clearing.board.ready h.processes.copies);
-  };
-}
+pub boards_long : (gs : List Signal) (ls ms : List Leaf) (a b : List Node) → IsBoard gs ls a → IsBoard gs ms b → length ms ≡ length ls
+boards_long gs ls ms a b h k = leaves_long gs ms k.leaves ∙ sym (leaves_long gs ls h.leaves)
 
 pub record Settles (p q : Processes) (all : List Stmt) (xs : List Name) (rest : List Stmt) (ls : List Leaf) (a : List Node) (ms : List Leaf) (b : List Node) : Type 0 where
   pub settling : Settling p.flat.now all xs rest ls a ms b
   pub same : AreSameProcesses p q
   pub processes : AreProcesses q ms b
 
-pub settles_start : (p : Processes) (all : List Stmt) (xs : List Name) (ls ms : List Leaf) (a b : List Node) → Clears p xs [] ls a ms b → Settles p p all xs all ls a ms b
-settles_start p all xs ls ms a b h = record { settling = settling_start p.flat.now all xs ls ms a b h.clearing; same = processes_same p; processes = h.processes }
+pub settles_start : (p q : Processes) (all : List Stmt) (xs : List Name) (ls ms : List Leaf) (a b : List Node) → Clearing p.flat.now xs [] ls a ms b → AreSameProcesses p q → AreProcesses q ms b → Settles p q all xs all ls a ms b
+settles_start p q all xs ls ms a b h same are = record { settling = settling_start p.flat.now all xs ls ms a b h; same = same; processes = are }
 
-pub settles_next : (p q r : Processes) (all rest : List Stmt) (is : List ℕ) (place : ℕ) (ls ms ks : List Leaf) (a b d : List Node)
-    → Settles p q all (names_of p.flat.now.signals is) (statement_at (statements p.flat.now) place ∷ rest) ls a ms b → Keeps b d → length ks ≡ length ms → AreSameProcesses q r → IsBoard q.flat.now.signals ks d → AreProcesses r ks d
-    → Shows (λ c. taking (names_of q.flat.now.signals is) (run true (flat_place q.flat.now) (statement_at (statements q.flat.now) place) c c) c) ms b ks d → Settles p r all (names_of p.flat.now.signals is) rest ls a ks d
-settles_next p q r all rest is place ls ms ks a b d h keeps long same board are shows =
-    let f = p.flat.now in
-    let B : Flat → Type 0 = λ z. IsBoard z.signals ks d in
-    let S : Flat → Type 0 = λ z. Shows (λ c. taking (names_of z.signals is) (run true (flat_place z) (statement_at (statements z) place) c c) c) ms b ks d in
+-- nets can be driven by the next statement
+pub settles_can : (p q : Processes) (is : List ℕ) (all rest : List Stmt) (xs : List Name) (ls ms : List Leaf) (a b : List Node) → CanDrive p ls a is → Settles p q all xs rest ls a ms b → CanDrive q ms b is
+settles_can p q is all rest xs ls ms a b ready h =
+    let board = h.settling.board in
+    let long = boards_long p.flat.now.signals ls ms a b ready.board board in
     record {
-      settling = settling_next f all (names_of f.signals is) (statement_at (statements f) place) rest ls ms ks a b d h.settling keeps long (subst B h.same.flat board) (subst S h.same.flat shows);
-      same = processes_then p q r h.same same;
-      processes = are;
+      can = subst CanElaborate (sym h.same.flat) ready.can;
+      board = subst (λ (z : Flat). IsBoard z.signals ms b) (sym h.same.flat) board;
+      processes = h.processes;
+      within = λ j u lt. let w = ready.within j u lt in omega (arith, w, long);
     }
 
--- ---- groups, round after round
+pub settles_next : (p q r : Processes) (all rest : List Stmt) (is : List ℕ) (place : ℕ) (ls ms ks : List Leaf) (a b d : List Node)
+    → Settles p q all (names_of p.flat.now.signals is) (statement_at (statements p.flat.now) place ∷ rest) ls a ms b → Keeps b d → AreDriven (driven_by q.flat.now is (statement_at (statements q.flat.now) place)) q r ms b ks d
+    → Settles p r all (names_of p.flat.now.signals is) rest ls a ks d
+settles_next p q r all rest is place ls ms ks a b d h keeps driven =
+    let f = p.flat.now in
+    let B : Flat → Type 0 = λ z. IsBoard z.signals ks d in
+    let S : Flat → Type 0 = λ z. Shows (driven_by z is (statement_at (statements z) place)) ms b ks d in
+    let board = subst B h.same.flat driven.board in
+    record {
+      settling = settling_next f all (names_of f.signals is) (statement_at (statements f) place) rest ls ms ks a b d h.settling keeps (boards_long f.signals ms ks b d h.settling.board board) board (subst S h.same.flat driven.shows);
+      same = processes_then p q r h.same driven.same;
+      processes = driven.processes;
+    }
 
-not_yet : (n r : ℕ) → r < n → nat_le n r ≡ false
-not_yet n r lt = elim (leb_tells n r) [ inl t ↦ (let le = t.1 in absurd (omega (arith, lt, le))) | inr f ↦ f.0 ]
+pub settles_end : (p q : Processes) (all : List Stmt) (xs : List Name) (ls ms : List Leaf) (a b : List Node) → Settles p q all xs [] ls a ms b → AreDriven (settled (flat_place p.flat.now) all xs) p q ls a ms b
+settles_end p q all xs ls ms a b h = record { same = h.same; board = h.settling.board; processes = h.processes; shows = settling_end p.flat.now all xs ls ms a b h.settling }
 
--- each net of a group of a round is final only after it
-abbrev pub AreTimed : List (Vec ℕ Global) → List ℕ → Type 0
-AreTimed vs rounds = (i j : ℕ) → i < length vs → Among (list_at vs i) j → i < slice_index rounds j
+-- ---- groups, one after another
 
-pub record Rounds (f : Flat) (p : Processes) (vs : List (Vec ℕ Global)) (round : ℕ) (ls : List Leaf) (a : List Node) (ms : List Leaf) (b : List Node) : Type 0 where
-  pub solving : Solving f (groups_of f.signals vs) (groups_of f.signals (drop round vs)) ls a ms b
+pub record Rounds (f : Flat) (p : Processes) (vs : List (Vec ℕ Global)) (count : ℕ) (ls : List Leaf) (a : List Node) (ms : List Leaf) (b : List Node) : Type 0 where
+  pub solving : Solving f (groups_of f.signals vs) (groups_of f.signals (drop count vs)) ls a ms b
   pub flat : p.flat.now ≡ f
   pub processes : AreProcesses p ms b
-  pub timed : AreTimed vs p.copier.rounds.items
-  pub before : p.copier.round ≤ round
-
-pub list_there : (vs : List (Vec ℕ Global)) (i : ℕ) (v u : Vec ℕ Global) → i < length vs → v ≡ get_or vs i u → list_at vs i ≡ v.items
-list_there [] i v u lt e = absurd (omega arith)
-list_there (w ∷ vs) zero v u lt e = ap (λ (z : Vec ℕ Global). z.items) (sym e)
-list_there (w ∷ vs) (suc i) v u lt e = list_there vs i v u (omega arith) e
-
--- the processes in another round
-pub processes_begun : (p : Processes) (k : Copier) (ls : List Leaf) (ns : List Node) → AreProcesses p ls ns → HaveSameSource p.copier k → AreCopies k ls ns → AreProcesses (record p { copier = k }) ls ns
-processes_begun p k ls ns are same copies = record {
-  source = subst (λ (z : List Node). IsSource p.flat.now.signals p.first z) (sym same.source) are.source;
-  outcomes = subst (λ (z : List Node). AreOutcomes p.first z p.flat.now.blocks p.outcomes.items) (sym same.source) are.outcomes;
-  copies = copies;
-}
-
-pub pending_in : (k l : Copier) (vs : List (Vec ℕ Global)) (i : ℕ) (v : Vec ℕ Global) → AreTimed vs k.rounds.items → HaveSameSource k l → l.round ≡ i → i < length vs → list_at vs i ≡ v.items → (j : ℕ) → Among v.items j → is_final l.rounds.items l.round j ≡ false
-pending_in k l vs i v timed same round lt at j m =
-    (λ r. is_final (same.rounds r) (round r) j) ∙ not_yet (slice_index k.rounds.items j) i (timed i j lt (subst (λ (z : List ℕ). Among z j) (sym at) m))
 
 pub within_same : (gs : List Signal) (ls ms : List Leaf) (is : List ℕ) → AreLeavesOf gs ls → AreLeavesOf gs ms → AreWithin ls is → AreWithin ms is
 within_same gs ls ms is h k within j u lt =
@@ -369,34 +344,34 @@ pub block_outcome : (p : Processes) (i : ℕ) (k : Always) (o : Outcome) (ls : L
     → o ≡ get_or p.outcomes.items i o → IsOutcome p.first p.copier.source k.body o
 block_outcome p i k o ls ns are lt off ek eo = outcome_at p.first p.copier.source p.flat.now.blocks p.outcomes.items i k k o o are.outcomes lt ek eo (off k ek)
 
-pub rounds_next : (f : Flat) (p q r : Processes) (vs : List (Vec ℕ Global)) (i : ℕ) (is places : List ℕ) (ls ms ks : List Leaf) (a b d : List Node) → Rounds f p vs i ls a ms b
-    → groups_of f.signals (drop i vs) ≡ names_of f.signals is ∷ groups_of f.signals (drop (i + 1) vs) → picked (statements f) places ≡ drivers_in (processes f) (names_of f.signals is)
-    → q.flat.now ≡ p.flat.now → q.copier.rounds.items ≡ p.copier.rounds.items → q.copier.round ≡ i → AreSameProcesses q r → Keeps b d → IsBoard q.flat.now.signals ks d → AreProcesses r ks d
-    → Shows (settled (flat_place q.flat.now) (picked (statements q.flat.now) places) (names_of q.flat.now.signals is)) ms b ks d → Rounds f r vs (i + 1) ls a ks d
-rounds_next f p q r vs i is places ls ms ks a b d h cut drivers flat rounds round same keeps board are shows =
+pub rounds_start : (f : Flat) (p : Processes) (vs : List (Vec ℕ Global)) (ls : List Leaf) (a : List Node) → p.flat.now ≡ f → AreProcesses p ls a → IsBoard f.signals ls a → Rounds f p vs 0 ls a ls a
+rounds_start f p vs ls a flat are board = record { solving = solving_start f (groups_of f.signals vs) ls a board; flat = flat; processes = are }
+
+-- nets of the next group can be driven
+pub rounds_can : (f : Flat) (p : Processes) (vs : List (Vec ℕ Global)) (i : ℕ) (is : List ℕ) (ls ms : List Leaf) (a b : List Node) → CanElaborate f → AreWithin ms is → Rounds f p vs i ls a ms b → CanDrive p ms b is
+rounds_can f p vs i is ls ms a b can within h = record {
+  can = subst CanElaborate (sym h.flat) can;
+  board = subst (λ (z : Flat). IsBoard z.signals ms b) (sym h.flat) h.solving.board;
+  processes = h.processes;
+  within = within;
+}
+
+pub rounds_next : (f : Flat) (p q : Processes) (vs : List (Vec ℕ Global)) (i : ℕ) (is places : List ℕ) (ls ms ks : List Leaf) (a b d : List Node) → Rounds f p vs i ls a ms b
+    → groups_of f.signals (drop i vs) ≡ names_of f.signals is ∷ groups_of f.signals (drop (i + 1) vs) → picked (statements f) places ≡ drivers_in (processes f) (names_of f.signals is) → Keeps b d
+    → AreDriven (settled (flat_place p.flat.now) (picked (statements p.flat.now) places) (names_of p.flat.now.signals is)) p q ms b ks d → Rounds f q vs (i + 1) ls a ks d
+rounds_next f p q vs i is places ls ms ks a b d h cut drivers keeps driven =
     let all = groups_of f.signals vs in
     let rest = groups_of f.signals (drop (i + 1) vs) in
-    let own : q.flat.now ≡ f = flat ∙ h.flat in
     let P : List (List Name) → Type 0 = λ z. Solving f all z ls a ms b in
     let B : Flat → Type 0 = λ z. IsBoard z.signals ks d in
     let S : Flat → Type 0 = λ z. Shows (settled (flat_place z) (picked (statements z) places) (names_of z.signals is)) ms b ks d in
-    let now = same.round in
     record {
-      solving = solving_next f all (names_of f.signals is) rest (picked (statements f) places) ls ms ks a b d (subst P cut h.solving) keeps (subst B own board) drivers (subst S own shows);
-      flat = same.flat ∙ own;
-      processes = are;
-      timed = subst (AreTimed vs) (sym (same.source.rounds ∙ rounds)) h.timed;
-      before = omega (arith, now, round);
+      solving = solving_next f all (names_of f.signals is) rest (picked (statements f) places) ls ms ks a b d (subst P cut h.solving) keeps (subst B h.flat driven.board) drivers (subst S h.flat driven.shows);
+      flat = driven.same.flat ∙ h.flat;
+      processes = driven.processes;
     }
-
-pub rounds_start : (f : Flat) (p : Processes) (vs : List (Vec ℕ Global)) (ls : List Leaf) (a : List Node) → p.flat.now ≡ f → p.copier.round ≡ 0 → AreTimed vs p.copier.rounds.items → AreProcesses p ls a → IsBoard f.signals ls a → Rounds f p vs 0 ls a ls a
-rounds_start f p vs ls a flat round timed are board = record { solving = solving_start f (groups_of f.signals vs) ls a board; flat = flat; processes = are; timed = timed; before = omega (arith, round) }
 
 -- and the nodes of it for some places
 pub block_roots : (p : Processes) (i : ℕ) (k : Always) (o : Outcome) (is rs : List ℕ) (ls : List Leaf) (ns : List Node) → AreProcesses p ls ns → i < length p.flat.now.blocks → ((k : Always) → k ≡ get_or p.flat.now.blocks i k → k.clocked ≡ false) → k ≡ get_or p.flat.now.blocks i k
     → o ≡ get_or p.outcomes.items i o → ((ns : List Node) (body : Stmt) → AreReady p.first ns → IsOutcome p.first ns body o → AreRoots p.first ns body is rs) → AreRoots p.first p.copier.source k.body is rs
 block_roots p i k o is rs ls ns are lt off ek eo made = made p.copier.source k.body are.source.board.ready (block_outcome p i k o ls ns are lt off ek eo)
-
-pub ok_two : {A E : Type 0} (r : Result A E) (P Q R : A → Type 0) → ((u : A) → P u → Q u → R u) → IfOk r P → IfOk r Q → IfOk r R
-ok_two (Ok u) P Q R h p q = h u p q
-ok_two (Err e) P Q R h p q = tt

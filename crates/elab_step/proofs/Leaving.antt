@@ -1,32 +1,32 @@
 -- What a block leaves, as nodes of a source.
 use Rattle.std.proofs.Common.{arith, ◌≡◌, ◌≢◌, ℕ, zero, suc, ◌+◌, ◌<◌, ◌≤◌, true, false, List, [], ◌∷◌, ◌++◌, None, Ok, Err, inl, inr, refl, sym, ap, ◌∙◌, subst, map, length, get_or, take, nat_cmp}
-use Rattle.std.specs.Prelude.{◌↔◌, slice_index}
+use Rattle.std.specs.Prelude.{◌↔◌}
 use Rattle.std.specs.List.Sorted.{IsStrictlyIncreasing, IsBinarySearchResult}
 use Rattle.std.proofs.lemmas.List.Sorted.{searched}
 use Rattle.std.proofs.lemmas.Map.Keys.{sorted_from_strictly_increasing, below_from_sorted}
 use Rattle.vlog_tree.specs.declared.stmt.Stmt.{Stmt}
-use Rattle.vlog_tree.specs.declared.valuation.Entry.{Entry}
 use Rattle.vlog_runs.specs.declared.flat.Signal.{Signal}
-use Rattle.vlog_runs.specs.Places.{Name, Cycle, Among}
+use Rattle.vlog_runs.specs.Places.{Cycle, Among}
 use Rattle.vlog_runs.specs.Blocks.{run}
 use Rattle.word_dag.specs.declared.node.Node.{Node}
 use Rattle.word_dag.specs.Adding.{Keeps}
 use Rattle.word_dag.specs.Nodes.{Naming}
 use Rattle.elab_node.specs.declared.leaves.Leaf.{Leaf}
-use Rattle.elab_node.specs.Leaves.{entry_of, declared, AreReady}
-use Rattle.elab_node.specs.Nodes.{IsNode, number_at}
+use Rattle.elab_node.specs.Leaves.{declared, AreReady}
+use Rattle.elab_node.specs.Nodes.{IsNode}
 use Rattle.elab_node.proofs.Kept.{ready_kept}
 use Rattle.elab_block.specs.declared.branches.Saved.{Saved}
 use Rattle.elab_block.specs.Runs.{AreSet, Runs}
-use Rattle.elab_block.specs.Saving.{node_at, places_of, put_back, AreWithin, IsSaved, IsAway}
-use Rattle.elab_block.specs.Sparing.{Spares, Covers}
+use Rattle.elab_block.specs.Saving.{node_at, places_of, put_back, AreWithin, IsSaved}
+use Rattle.elab_block.specs.Sparing.{Covers}
 use Rattle.elab_block.specs.Standing.{flat, AreLeavesOf, AreShown}
-use Rattle.elab_block.specs.Targets.{name_at, width_at}
+use Rattle.elab_block.specs.Targets.{width_at}
 use Rattle.elab_block.proofs.Joins.{take_next, apart_same, long_same, shown_kept}
 use Rattle.elab_block.proofs.Saving.{same_or, shown_at, back_declared, back_saved, back_after, back_ready, saved_is}
+use Rattle.elab_copies.proofs.Moving.{name_same, width_same}
 use Rattle.elab_flow.proofs.Rising.{sought, contains_among}
 use Rattle.elab_step.specs.declared.outcomes.Outcome.{Outcome}
-use Rattle.elab_step.specs.Outcomes.{IsRoot, IsFound, IsOutcome}
+use Rattle.elab_step.specs.Outcomes.{IsRoot, IsOutcome}
 use Rattle.elab_step.proofs.Boards.{number_among, each_within, all_within}
 use Rattle.elab_step.proofs.Solutions.{shown_before}
 
@@ -52,22 +52,6 @@ places_next ss i s d lt e = ap places_of (take_next ss i s d lt e) ∙ pushed (t
     pushed : (ts : List Saved) → places_of (ts ++ s ∷ []) ≡ places_of ts ++ s.place ∷ []
     pushed [] = refl
     pushed (t ∷ ts) = ap (λ (r : List ℕ). t.place ∷ r) (pushed ts)
-
--- ---- leaves of the same names
-
-pub name_same : (ls ms : List Leaf) (i : ℕ) → declared ms ≡ declared ls → name_at ms i ≡ name_at ls i
-name_same [] [] i h = refl
-name_same [] (m ∷ ms) i h = cc
-name_same (l ∷ ls) [] i h = cc
-name_same (l ∷ ls) (m ∷ ms) zero h = let e : entry_of m 0 ≡ entry_of l 0 = cc in ap (λ (k : Entry). k.name) e
-name_same (l ∷ ls) (m ∷ ms) (suc i) h = let t : declared ms ≡ declared ls = cc in name_same ls ms i t
-
-pub width_same : (ls ms : List Leaf) (i : ℕ) → declared ms ≡ declared ls → width_at ms i ≡ width_at ls i
-width_same [] [] i h = refl
-width_same [] (m ∷ ms) i h = cc
-width_same (l ∷ ls) [] i h = cc
-width_same (l ∷ ls) (m ∷ ms) zero h = let e : entry_of m 0 ≡ entry_of l 0 = cc in ap (λ (k : Entry). k.width) e
-width_same (l ∷ ls) (m ∷ ms) (suc i) h = let t : declared ms ≡ declared ls = cc in width_same ls ms i t
 
 -- ---- nodes of leaves
 

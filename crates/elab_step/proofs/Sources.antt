@@ -1,5 +1,5 @@
 -- Blocks that are run over a source, one after another, and what is taken of them.
-use Rattle.std.proofs.Common.{arith, ◌≡◌, ◌≢◌, ℕ, zero, suc, ◌+◌, ◌<◌, ◌≤◌, ◌&&◌, ◌⊎◌, true, false, List, [], ◌∷◌, ◌++◌, None, Some, inl, inr, refl, sym, ap, ◌∙◌, subst, map, length, get_or, take, set, replicate, nat_eq, Vec, Global, get_or-set_same, get_or-set_other}
+use Rattle.std.proofs.Common.{arith, ◌≡◌, ◌≢◌, ℕ, zero, suc, ◌+◌, ◌<◌, ◌&&◌, true, false, List, [], ◌∷◌, ◌++◌, None, Some, inl, inr, refl, sym, ap, ◌∙◌, subst, length, get_or, take, set, replicate, nat_eq}
 use Rattle.std.specs.List.{position_from}
 use Rattle.std.specs.Str.{bytes_eq}
 use Rattle.std.proofs.lemmas.Bool.{false_from_ne_true}
@@ -19,22 +19,22 @@ use Rattle.word_dag.proofs.Valued.{grows_kept}
 use Rattle.word_design.specs.Designs.{free}
 use Rattle.elab_node.specs.declared.leaves.Leaf.{Leaf}
 use Rattle.elab_node.specs.Leaves.{declared, AreReady}
-use Rattle.elab_node.specs.Nodes.{IsNode, number_at}
+use Rattle.elab_node.specs.Nodes.{IsNode}
 use Rattle.elab_node.proofs.Kept.{node_kept, number_kept, ready_kept}
-use Rattle.elab_block.specs.declared.branches.Saved.{Saved}
 use Rattle.elab_block.specs.Runs.{AreSet}
-use Rattle.elab_block.specs.Saving.{node_at, places_of}
+use Rattle.elab_block.specs.Saving.{node_at}
 use Rattle.elab_block.specs.Sparing.{Spares}
 use Rattle.elab_block.specs.Standing.{flat, AreLeavesOf, Lacks, AreApart, AreShown}
 use Rattle.elab_block.specs.Targets.{name_at, width_at}
 use Rattle.elab_block.proofs.Joins.{take_next, leaves_same, long_same, shown_kept}
-use Rattle.elab_block.proofs.Saving.{same_or, shown_at}
+use Rattle.elab_block.proofs.Saving.{shown_at}
 use Rattle.elab_copies.specs.Copies.{IsOfLeaf, AreOfLeaves}
+use Rattle.elab_copies.proofs.Moving.{name_same, width_same}
 use Rattle.elab_step.specs.declared.outcomes.Outcome.{Outcome}
-use Rattle.elab_step.specs.Boards.{IsFreeOf, list_at, AreBelow}
+use Rattle.elab_step.specs.Boards.{IsFreeOf}
 use Rattle.elab_step.specs.Outcomes.{IsSource, IsRoot, IsOutcome, AreOutcomes, AreRoots}
-use Rattle.elab_step.proofs.Boards.{set_of, begun_grown, list_get, group_at, number_among}
-use Rattle.elab_step.proofs.Leaving.{name_same, width_same, node_there}
+use Rattle.elab_step.proofs.Boards.{set_of, begun_grown}
+use Rattle.elab_step.proofs.Leaving.{node_there}
 use Rattle.elab_step.proofs.Solutions.{shown_before}
 
 -- ---- a source that grows
@@ -165,51 +165,6 @@ root_spared ls ns body o p ready h lt out = record {
   number = λ gs e c are s. h.others p lt out gs true c c are ∙ shown_at e ns ls c p lt s;
 }
 
--- ---- rounds
-
--- the list of a group
-pub list_is : (vs : List (Vec ℕ Global)) (n : ℕ) (v : Vec ℕ Global) (nets : List ℕ) → n < length vs → v ≡ get_or vs n v → nets ≡ v.items → nets ≡ list_at vs n
-list_is vs n v nets lt e is = is ∙ (ap (λ (z : Vec ℕ Global). z.items) e ∙ sym (list_get vs n v lt))
-
-pub net_below : (vs : List (Vec ℕ Global)) (count n k : ℕ) (v : Vec ℕ Global) (nets : List ℕ) → AreBelow count vs → n < length vs → v ≡ get_or vs n v → nets ≡ v.items → k < length nets → get_or nets k 0 < count
-net_below vs count n k v nets h lt e is lk = h v (get_or nets k 0) (group_at vs n v v lt e) (subst (λ (z : List ℕ). Among z (get_or nets k 0)) is (number_among nets k 0 lk))
-
--- each place that stands in a group before the n-th one has a later round
-abbrev pub AreRounds : List (Vec ℕ Global) → ℕ → List ℕ → Type 0
-AreRounds vs n rs = (i j : ℕ) → i < n → Among (list_at vs i) j → i < get_or rs j 0
-
--- so have these places
-abbrev pub ArePassed : List ℕ → ℕ → List ℕ → Type 0
-ArePassed is n rs = (j : ℕ) → Among is j → n < get_or rs j 0
-
-raised : (rs : List ℕ) (net n i j : ℕ) → net < length rs → i < n + 1 → i < get_or rs j 0 → i < get_or (set rs net (n + 1)) j 0
-raised rs net n i j lt le h = elim (same_or net j) [
-  | inl e ↦ (let at : get_or (set rs net (n + 1)) net 0 ≡ n + 1 = get_or-set_same rs net (n + 1) 0 lt in subst (λ k. i < get_or (set rs net (n + 1)) k 0) e (omega (arith, at, le)))
-  | inr ne ↦ (let other : j ≢ net = λ e. ne (sym e) in let at : get_or (set rs net (n + 1)) j 0 ≡ get_or rs j 0 = get_or-set_other rs net j (n + 1) 0 other in omega (arith, at, h))
-]
-
-pub rounds_raised : (vs : List (Vec ℕ Global)) (rs : List ℕ) (net n : ℕ) → net < length rs → AreRounds vs n rs → AreRounds vs n (set rs net (n + 1))
-rounds_raised vs rs net n lt h i j below m = raised rs net n i j lt (omega (arith, below)) (h i j below m)
-
-pub passed_raised : (rs is : List ℕ) (k net n : ℕ) → k < length is → net ≡ get_or is k 0 → net < length rs → ArePassed (take k is) n rs → ArePassed (take (k + 1) is) n (set rs net (n + 1))
-passed_raised rs is k net n lk at lt h j m = elim (last (take k is) (subst (λ (z : List ℕ). Among z j) (take_next is k net 0 lk at) m)) [
-  | inl old ↦ raised rs net n n j lt (omega arith) (h j old)
-  | inr e ↦ (let here : get_or (set rs net (n + 1)) net 0 ≡ n + 1 = get_or-set_same rs net (n + 1) 0 lt in subst (λ q. n < get_or (set rs net (n + 1)) q 0) e (omega (arith, here)))
-]
-  where
-    last : (xs : List ℕ) → Among (xs ++ net ∷ []) j → Among xs j ⊎ (net ≡ j)
-    last [] (inl e) = inr e
-    last [] (inr z) = absurd z
-    last (x ∷ xs) (inl e) = inl (inl e)
-    last (x ∷ xs) (inr r) = elim (last xs r) [ inl z ↦ inl (inr z) | inr e ↦ inr e ]
-
--- the n-th group is passed too
-pub rounds_next : (vs : List (Vec ℕ Global)) (n : ℕ) (rs : List ℕ) → AreRounds vs n rs → ArePassed (list_at vs n) n rs → AreRounds vs (n + 1) rs
-rounds_next vs n rs h g i j lt m = elim (same_or i n) [
-  | inl e ↦ subst (λ k. k < get_or rs j 0) (sym e) (g j (subst (λ k. Among (list_at vs k) j) e m))
-  | inr ne ↦ (let apart : i ≢ n = ne in h i j (omega arith) m)
-]
-
 -- ---- free words and leaves
 
 lacks_at : (x : Name) (ls : List Leaf) (i : ℕ) → i < length ls → Lacks x ls → x ≢ name_at ls i
@@ -250,7 +205,7 @@ of_leaf gs ls (Free x w side t) are apart h =
     let q = free_leaf gs ls (Free x w side t) are (h refl) in
     let word : Free x w side t ≡ free (name_at ls q.0) (width_at ls q.0) = q.2 in
     let name : x ≡ name_at ls q.0 = cc in
-    (q.0, ap (λ z. place_at (declared ls) z 0) name ∙ leaf_place gs ls q.0 are apart q.1, q.1, word)
+    (q.0, ap (λ z. place_at (declared ls) z 0) name ∙ leaf_place gs ls q.0 are apart q.1, (q.1, word))
 of_leaf gs ls (Const w) are apart h = tt
 of_leaf gs ls (Two op w a b) are apart h = tt
 of_leaf gs ls (Not w a) are apart h = tt

@@ -8,6 +8,7 @@ use Rattle.vlog_runs.specs.declared.flat.Always.{Always}
 use Rattle.vlog_runs.specs.declared.flat.Flat.{Flat}
 use Rattle.vlog_runs.specs.declared.flat.Signal.{Signal}
 use Rattle.vlog_runs.specs.Places.{Name, Cycle, Among}
+use Rattle.vlog_runs.specs.Blocks.{run}
 use Rattle.vlog_runs.specs.Contents.{is_among}
 use Rattle.vlog_runs.specs.Cycles.{flat_place, IsRegister}
 use Rattle.word_dag.specs.declared.node.Node.{Node}
@@ -22,8 +23,9 @@ use Rattle.elab_node.specs.Leaves.{AreReady}
 use Rattle.elab_node.specs.Nodes.{IsNode, number_at}
 use Rattle.elab_block.specs.Standing.{IsLeafOf, AreLeavesOf, AreApart, AreShown}
 use Rattle.elab_block.specs.Runs.{AreSet}
+use Rattle.elab_copies.specs.Copies.{list_at}
 use Rattle.flow_laws.specs.Laws.{AreFit}
-use Rattle.elab_step.specs.Solving.{clocked, processes, drivers_of, after_edge, solved, joined}
+use Rattle.elab_step.specs.Solving.{clocked, processes, drivers_of, after_edge, taking, solved, joined}
 
 -- a leaf for each signal, in their order, each with a node of its length
 pub record IsBoard (gs : List Signal) (ls : List Leaf) (ns : List Node) : Type 0 where
@@ -104,6 +106,10 @@ pub record IsSolved (f : Flat) (xss : List (List Name)) (d : Parts) : Type 0 whe
 abbrev pub names_of : List Signal → List ℕ → List Name
 names_of gs is = map (name_of gs) is
 
+-- a cycle in which nets have what a statement makes of it
+abbrev pub driven_by : Flat → List ℕ → Stmt → Cycle → Cycle
+driven_by f nets k c = taking (names_of f.signals nets) (run true (flat_place f) k c c) c
+
 -- groups of places below a number
 abbrev pub AreBelow : ℕ → List (Vec ℕ Global) → Type 0
 AreBelow n vs = (v : Vec ℕ Global) (i : ℕ) → Among vs v → Among v.items i → i < n
@@ -111,12 +117,6 @@ AreBelow n vs = (v : Vec ℕ Global) (i : ℕ) → Among vs v → Among v.items 
 -- the names of groups of places
 abbrev pub groups_of : List Signal → List (Vec ℕ Global) → List (List Name)
 groups_of gs vs = map (λ (v : Vec ℕ Global). names_of gs v.items) vs
-
--- the list of this place
-abbrev pub list_at : List (Vec ℕ Global) → ℕ → List ℕ
-list_at [] i = []
-list_at (v ∷ vs) zero = v.items
-list_at (v ∷ vs) (suc i) = list_at vs i
 
 -- the list of the first one of a group of places
 abbrev pub list_in : List (Vec ℕ Global) → List ℕ → List ℕ

@@ -1,5 +1,5 @@
 -- Blocks that are run once, over a source in which each signal is a free word.
-use Rattle.std.specs.Prelude.{ℕ, ◌≡◌, ◌<◌, ◌+◌, true, false, List, [], ◌∷◌, length, replicate, slice_index}
+use Rattle.std.specs.Prelude.{ℕ, ◌≡◌, ◌<◌, true, false, List, [], ◌∷◌, length, replicate, slice_index}
 use Rattle.std.specs.List.Sorted.{IsStrictlyIncreasing}
 use Rattle.vlog_tree.specs.declared.stmt.Stmt.{Stmt}
 use Rattle.vlog_runs.specs.declared.flat.Always.{Always}
@@ -12,13 +12,15 @@ use Rattle.word_dag.specs.Given.{is_free}
 use Rattle.word_dag.specs.Nodes.{Naming}
 use Rattle.elab_node.specs.declared.leaves.Leaf.{Leaf}
 use Rattle.elab_node.specs.Nodes.{IsNode, number_at}
+use Rattle.elab_block.specs.Saving.{AreWithin}
 use Rattle.elab_block.specs.Sparing.{Spares}
 use Rattle.elab_block.specs.Standing.{flat, AreLeavesOf, AreShown}
 use Rattle.elab_block.specs.Targets.{name_at, width_at}
-use Rattle.elab_copies.specs.Copies.{AreCopies, HaveSameSource, is_final}
+use Rattle.elab_copies.specs.Copies.{AreCopies}
 use Rattle.elab_step.specs.declared.nets.Processes.{Processes}
 use Rattle.elab_step.specs.declared.outcomes.Outcome.{Outcome}
-use Rattle.elab_step.specs.Boards.{IsBoard, AreBegun, IsFreeOf}
+use Rattle.elab_step.specs.Asked.{CanElaborate}
+use Rattle.elab_step.specs.Boards.{IsBoard, AreBegun, IsFreeOf, Shows}
 
 -- a source: each signal's leaf is a free word, and there is no other free word
 pub record IsSource (gs : List Signal) (ls : List Leaf) (ns : List Node) : Type 0 where
@@ -63,14 +65,23 @@ pub record AreProcesses (p : Processes) (ls : List Leaf) (ns : List Node) : Type
   pub outcomes : AreOutcomes p.first p.copier.source p.flat.now.blocks p.outcomes.items
   pub copies : AreCopies p.copier ls ns
 
--- the same processes, in the same round
+-- the same processes
 pub record AreSameProcesses (p q : Processes) : Type 0 where
   pub flat : q.flat.now ≡ p.flat.now
   pub first : q.first ≡ p.first
   pub outcomes : q.outcomes.items ≡ p.outcomes.items
-  pub source : HaveSameSource p.copier q.copier
-  pub round : q.copier.round ≡ p.copier.round
+  pub source : q.copier.source ≡ p.copier.source
 
--- the leaves at these places may still get other nodes
-abbrev pub ArePending : Processes → List ℕ → Type 0
-ArePending p is = (i : ℕ) → Among is i → is_final p.copier.rounds.items p.copier.round i ≡ false
+-- processes, and leaves among which nets can be driven
+pub record CanDrive (p : Processes) (ls : List Leaf) (ns : List Node) (nets : List ℕ) : Type 0 where
+  pub can : CanElaborate p.flat.now
+  pub board : IsBoard p.flat.now.signals ls ns
+  pub processes : AreProcesses p ls ns
+  pub within : AreWithin ls nets
+
+-- the same processes, with leaves that show what a step makes of each cycle
+pub record AreDriven (step : Cycle → Cycle) (p q : Processes) (ls : List Leaf) (a : List Node) (ms : List Leaf) (b : List Node) : Type 0 where
+  pub same : AreSameProcesses p q
+  pub board : IsBoard p.flat.now.signals ms b
+  pub processes : AreProcesses q ms b
+  pub shows : Shows step ls a ms b

@@ -1,5 +1,5 @@
 // Nets, solved group after group.
-ghost use Rattle.std.specs.Prelude.{◌≡◌, ◌<◌, ◌+◌, ℕ, true, false, List, None, length, map, get_or, slice_index, IfOk};
+ghost use Rattle.std.specs.Prelude.{◌≡◌, ◌<◌, ℕ, true, false, List, None, length, map, get_or, IfOk};
 ghost use Rattle.word_dag.specs.Adding.{Keeps};
 ghost use Rattle.vlog_runs.specs.declared.flat.Always.{Always};
 ghost use Rattle.vlog_runs.specs.Blocks.{run};
@@ -13,10 +13,11 @@ ghost use Rattle.elab_block.specs.declared.branches.Saved.{Saved as OneSaved};
 ghost use Rattle.elab_block.specs.Saving.{saved_at, places_of, put_back, AreWithin, IsSaved};
 ghost use Rattle.elab_block.specs.Sparing.{Covers};
 ghost use Rattle.elab_block.specs.Standing.{AreLeavesOf, AreApart};
-ghost use Rattle.elab_step.specs.Solving.{taking, settled, solved, processes};
+ghost use Rattle.elab_step.specs.Solving.{settled, solved, processes};
 ghost use Rattle.elab_step.specs.Asked.{CanElaborate};
-ghost use Rattle.elab_step.specs.Boards.{IsBoard, IsProcess, Shows, statements, statement_at, picked, names_of, groups_of, list_at, list_in, ArePlacesOf, AreBelow};
-ghost use Rattle.elab_step.specs.Outcomes.{IsFound, IsOutcome, IsSource, AreOutcomes, AreRoots, AreProcesses, AreSameProcesses, ArePending};
+ghost use Rattle.elab_step.specs.Boards.{IsBoard, IsProcess, Shows, driven_by, statements, statement_at, picked, names_of, groups_of, list_in, ArePlacesOf, AreBelow};
+ghost use Rattle.elab_step.specs.Outcomes.{IsFound, IsOutcome, IsSource, AreOutcomes, AreRoots, AreProcesses, AreSameProcesses, CanDrive, AreDriven};
+ghost use Rattle.elab_copies.specs.Copies.{IsSound, AreMoved, list_at};
 
 use crate::edge::copy_of;
 use crate::nodes::zero;
@@ -110,7 +111,7 @@ fn drive_assign(
     ensures keeps { Keeps dag.old dag.new }
     ensures long { IfOk result (λ u. length state.new ≡ length state.old) }
     ensures board { IfOk result (λ u. IsBoard flat.now.signals state.new dag.new) }
-    ensures shows { IfOk result (λ u. Shows (λ c. taking (names_of flat.now.signals nets.now) (run true (flat_place flat.now) (statement_at (statements flat.now) place) c c) c) state.old dag.old state.new dag.new) }
+    ensures shows { IfOk result (λ u. Shows (driven_by flat.now nets.now (statement_at (statements flat.now) place)) state.old dag.old state.new dag.new) }
 {
     let alloc = state.allocator();
     let before = saved_for_assign(alloc, flat, place, state)?;
@@ -140,32 +141,10 @@ fn outcomes_of(flat: &Flat, source: &mut Dag, first: &Leaves) -> Result<Vec<Outc
     Ok(all)
 }
 
-// For each place the number of groups up to the last one that it stands in.
-fn rounds_of(alloc: Global, count: usize, groups: &[Vec<usize>]) -> Result<Vec<usize>, AllocError>
-    requires { AreBelow count groups.now }
-    ensures long { IfOk result (λ r. length r.items ≡ count) }
-    ensures last { IfOk result (λ r. (i j : ℕ) → i < length groups.now → Among (list_at groups.now i) j → i < slice_index r.items j) }
-{
-    let mut rounds = vec![in alloc; 0; count]?;
-    for i in 0..groups.len() {
-        for net in &groups[i] {
-            rounds[*net] = i + 1;
-        }
-    }
-    Ok(rounds)
-}
-
 // A module's processes, ready to solve groups of its nets: its combinational blocks are run, once each, over a source of their own.
-fn processes_of<'a>(
-    alloc: Global,
-    flat: &'a Flat,
-    groups: &[Vec<usize>],
-) -> Result<Processes<'a>, AllocError>
-    requires can { CanElaborate flat.now }
-    requires groups { AreBelow (length flat.now.signals) groups.now }
+fn processes_of<'a>(alloc: Global, flat: &'a Flat) -> Result<Processes<'a>, AllocError>
+    requires { CanElaborate flat.now }
     ensures flat { IfOk result (λ p. p.flat.now ≡ flat.now) }
-    ensures round { IfOk result (λ p. p.copier.round ≡ 0) }
-    ensures rounds { IfOk result (λ p. (i j : ℕ) → i < length groups.now → Among (list_at groups.now i) j → i < slice_index p.copier.rounds.items j) }
     ensures ready { IfOk result (λ p. (ls : List OneLeaf) (ns : List OneNode) → IsBoard flat.now.signals ls ns → AreProcesses p ls ns) }
 {
     let count = flat.signals.len();
@@ -173,7 +152,7 @@ fn processes_of<'a>(
     let no_nets = vec![in alloc; false; count]?;
     let first = begun(alloc, &mut source, flat.signals.as_slice(), &no_nets)?;
     let outcomes = outcomes_of(flat, &mut source, &first)?;
-    let copier = Copier::new(alloc, source, rounds_of(alloc, count, groups)?)?;
+    let copier = Copier::new(alloc, source, count)?;
     Ok(Processes {
         flat,
         first,
@@ -215,6 +194,19 @@ fn saved_for(alloc: Global, places: &[usize], nodes: &[u64]) -> Result<Vec<Saved
     Ok(saved)
 }
 
+impl Processes<'_> {
+    // Forgets what was made of the leaves of nets that have other nodes by now.
+    fn renew(&mut self, nets: &[usize], state: &Leaves) -> Result<(), AllocError>
+        requires sound { IsSound self.old.copier (length state.now) }
+        requires nets { AreWithin state.now nets.now }
+        ensures same { IfOk result (λ u. AreSameProcesses self.old self.new) }
+        ensures processes { IfOk result (λ u. (ls : List OneLeaf) (a b : List OneNode) → AreProcesses self.old ls a → AreMoved nets.now ls a state.now b → AreProcesses self.new state.now b) }
+    {
+        self.copier.renew(state.allocator(), state, nets)?;
+        Ok(())
+    }
+}
+
 // Gives the leaves of nets what a block makes of them, and leaves the others as they are.
 fn drive_block(
     text: &mut Processes<'_>,
@@ -223,23 +215,17 @@ fn drive_block(
     nets: &[usize],
     state: &mut Leaves,
 ) -> Result<(), AllocError>
-    requires board { IsBoard text.old.flat.now.signals state.old dag.old }
-    requires processes { AreProcesses text.old state.old dag.old }
+    requires ready { CanDrive text.old state.old dag.old nets.now }
     requires block { (at < length text.old.flat.now.blocks) × ((k : Always) → k ≡ get_or text.old.flat.now.blocks at k → k.clocked ≡ false) }
-    requires pending { ArePending text.old nets.now }
-    requires nets { AreWithin state.old nets.now }
     ensures keeps { Keeps dag.old dag.new }
-    ensures same { IfOk result (λ u. AreSameProcesses text.old text.new) }
-    ensures long { IfOk result (λ u. length state.new ≡ length state.old) }
-    ensures board { IfOk result (λ u. IsBoard text.old.flat.now.signals state.new dag.new) }
-    ensures processes { IfOk result (λ u. AreProcesses text.new state.new dag.new) }
-    ensures shows { IfOk result (λ u. (k : Always) → k ≡ get_or text.old.flat.now.blocks at k → Shows (λ c. taking (names_of text.old.flat.now.signals nets.now) (run true (flat_place text.old.flat.now) k.body c c) c) state.old dag.old state.new dag.new) }
+    ensures driven { IfOk result (λ u. (k : Always) → k ≡ get_or text.old.flat.now.blocks at k → AreDriven (driven_by text.old.flat.now nets.now k.body) text.old text.new state.old dag.old state.new dag.new) }
 {
     let alloc = state.allocator();
     let roots = roots_of(&text.first, &text.outcomes[at], nets)?;
     let copies = text.copier.copy_each(alloc, dag, state, &roots)?;
     let after = saved_for(alloc, nets, &copies)?;
     put_back(state, &after);
+    text.renew(nets, state)?;
     Ok(())
 }
 
@@ -251,24 +237,18 @@ fn drive(
     nets: &[usize],
     state: &mut Leaves,
 ) -> Result<(), AllocError>
-    requires can { CanElaborate text.old.flat.now }
-    requires board { IsBoard text.old.flat.now.signals state.old dag.old }
-    requires processes { AreProcesses text.old state.old dag.old }
+    requires ready { CanDrive text.old state.old dag.old nets.now }
     requires process { IsProcess text.old.flat.now place }
-    requires pending { ArePending text.old nets.now }
-    requires nets { AreWithin state.old nets.now }
     ensures keeps { Keeps dag.old dag.new }
-    ensures same { IfOk result (λ u. AreSameProcesses text.old text.new) }
-    ensures long { IfOk result (λ u. length state.new ≡ length state.old) }
-    ensures board { IfOk result (λ u. IsBoard text.old.flat.now.signals state.new dag.new) }
-    ensures processes { IfOk result (λ u. AreProcesses text.new state.new dag.new) }
-    ensures shows { IfOk result (λ u. Shows (λ c. taking (names_of text.old.flat.now.signals nets.now) (run true (flat_place text.old.flat.now) (statement_at (statements text.old.flat.now) place) c c) c) state.old dag.old state.new dag.new) }
+    ensures driven { IfOk result (λ u. AreDriven (driven_by text.old.flat.now nets.now (statement_at (statements text.old.flat.now) place)) text.old text.new state.old dag.old state.new dag.new) }
 {
     let assigns = text.flat.assigns.len();
-    if place < assigns {
-        return drive_assign(dag, text.flat, place, nets, state);
+    if place >= assigns {
+        drive_block(text, dag, place - assigns, nets, state)?;
+        return Ok(());
     }
-    drive_block(text, dag, place - assigns, nets, state)?;
+    drive_assign(dag, text.flat, place, nets, state)?;
+    text.renew(nets, state)?;
     Ok(())
 }
 
@@ -280,24 +260,17 @@ fn settle(
     nets: &[usize],
     state: &mut Leaves,
 ) -> Result<(), AllocError>
-    requires can { CanElaborate text.old.flat.now }
-    requires board { IsBoard text.old.flat.now.signals state.old dag.old }
-    requires processes { AreProcesses text.old state.old dag.old }
+    requires ready { CanDrive text.old state.old dag.old nets.now }
     requires places { (i : ℕ) → Among places.now i → IsProcess text.old.flat.now i }
-    requires pending { ArePending text.old nets.now }
-    requires nets { AreWithin state.old nets.now }
     ensures keeps { Keeps dag.old dag.new }
-    ensures same { IfOk result (λ u. AreSameProcesses text.old text.new) }
-    ensures long { IfOk result (λ u. length state.new ≡ length state.old) }
-    ensures board { IfOk result (λ u. IsBoard text.old.flat.now.signals state.new dag.new) }
-    ensures processes { IfOk result (λ u. AreProcesses text.new state.new dag.new) }
-    ensures shows { IfOk result (λ u. Shows (settled (flat_place text.old.flat.now) (picked (statements text.old.flat.now) places.now) (names_of text.old.flat.now.signals nets.now)) state.old dag.old state.new dag.new) }
+    ensures driven { IfOk result (λ u. AreDriven (settled (flat_place text.old.flat.now) (picked (statements text.old.flat.now) places.now) (names_of text.old.flat.now.signals nets.now)) text.old text.new state.old dag.old state.new dag.new) }
 {
     for net in nets {
         let width = state.leaf(*net).width;
         let node = zero(dag, width)?;
         state.set_node(*net, node);
     }
+    text.renew(nets, state)?;
     for place in places {
         drive(text, dag, *place, nets, state)?;
     }
@@ -341,10 +314,9 @@ pub fn solve_nets(
     ensures board { IfOk result (λ u. IsBoard flat.now.signals state.new dag.new) }
     ensures shows { IfOk result (λ u. Shows (solved (flat_place flat.now) (processes flat.now) (groups_of flat.now.signals groups.now)) state.old dag.old state.new dag.new) }
 {
-    let mut text = processes_of(state.allocator(), flat, groups)?;
-    for round in 0..groups.len() {
-        let nets = groups[round].as_slice();
-        text.copier.begin_round(round);
+    let mut text = processes_of(state.allocator(), flat)?;
+    for i in 0..groups.len() {
+        let nets = groups[i].as_slice();
         settle(&mut text, dag, list_of(places, nets), nets, state)?;
     }
     Ok(())

@@ -10,7 +10,8 @@ use Rattle.elab_flow.specs.Edges.{AreDependences}
 use Rattle.flat_laws.proofs.Lists.{among_append, append_left, append_right}
 use Rattle.elab_order.specs.Graphs.{Among as Lists, graph_of, successors, IsGraph}
 use Rattle.elab_step.specs.Asked.{CanElaborate}
-use Rattle.elab_step.specs.Boards.{statements, picked, name_of, names_of, groups_of, list_at, ArePlacesOf, AreBelow}
+use Rattle.elab_copies.specs.Copies.{list_at}
+use Rattle.elab_step.specs.Boards.{statements, picked, name_of, names_of, groups_of, ArePlacesOf, AreBelow}
 use Rattle.elab_step.specs.Solving.{processes, drivers_of, drivers_in, joined, IsOrder as Ordered, IsGroup as IsNetGroup, AreGroups}
 use Rattle.elab_step.proofs.Boards.{places_at, places_long}
 use Rattle.elab_step.proofs.Solving.{order_rest}

@@ -1,12 +1,8 @@
 -- Under no prefix, and where nothing is a parameter, a text is moved to itself.
-use Rattle.std.proofs.Common.{◌≡◌, List, [], ◌∷◌, map, refl}
+use Rattle.std.proofs.Common.{◌≡◌, [], refl}
 use Rattle.vlog_tree.specs.declared.expr.Expr.{Expr, Row_of-Expr, end_of-Expr, more_of-Expr}
 use Rattle.vlog_tree.specs.declared.expr.Expr.TheVariants as e
-use Rattle.vlog_tree.specs.declared.stmt.Labels.{Labels}
-use Rattle.vlog_tree.specs.declared.stmt.Labels.TheVariants as b
-use Rattle.vlog_tree.specs.declared.stmt.Lval.{Lval, Row_of-Lval, end_of-Lval, more_of-Lval}
-use Rattle.vlog_tree.specs.declared.stmt.Lval.TheVariants as l
-use Rattle.flat_laws.specs.Moved.{moved, moved_row, moved_left, moved_lefts, moved_labels}
+use Rattle.flat_laws.specs.Moved.{moved, moved_row}
 
 mutual
   pub copy_is : (a : Expr) → moved [] [] a ≡ a
@@ -31,24 +27,3 @@ mutual
   copies_are : {n : _} (row : Row_of-Expr n) → moved_row [] [] row ≡ row
   copies_are end_of-Expr = refl
   copies_are (more_of-Expr a rest) = λ q. more_of-Expr (copy_is a q) (copies_are rest q)
-
--- the same of left sides
-mutual
-  pub left_copy_is : (a : Lval) → moved_left [] [] a ≡ a
-  left_copy_is (l.Name x) = refl
-  left_copy_is (l.Select x a) = λ q. l.Select x (copy_is a q)
-  left_copy_is (l.Part x span a d) = λ q. l.Part x span (copy_is a q) (copy_is d q)
-  left_copy_is (l.Concat' h row) = λ q. l.Concat' h (left_copies_are row q)
-
-  left_copies_are : {n : _} (row : Row_of-Lval n) → moved_lefts [] [] row ≡ row
-  left_copies_are end_of-Lval = refl
-  left_copies_are (more_of-Lval a rest) = λ q. more_of-Lval (left_copy_is a q) (left_copies_are rest q)
-
--- and of labels
-list_copy_is : (xs : List Expr) → map (moved [] []) xs ≡ xs
-list_copy_is [] = refl
-list_copy_is (x ∷ xs) = λ q. copy_is x q ∷ list_copy_is xs q
-
-pub labels_copy_is : (a : Labels) → moved_labels [] [] a ≡ a
-labels_copy_is (b.Exprs xs) = λ q. b.Exprs (list_copy_is xs q)
-labels_copy_is b.Default = refl

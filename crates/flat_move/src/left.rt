@@ -6,8 +6,8 @@ ghost use Rattle.flat_laws.specs.Moved.{moved_left};
 use crate::expr::Mover;
 use crate::pair::both;
 use sqlite_items::Items;
-use std::alloc::{AllocError, Global};
-use vlog_tree::{Lval, Valuation};
+use std::alloc::AllocError;
+use vlog_tree::Lval;
 
 impl Mover<'_> {
     /// A left side of the scope.
@@ -41,21 +41,4 @@ impl Mover<'_> {
         }
         Ok(all)
     }
-}
-
-/// A left side of a scope with this prefix and these parameters. Refused only for want of memory.
-pub fn moved_left(
-    alloc: Global,
-    prefix: &[u8],
-    params: &Valuation,
-    left: &Lval,
-) -> Result<Lval, AllocError>
-    ensures { IfOk result (λ r. r ≡ moved_left prefix.now params.now left.now) }
-{
-    let mover = Mover {
-        alloc,
-        prefix,
-        params,
-    };
-    mover.left(left)
 }

@@ -8,9 +8,8 @@ mod pair;
 mod stmt;
 mod text;
 
-pub use copies::{copied, copied_labels, copied_left};
+pub use copies::copied;
 pub use expr::{Mover, moved_expr};
-pub use left::moved_left;
 pub use pair::both;
 pub use stmt::moved_stmt;
 pub use text::{moved_block, moved_link, moved_signal};

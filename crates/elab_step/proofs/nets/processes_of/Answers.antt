@@ -1,6 +1,5 @@
 use Rattle.std.proofs.Common.{◌≡◌, List, length, sym, ◌∙◌, subst}
 use Rattle.word_dag.specs.declared.node.Node.{Node}
-use Rattle.elab_copies.specs.Copies.{AreOfLeaves}
 use Rattle.elab_step.specs.Outcomes.{IsSource, AreOutcomes}
 use Rattle.elab_step.proofs.Boards.{leaves_long}
 use Rattle.elab_step.proofs.Sources.{source_leaves}
@@ -13,14 +12,12 @@ returns-clause-ready c = λ ls ns board.
     let source = c.outcomes_of.new.source in
     let ran = c.in_ok-outcomes.ensures in
     let made = c.in_ok-copier.ensures in
-    let moved : c.source-3.inside.nodes.items ≡ source = c.source-3.view_is in
-    let is : source ≡ c.in_ok-copier.copier.source = sym (made.source ∙ moved) in
-    let long : length c.in_ok-rounds_of.field-0.items ≡ length ls = c.in_ok-rounds_of.ensures.long ∙ (c.len-count.ensures ∙ sym (leaves_long f.signals ls board.leaves)) in
+    let is : source ≡ c.in_ok-copier.copier.source = sym made.source in
+    let long : length ls ≡ c.len-count.result = leaves_long f.signals ls board.leaves ∙ sym c.len-count.ensures in
     let P : List Node → Type 0 = λ z. IsSource f.signals first z in
     let Q : List Node → Type 0 = λ z. AreOutcomes first z f.blocks c.in_ok-outcomes.outcomes.items in
-    let R : List Node → Type 0 = λ z. AreOfLeaves z ls in
     record {
       source = subst P is ran.source;
       outcomes = subst Q is ran.outcomes;
-      copies = made.copies ls ns long (subst R (sym moved) (source_leaves f.signals first ls source ran.source board.leaves board.apart));
+      copies = made.copies ls ns long (source_leaves f.signals first ls source ran.source board.leaves board.apart);
     }

@@ -1,10 +1,11 @@
 use Rattle.std.proofs.Common.{drop}
 use Rattle.elab_step.specs.Boards.{statements, picked, names_of}
-use Rattle.elab_step.proofs.Driving.{Clears, Settles}
+use Rattle.elab_step.proofs.Boards.{Clearing}
+use Rattle.elab_step.proofs.Driving.{Settles}
 use Rattle.elab_step.proofs.nets.settle.Given as goal
 
 abbrev pub invariant-loop-net : goal.invariant-loop-net
-invariant-loop-net l = Clears l.text (names_of l.text.flat.now.signals l.nets) (names_of l.text.flat.now.signals (drop l.net-index l.nets)) l.fn.state l.fn.dag l.state l.dag
+invariant-loop-net l = Clearing l.text.flat.now (names_of l.text.flat.now.signals l.nets) (names_of l.text.flat.now.signals (drop l.net-index l.nets)) l.fn.state l.fn.dag l.state l.dag
 
 abbrev pub invariant-loop-place : goal.invariant-loop-place
 invariant-loop-place l =

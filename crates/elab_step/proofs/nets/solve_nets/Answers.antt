@@ -1,4 +1,4 @@
-use Rattle.std.proofs.Common.{arith, ◌≡◌, ◌+◌, ◌<◌, ◌≤◌, ℕ, List, length, drop, refl, ap, sym, ◌∙◌, subst, ◌∷◌}
+use Rattle.std.proofs.Common.{arith, ◌≡◌, ◌+◌, ◌<◌, ◌≤◌, ℕ, List, length, drop, ap, sym, ◌∙◌, subst, ◌∷◌}
 use Rattle.vlog_runs.specs.declared.flat.Flat.{Flat}
 use Rattle.vlog_runs.specs.Places.{Name, Among}
 use Rattle.elab_block.specs.Saving.{AreWithin}
@@ -6,97 +6,71 @@ use Rattle.elab_step.specs.Boards.{IsProcess, statements, picked, names_of, grou
 use Rattle.elab_step.specs.Solving.{processes, drivers_in}
 use Rattle.elab_node.proofs.Kept.{keeps_then}
 use Rattle.elab_step.proofs.Boards.{Solving, all_within, group_at, groups_at, groups_all, places_in, places_long, leaves_long, solving_end}
-use Rattle.elab_step.proofs.Driving.{Rounds, rounds_start, rounds_next, processes_begun, pending_in, list_there}
+use Rattle.elab_step.proofs.Driving.{rounds_can, rounds_next, rounds_start}
 use Rattle.elab_step.proofs.nets.solve_nets.Goals as goal
 
-pub processes_of-requires-clause-groups : goal.processes_of-requires-clause-groups
-processes_of-requires-clause-groups c v i m n =
-    let f = c.args.flat.now in
-    let long = places_long f f.signals c.args.places.now c.requires.places in
-    let lt = c.requires.groups v i m n in
-    omega (arith, long, lt)
-
-pub loop-round-init : goal.loop-round-init
-loop-round-init c =
+pub loop-i-init : goal.loop-i-init
+loop-i-init c =
     let ls = c.args.state.now in
     let a = c.args.dag.now in
     let made = c.in_ok-text.ensures in
-    rounds_start c.args.flat.now c.in_ok-text.text c.args.groups.now ls a made.flat made.round made.rounds (made.ready ls a c.requires.board) c.requires.board
+    rounds_start c.args.flat.now c.in_ok-text.text c.args.groups.now ls a made.flat (made.ready ls a c.requires.board) c.requires.board
 
 pub list_of-requires : goal.list_of-requires
 list_of-requires c i m =
     let vs = c.args.groups.now in
-    let v = c.index-groups-round.result in
-    let lt : c.loop-round.round < length vs = omega arith in
-    c.requires.groups v i (group_at vs c.loop-round.round v _ lt c.index-groups-round.is) (subst (λ z. Among z i) c.as_slice-nets.ensures.value m)
-
-pub settle-requires-clause-processes : goal.settle-requires-clause-processes
-settle-requires-clause-processes c =
-    let p = c.loop-round.text in
-    let ls = c.loop-round.state in
-    let a = c.loop-round.dag in
-    let are = c.loop-round.invariant.processes in
-    processes_begun p c.begin_round.new.self ls a are c.begin_round.ensures.same (c.begin_round.ensures.copies ls a are.copies)
+    let v = c.index-groups-i.result in
+    let lt : c.loop-i.i < length vs = omega arith in
+    c.requires.groups v i (group_at vs c.loop-i.i v _ lt c.index-groups-i.is) (subst (λ z. Among z i) c.as_slice-nets.ensures.value m)
 
 pub settle-requires-clause-places : goal.settle-requires-clause-places
 settle-requires-clause-places c i m =
     let f = c.args.flat.now in
     let vs = c.args.groups.now in
-    let v = c.index-groups-round.result in
-    let lt : c.loop-round.round < length vs = omega arith in
+    let v = c.index-groups-i.result in
+    let lt : c.loop-i.i < length vs = omega arith in
     let is : c.list_of.result.now ≡ list_in c.args.places.now v.items = c.list_of.ensures ∙ ap (list_in c.args.places.now) c.as_slice-nets.ensures.value in
-    let own : IsProcess f i = (places_in f f.signals c.args.places.now v.items c.requires.places (λ k n. c.requires.groups v k (group_at vs c.loop-round.round v _ lt c.index-groups-round.is) n)).0 i (subst (λ z. Among z i) is m) in
-    subst (λ (z : Flat). IsProcess z i) (sym c.loop-round.invariant.flat) own
+    let own : IsProcess f i = (places_in f f.signals c.args.places.now v.items c.requires.places (λ k n. c.requires.groups v k (group_at vs c.loop-i.i v _ lt c.index-groups-i.is) n)).0 i (subst (λ z. Among z i) is m) in
+    subst (λ (z : Flat). IsProcess z i) (sym c.loop-i.invariant.flat) own
 
-pub settle-requires-clause-pending : goal.settle-requires-clause-pending
-settle-requires-clause-pending c i m =
-    let vs = c.args.groups.now in
-    let v = c.index-groups-round.result in
-    let lt : c.loop-round.round < length vs = omega arith in
-    pending_in c.loop-round.text.copier c.begin_round.new.self vs c.loop-round.round v c.loop-round.invariant.timed c.begin_round.ensures.same c.begin_round.ensures.round lt
-    (list_there vs c.loop-round.round v v lt c.index-groups-round.is) i (subst (λ z. Among z i) c.as_slice-nets.ensures.value m)
-
-pub settle-requires-clause-nets : goal.settle-requires-clause-nets
-settle-requires-clause-nets c =
+pub settle-requires-clause-ready : goal.settle-requires-clause-ready
+settle-requires-clause-ready c =
     let f = c.args.flat.now in
     let vs = c.args.groups.now in
-    let v = c.index-groups-round.result in
-    let ls = c.loop-round.state in
-    let lt : c.loop-round.round < length vs = omega arith in
+    let v = c.index-groups-i.result in
+    let ls = c.loop-i.state in
+    let lt : c.loop-i.i < length vs = omega arith in
     let p = places_long f f.signals c.args.places.now c.requires.places in
-    let n = leaves_long f.signals ls c.loop-round.invariant.solving.board.leaves in
+    let n = leaves_long f.signals ls c.loop-i.invariant.solving.board.leaves in
     let P : List ℕ → Type 0 = λ z. AreWithin ls z in
-    subst P (sym c.as_slice-nets.ensures.value)
-    (all_within ls v.items (λ i m. let r = c.requires.groups v i (group_at vs c.loop-round.round v _ lt c.index-groups-round.is) m in omega (arith, r, p, n)))
+    let within = subst P (sym c.as_slice-nets.ensures.value) (all_within ls v.items (λ i m. let r = c.requires.groups v i (group_at vs c.loop-i.i v _ lt c.index-groups-i.is) m in omega (arith, r, p, n))) in
+    rounds_can f c.loop-i.text vs c.loop-i.i c.as_slice-nets.result.now c.args.state.now ls c.args.dag.now c.loop-i.dag c.requires.can within c.loop-i.invariant
 
 pub returns-in_err-settle-clause-keeps : goal.returns-in_err-settle-clause-keeps
-returns-in_err-settle-clause-keeps c = keeps_then c.args.dag.now c.loop-round.dag c.settle.new.dag c.loop-round.invariant.solving.keeps c.settle.ensures.keeps
+returns-in_err-settle-clause-keeps c = keeps_then c.args.dag.now c.loop-i.dag c.settle.new.dag c.loop-i.invariant.solving.keeps c.settle.ensures.keeps
 
-pub loop-round-preserved : goal.loop-round-preserved
-loop-round-preserved c =
+pub loop-i-preserved : goal.loop-i-preserved
+loop-i-preserved c =
     let f = c.args.flat.now in
     let gs = f.signals in
     let vs = c.args.groups.now in
-    let i = c.loop-round.round in
-    let v = c.index-groups-round.result in
+    let i = c.loop-i.i in
+    let v = c.index-groups-i.result in
     let lt : i < length vs = omega arith in
     let nets : c.as_slice-nets.result.now ≡ v.items = c.as_slice-nets.ensures.value in
     let is : c.list_of.result.now ≡ list_in c.args.places.now v.items = c.list_of.ensures ∙ ap (list_in c.args.places.now) nets in
-    let r = places_in f gs c.args.places.now v.items c.requires.places (λ k n. c.requires.groups v k (group_at vs i v _ lt c.index-groups-round.is) n) in
+    let r = places_in f gs c.args.places.now v.items c.requires.places (λ k n. c.requires.groups v k (group_at vs i v _ lt c.index-groups-i.is) n) in
     let rest = groups_of gs (drop (i + 1) vs) in
     let e : picked (statements f) c.list_of.result.now ≡ drivers_in (processes f) (names_of gs c.as_slice-nets.result.now) = ap (picked (statements f)) is ∙ r.1 ∙ ap (λ z. drivers_in (processes f) (names_of gs z)) (sym nets) in
-    let cut : groups_of gs (drop i vs) ≡ names_of gs c.as_slice-nets.result.now ∷ rest = groups_at gs vs i v _ lt c.index-groups-round.is ∙ ap (λ z. names_of gs z ∷ rest) (sym nets) in
-    let p = c.loop-round.text in
-    let q = record p { copier = c.begin_round.new.self } in
+    let cut : groups_of gs (drop i vs) ≡ names_of gs c.as_slice-nets.result.now ∷ rest = groups_at gs vs i v _ lt c.index-groups-i.is ∙ ap (λ z. names_of gs z ∷ rest) (sym nets) in
     let now = c.in_ok-settle.ensures in
-    rounds_next f p q c.settle.new.text vs i c.as_slice-nets.result.now c.list_of.result.now c.args.state.now c.loop-round.state c.settle.new.state c.args.dag.now c.loop-round.dag c.settle.new.dag c.loop-round.invariant
-    cut e refl c.begin_round.ensures.same.rounds c.begin_round.ensures.round now.same now.keeps now.board now.processes now.shows
+    rounds_next f c.loop-i.text c.settle.new.text vs i c.as_slice-nets.result.now c.list_of.result.now c.args.state.now c.loop-i.state c.settle.new.state c.args.dag.now c.loop-i.dag c.settle.new.dag c.loop-i.invariant cut e now.keeps now.driven
 
 pub returns-clause-shows : goal.returns-clause-shows
 returns-clause-shows c =
     let f = c.args.flat.now in
     let vs = c.args.groups.now in
-    let i = c.loop-round.round in
+    let i = c.loop-i.i in
     let le : length vs ≤ i = omega arith in
-    let P : List (List Name) → Type 0 = λ z. Solving f (groups_of f.signals vs) z c.args.state.now c.args.dag.now c.loop-round.state c.loop-round.dag in
-    solving_end f (groups_of f.signals vs) c.args.state.now c.loop-round.state c.args.dag.now c.loop-round.dag (subst P (groups_all f.signals vs i le) c.loop-round.invariant.solving)
+    let P : List (List Name) → Type 0 = λ z. Solving f (groups_of f.signals vs) z c.args.state.now c.args.dag.now c.loop-i.state c.loop-i.dag in
+    solving_end f (groups_of f.signals vs) c.args.state.now c.loop-i.state c.args.dag.now c.loop-i.dag (subst P (groups_all f.signals vs i le) c.loop-i.invariant.solving)

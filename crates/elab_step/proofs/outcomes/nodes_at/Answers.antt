@@ -1,4 +1,4 @@
-use Rattle.std.proofs.Common.{◌≡◌, ◌<◌, ℕ, length, get_or}
+use Rattle.std.proofs.Common.{◌≡◌, ◌<◌, length, get_or}
 use Rattle.elab_block.specs.Saving.{node_at}
 use Rattle.elab_block.proofs.Saving.{node_get}
 use Rattle.elab_step.proofs.Leaving.{nodes_pushed}

@@ -1,6 +1,6 @@
-use Rattle.std.proofs.Common.{refl}
+use Rattle.std.proofs.Common.{arith, refl}
 use Rattle.elab_node.proofs.Kept.{keeps_then}
-use Rattle.elab_copies.proofs.Rows.{reached_push}
+use Rattle.elab_copies.proofs.Rows.{reached_copies, reached_push}
 use Rattle.elab_copies.proofs.copier.Copier.copy_each.Goals as goal
 
 pub returns-in_err-copy-clause-keeps : goal.returns-in_err-copy-clause-keeps
@@ -14,5 +14,6 @@ loop-root-preserved c =
     reached_push c.args.leaves.now c.args.self.now c.args.dag.now c.args.roots.now c.loop-root.self c.loop-root.dag c.loop-root.made.items c.loop-root.root-index c.loop-root.invariant
     c.reach.new.self c.reach.new.dag _ c.in_ok-copy.copy c.push.new.self.items c.in_ok-copy.ensures.keeps c.in_ok-copy.ensures.later c.in_ok-copy.ensures.copy refl c.in_ok-push.ensures.items
 
-pub returns-clause-copies : goal.returns-clause-copies
-returns-clause-copies c = c.forget.ensures.copies c.args.leaves.now c.loop-root.dag c.loop-root.invariant.later.made
+pub returns-clause-each : goal.returns-clause-each
+returns-clause-each c =
+    reached_copies c.args.leaves.now c.args.self.now c.args.dag.now c.args.roots.now c.loop-root.self c.loop-root.dag c.loop-root.made.items c.loop-root.root-index c.loop-root.invariant (omega arith) c.nodes-fit.ensures.fit
