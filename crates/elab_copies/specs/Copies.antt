@@ -89,6 +89,7 @@ pub record IsOver (copies : List (Option ℕ)) (ns : List Node) (z : Node) (i : 
   pub node : IsNode ns i (width_of z)
   pub word : (e : Naming) (vs : List Bits) → Each (λ a. word_at (words e ns) (copy_at copies a) ≡ word_at vs a) (operands z) → word_at (words e ns) i ≡ node_value (named e z) vs z
 
+-- what a node became, by what it is
 pub record IsMade (copies : List (Option ℕ)) (noted : List (Vec ℕ Global)) (ls : List Leaf) (ns : List Node) (n : ℕ) (z : Node) (i : ℕ) : Type 0 where
   pub read : is_free z ≡ true → IsRead noted ls ns n z i
   pub over : is_free z ≡ false → IsOver copies ns z i

@@ -46,7 +46,7 @@ pub record MakesOne (k l : Copier) (ls : List Leaf) (ns : List Node) (n : ℕ) :
   pub later : IsLater k l ls ns
   pub one : (i : ℕ) × (l.copies.items ≡ set k.copies.items n (Some i))
 
--- these nodes have no copies any more, nor has what read them, and the others keep theirs
+-- these nodes have no copies any more, what has one still stands over copies, and none is new
 pub record IsForgotten (k l : Copier) (numbers : List ℕ) : Type 0 where
   pub source : l.source ≡ k.source
   pub words : l.words.items ≡ k.words.items
