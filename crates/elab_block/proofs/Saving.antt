@@ -51,7 +51,7 @@ with_own [] i = refl
 with_own (y ∷ ls) zero = refl
 with_own (y ∷ ls) (suc i) = ap (λ (r : List Leaf). y ∷ r) (with_own ls i)
 
-ready_index : (ls : List Leaf) (ns : List Node) (i : ℕ) → AreReady ls ns → i < length ls → IsNode ns (node_at ls i) (width_at ls i)
+pub ready_index : (ls : List Leaf) (ns : List Node) (i : ℕ) → AreReady ls ns → i < length ls → IsNode ns (node_at ls i) (width_at ls i)
 ready_index [] ns i r lt = absurd (omega arith)
 ready_index (y ∷ ls) ns zero r lt = r.1
 ready_index (y ∷ ls) ns (suc i) r lt = ready_index ls ns i r.2 (omega arith)

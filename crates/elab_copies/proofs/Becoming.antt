@@ -17,11 +17,12 @@ use Rattle.elab_node.specs.Leaves.{AreReady}
 use Rattle.elab_node.specs.Nodes.{IsNode, number_at, words}
 use Rattle.elab_node.proofs.Kept.{keeps_same}
 use Rattle.elab_block.specs.Saving.{node_at}
+use Rattle.elab_block.proofs.Saving.{ready_index}
 use Rattle.elab_copies.specs.declared.copier.Copier.{Copier}
 use Rattle.elab_copies.specs.Copies.{AreCopies, AreOfLeaves, HasCopy, HaveCopies, IsMade, IsNetwork, IsOver, IsWordOf, copy_at, list_at, made_at, number_in}
 use Rattle.elab_copies.specs.Walks.{CanMake, IsNoted, MakesOne, first_unmade}
 use Rattle.elab_copies.proofs.Making.{among_each, copy_below, copy_found, copy_within, has_copy, node_made, node_same, node_there, none_lacks, operands_are, operands_made, set_cases}
-use Rattle.elab_copies.proofs.Moving.{grown, made_moved, over_moved, ready_at}
+use Rattle.elab_copies.proofs.Moving.{grown, made_moved, over_moved}
 use Rattle.elab_copies.proofs.Paths.{unmade_tells}
 
 -- a node that is read
@@ -209,7 +210,7 @@ makes_over k l ls a b n y z copied i can there at bound is adds keeps source cop
 pub makes_word : (k l : Copier) (ls : List Leaf) (ns : List Node) (n : ℕ) (z : Node) (place i : ℕ) → CanMake k ls ns n → IsAt k.source n z → is_free z ≡ true → IsWordOf ls z place → i ≡ node_at ls place
     → l.source ≡ k.source → l.copies.items ≡ set k.copies.items n (Some i) → l.readers.items ≡ k.readers.items → IsNoted k.words.items l.words.items (place ∷ []) n → MakesOne k l ls ns n
 makes_word k l ls ns n z place i can at free word is source copies readers words =
-    let node : IsNode ns (node_at ls place) (width_of z) = (let there = ready_at ls ns place word.0 can.ready in (there.0, there.1 ∙ sym (ap width_of word.1))) in
+    let node : IsNode ns (node_at ls place) (width_of z) = (let there = ready_index ls ns place can.ready word.0 in (there.0, there.1 ∙ sym (ap width_of word.1))) in
     let none = subst (λ (xs : List ℕ). IsNoted k.readers.items k.readers.items xs n) (sym (free_reads z free)) (nothing_noted k.readers.items n) in
     makes_one k l ls ns ns n z i (place ∷ []) can.copies (keeps_same ns) can.ready at can.unmade can.operands source copies (subst (λ (s : List (Vec ℕ Global)). IsNoted k.readers.items s (operands z) n) (sym readers) none) words
     (record {

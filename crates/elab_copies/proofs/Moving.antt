@@ -13,11 +13,12 @@ use Rattle.word_dag.proofs.NodeValues.{Each-both, Each-map}
 use Rattle.word_design.specs.Designs.{free}
 use Rattle.elab_node.specs.declared.leaves.Leaf.{Leaf}
 use Rattle.elab_node.specs.Leaves.{declared, entry_of, AreReady}
-use Rattle.elab_node.specs.Nodes.{IsNode, number_at, words}
+use Rattle.elab_node.specs.Nodes.{number_at, words}
 use Rattle.elab_node.proofs.Kept.{node_kept, number_kept}
 use Rattle.elab_block.specs.Saving.{node_at}
 use Rattle.elab_block.specs.Targets.{name_at, width_at}
 use Rattle.elab_block.proofs.Joins.{long_same}
+use Rattle.elab_block.proofs.Saving.{ready_index}
 use Rattle.elab_copies.specs.declared.copier.Copier.{Copier}
 use Rattle.elab_copies.specs.Copies.{AreCopies, AreMoved, HasCopy, IsMade, IsOfLeaf, IsOver, IsRead, IsSound, IsWordOf, copy_at, list_at, made_at}
 use Rattle.elab_copies.proofs.Making.{copy_below, copy_same, has_copy, operands_made}
@@ -111,16 +112,11 @@ copies_moved places k l ls ms a b h moved source sound left noted fresh =
           made_moved places old new k.words.items l.words.items ls ms a b n z i moved (λ j m. noted j n i m is) (λ j p m. fresh j n i p m is) there (h.made n z i (here n z at) was);
     }
 
-pub ready_at : (ls : List Leaf) (ns : List Node) (j : ℕ) → j < length ls → AreReady ls ns → IsNode ns (node_at ls j) (width_at ls j)
-ready_at [] ns j lt h = absurd (omega (arith, lt))
-ready_at (l ∷ ls) ns zero lt h = h.1
-ready_at (l ∷ ls) ns (suc j) lt h = ready_at ls ns j (omega (arith, lt)) h.2
-
 pub grown : (ls : List Leaf) (a b : List Node) → Keeps a b → AreReady ls a → AreMoved [] ls a ls b
 grown ls a b keeps ready = record {
   keeps = keeps;
   same = refl;
-  numbers = λ e j lt miss. number_kept e a b (node_at ls j) (width_at ls j) keeps (ready_at ls a j lt ready);
+  numbers = λ e j lt miss. number_kept e a b (node_at ls j) (width_at ls j) keeps (ready_index ls a j ready lt);
 }
 
 pub copies_kept : (k : Copier) (ls : List Leaf) (a b : List Node) → Keeps a b → AreReady ls a → AreCopies k ls a → AreCopies k ls b

@@ -33,6 +33,7 @@ use Rattle.elab_block.specs.Sparing.{Covers}
 use Rattle.elab_block.specs.Standing.{AreLeavesOf, IsLeafOf, Lacks, AreApart, AreShown}
 use Rattle.elab_block.proofs.Joins.{apart_same}
 use Rattle.elab_block.proofs.Saving.{back_declared, back_saved, back_after, back_ready, saved_is, saved_own}
+use Rattle.elab_copies.proofs.Forgetting.{number_among}
 use Rattle.elab_block.specs.Runs.{AreSet, Runs}
 use Rattle.flow_laws.specs.Laws.{place_over}
 use Rattle.elab_step.specs.Solving.{taking, driven, settled, drivers_in, solved, processes, drivers_of, AreDistinct}
@@ -120,11 +121,6 @@ same_long [] [] e = refl
 same_long [] (m ∷ ms) e = cc
 same_long (l ∷ ls) [] e = cc
 same_long (l ∷ ls) (m ∷ ms) e = let t : declared ms ≡ declared ls = cc in ap suc (same_long ls ms t)
-
-pub number_among : (is : List ℕ) (i u : ℕ) → i < length is → Among is (get_or is i u)
-number_among [] i u l = absurd (omega arith)
-number_among (n ∷ is) zero u l = inl refl
-number_among (n ∷ is) (suc i) u l = inr (number_among is i u (omega arith))
 
 -- ---- values taken
 

@@ -23,11 +23,12 @@ use Rattle.elab_block.specs.Standing.{flat, AreLeavesOf, AreShown}
 use Rattle.elab_block.specs.Targets.{width_at}
 use Rattle.elab_block.proofs.Joins.{take_next, apart_same, long_same, shown_kept}
 use Rattle.elab_block.proofs.Saving.{same_or, shown_at, back_declared, back_saved, back_after, back_ready, saved_is}
+use Rattle.elab_copies.proofs.Forgetting.{number_among}
 use Rattle.elab_copies.proofs.Moving.{name_same, width_same}
 use Rattle.elab_flow.proofs.Rising.{sought, contains_among}
 use Rattle.elab_step.specs.declared.outcomes.Outcome.{Outcome}
 use Rattle.elab_step.specs.Outcomes.{IsRoot, IsOutcome}
-use Rattle.elab_step.proofs.Boards.{number_among, each_within, all_within}
+use Rattle.elab_step.proofs.Boards.{each_within, all_within}
 use Rattle.elab_step.proofs.Solutions.{shown_before}
 
 -- ---- places that rise

@@ -1,5 +1,6 @@
 use Rattle.std.proofs.Common.{arith, ◌<◌, length, ◌∙◌}
-use Rattle.elab_step.proofs.Boards.{number_among, list_first}
+use Rattle.elab_copies.proofs.Forgetting.{number_among}
+use Rattle.elab_step.proofs.Boards.{list_first}
 use Rattle.elab_step.proofs.nets.list_of.Goals as goal
 
 pub list_at-requires : goal.list_at-requires

@@ -5,7 +5,8 @@ use Rattle.vlog_runs.specs.declared.flat.Flat.{Flat}
 use Rattle.vlog_tree.specs.declared.stmt.Stmt.{Stmt}
 use Rattle.vlog_runs.specs.Places.{Name}
 use Rattle.elab_step.specs.Boards.{IsProcess, statements, picked, names_of}
-use Rattle.elab_step.proofs.Boards.{leaf_wide, each_within, picked_at, picked_all, number_among, names_at, names_all, Clearing, clearing_start, clearing_next}
+use Rattle.elab_copies.proofs.Forgetting.{number_among}
+use Rattle.elab_step.proofs.Boards.{leaf_wide, each_within, picked_at, picked_all, names_at, names_all, Clearing, clearing_start, clearing_next}
 use Rattle.elab_step.proofs.Driving.{Settles, cleared_moved, settles_can, settles_end, settles_next, settles_start, sound_moved, within_moved}
 use Rattle.elab_step.proofs.nets.settle.Goals as goal
 

@@ -1,5 +1,5 @@
 use Rattle.std.proofs.Common.{arith}
-use Rattle.elab_step.proofs.Boards.{number_among}
+use Rattle.elab_copies.proofs.Forgetting.{number_among}
 use Rattle.elaborate.proofs.flags.names_at.Goals as goal
 
 pub name_at-requires : goal.name_at-requires

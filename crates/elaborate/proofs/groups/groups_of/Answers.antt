@@ -6,7 +6,7 @@ use Rattle.elab_block.proofs.Joins.{take_next}
 use Rattle.elab_order.specs.Graphs.{graph_of}
 use Rattle.elaborate.specs.declared.groups.Grouping.{Grouping}
 use Rattle.elaborate.specs.Groups.{in_row, IsGrouping, Joins, AreGroupsOf}
-use Rattle.elab_step.proofs.Boards.{number_among}
+use Rattle.elab_copies.proofs.Forgetting.{number_among}
 use Rattle.elaborate.proofs.Placing.{placed_long}
 use Rattle.elaborate.proofs.Grouping.{among_take, begun, closed, added, all_done}
 use Rattle.elaborate.proofs.groups.groups_of.Goals as goal

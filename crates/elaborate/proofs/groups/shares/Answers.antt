@@ -2,7 +2,7 @@ use Rattle.std.proofs.Common.{arith, ◌≡◌, ◌<◌, length, sym, ◌∙◌,
 use Rattle.std.proofs.lemmas.Bool.Decides.{Decides-eqb}
 use Rattle.std.proofs.lemmas.Slice.Eq.{slice_eq-Decides}
 use Rattle.elab_order.specs.Graphs.{graph_of}
-use Rattle.elab_step.proofs.Boards.{number_among}
+use Rattle.elab_copies.proofs.Forgetting.{number_among}
 use Rattle.elaborate.proofs.Grouping.{first_is}
 use Rattle.elaborate.proofs.groups.shares.Goals as goal
 
