@@ -217,14 +217,19 @@ def block_from_its_end_behind_parts(size):
     return module(f"{names}reg [7:0] y;\nalways @* begin\n{parts}{given.replace(';', ' ^ y;')}end\n"), SET
 
 
-def block_of_vectors_in_turn(size):
+def block_of_vectors_in_turn(size, part=lambda k: f"i[{k % 8}]"):
     """Signals that each take an exclusive or of all vectors of which the block assigns parts. Each vector is solved by itself between two of them."""
     count = size // 114
     names = "".join(f"reg [1:0] v{k};\nwire x{k} = i[0];\nreg [1:0] c{k};\n" for k in range(count))
-    parts = "".join(f"v{k}[0] = i[{k % 8}];\nv{k}[1] = i[{3 * k % 8}];\n" for k in range(count))
+    parts = "".join(f"v{k}[0] = {part(k)};\nv{k}[1] = {part(3 * k)};\n" for k in range(count))
     sums = "".join(f"s = s ^ v{k};\n" for k in range(count))
     given = "".join(f"c{k} = s;\n" for k in range(count))
     return module(f"{names}reg [1:0] s;\nalways @* begin\ns = 2'd0;\n{parts}{sums}{given}end\n"), SET
+
+
+def block_of_constant_vectors(size):
+    """The same, where what is made again after each vector is a constant, so that no nodes come of it."""
+    return block_of_vectors_in_turn(size, lambda k: "1'b1")
 
 
 def block_of_pairs(size):
@@ -441,6 +446,7 @@ KINDS = {
     "one combinational block, a chain from its end behind statements": block_from_its_end_behind_statements,
     "one combinational block, a chain from its end behind parts": block_from_its_end_behind_parts,
     "one combinational block, vectors solved in turn": block_of_vectors_in_turn,
+    "one combinational block, constant vectors solved in turn": block_of_constant_vectors,
     "one combinational block, each signal by all others": block_of_pairs,
     "one signal assigned again and again": one_signal,
     "a list of events": events,
