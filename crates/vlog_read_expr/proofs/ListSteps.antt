@@ -1,26 +1,24 @@
 -- Trees with commas between, and the concatenation of them.
-use Rattle.std.proofs.Common.{Bool, ℕ, zero, suc, ◌+◌, ◌-◌, ◌≡◌, ◌<◌, ◌≤◌, max, ◌⊎◌, inl, inr, List, [], ◌∷◌, ◌++◌, length, refl, sym, ap, subst, ◌∙◌, append_assoc, arith, lit<, lit≤}
+use Rattle.std.proofs.Common.{Bool, ℕ, ◌+◌, ◌-◌, ◌≡◌, ◌<◌, ◌≤◌, max, ◌⊎◌, inl, inr, List, [], ◌∷◌, ◌++◌, refl, sym, ap, subst, ◌∙◌, arith, lit≤}
 use Rattle.std.specs.Prelude.{codes}
-use mathlib.Core.Former.{Count}
 use Rattle.vlog_tree.specs.declared.token.Token.{Token}
-use Rattle.vlog_tree.specs.declared.expr.Infix.{Infix}
 use Rattle.vlog_tree.specs.declared.expr.Expr.{Expr, Row_of-Expr, end_of-Expr, more_of-Expr}
 use Rattle.vlog_tree.specs.declared.expr.Expr.TheVariants as e
 use Rattle.vlog_tree.specs.declared.expr.Expr.TheBlock.{shape-the_row-Expr-0, hidden-the_row-Expr-0, shape-the_row-Expr-1, hidden-the_row-Expr-1}
 use denote.Hole.Carrier
 use Rattle.vlog_tree.specs.Signs.{IsSign}
-use Rattle.vlog_tree.specs.Spelling.{level, height, heights, Spells, SpellsList, SpellsMore, Ends, Reads, NoSuffix}
-use Rattle.vlog_spell.proofs.Rows.{list_of, list_of-hidden, concat_is}
-use Rattle.vlog_spell.proofs.Tokens.{First, brace, first_at, first_brace, Stops, stops_brace, stops_comma, stops_open_brace, two_signs}
-use Rattle.vlog_spell.proofs.Forms.{height_pos, length_of, ConcatForm, RepeatForm, Begun, begun}
+use Rattle.vlog_tree.specs.Spelling.{height, heights, Spells, SpellsList, SpellsMore, Reads, NoSuffix}
+use Rattle.vlog_spell.proofs.Rows.{list_of, list_of-hidden}
+use Rattle.vlog_spell.proofs.Tokens.{first_brace, Stops, stops_brace, stops_comma, stops_open_brace}
+use Rattle.vlog_spell.proofs.Forms.{length_of, ConcatForm, RepeatForm, Begun, begun}
 use Rattle.vlog_spell.proofs.Compare.{infix_low, no_open}
 use Rattle.vlog_spell.proofs.Reading.{level_pos, unique, stop_ends}
 use Rattle.vlog_lex.specs.declared.error.ReadFault.{ReadFault}
 use Rattle.vlog_read_expr.specs.declared.expr.Parsed.{Parsed}
 use Rattle.vlog_read_expr.specs.declared.expr.Listed.{Listed}
-use Rattle.vlog_read_expr.specs.Answers.{IsDeep, Refusal, Refuses, IsRead, ReadsTrees, IsListed}
+use Rattle.vlog_read_expr.specs.Answers.{Refusal, Refuses, IsRead, ReadsTrees, IsListed}
 use Rattle.vlog_tree.specs.Lists.{Comma, highest}
-use Rattle.vlog_spell.specs.Growing.{ReadsMore, ReadsList}
+use Rattle.vlog_spell.specs.Growing.{ReadsMore}
 use Rattle.vlog_spell.proofs.Lists.{one_list, Started, starts, stops, grows, another, highest-append}
 use Rattle.vlog_read_expr.proofs.Steps.{Has, passes}
 

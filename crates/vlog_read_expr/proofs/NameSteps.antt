@@ -1,17 +1,16 @@
 -- Names: how the readers of paths and offsets go.
-use Rattle.std.proofs.Common.{Bool, true, false, ℕ, ◌+◌, ◌≡◌, ◌<◌, ◌≤◌, ◌⊎◌, inl, inr, List, [], ◌∷◌, ◌++◌, Some, refl, sym, ap, subst, ◌∙◌, append_assoc, append-nil, arith}
+use Rattle.std.proofs.Common.{true, false, ℕ, ◌+◌, ◌≡◌, ◌<◌, inl, inr, List, [], ◌∷◌, ◌++◌, Some, refl, sym, ap, subst, ◌∙◌, append_assoc, append-nil, arith}
 use Rattle.std.specs.Prelude.{codes, length}
 use Rattle.vlog_tree.specs.declared.token.Token.{Token}
 use Rattle.vlog_tree.specs.declared.token.Number.{Number}
 use Rattle.vlog_tree.specs.declared.token.Kind.TheVariants as k
 use Rattle.vlog_tree.specs.declared.expr.Name.{Name}
-use Rattle.vlog_tree.specs.Signs.{kind_at, IsSign, IsWord}
-use Rattle.vlog_tree.specs.Lists.{More, Separated}
-use Rattle.vlog_tree.specs.Spelling.{IsIdentifier, IsNamed, Dot, dotted, after_dots, IsPath, IsAt, IsOffset, IsName}
+use Rattle.vlog_tree.specs.Signs.{kind_at, IsSign}
+use Rattle.vlog_tree.specs.Lists.{Separated}
+use Rattle.vlog_tree.specs.Spelling.{IsIdentifier, IsNamed, Dot, dotted, after_dots, IsPath, IsOffset}
 use Rattle.vlog_spell.specs.Growing.{NoPath, ReadsList, ReadsMore}
-use Rattle.vlog_spell.proofs.Tokens.{two_signs, kind_within}
-use Rattle.vlog_spell.proofs.Lists.{Started, starts, stops, grows, another, more_reads, reads_more}
-use Rattle.vlog_spell.proofs.Names.{one_named, one_path, one_offset, offset_no_dot, as_read}
+use Rattle.vlog_spell.proofs.Lists.{Started, starts, stops, grows, another, reads_more}
+use Rattle.vlog_spell.proofs.Names.{one_named, one_path, offset_no_dot, as_read}
 use Rattle.vlog_lex.specs.declared.error.ReadFault.{ReadFault}
 use Rattle.vlog_lex.specs.declared.error.ReadFault.TheVariants as f
 use Rattle.vlog_read_expr.specs.Names.{Lacks, RefusesIdentifier, ReadsPath, ReadsOffset, ReadsName}

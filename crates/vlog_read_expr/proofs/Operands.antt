@@ -1,30 +1,28 @@
 -- The forms that begin with a token of their own.
-use Rattle.std.proofs.Common.{Bool, ℕ, zero, suc, ◌+◌, ◌-◌, ◌≡◌, ◌<◌, ◌≤◌, max, ◌⊎◌, inl, inr, List, [], ◌∷◌, ◌++◌, length, Option, Some, None, Bool, true, false, refl, sym, ap, subst, ◌∙◌, arith, lit<, lit≤}
+use Rattle.std.proofs.Common.{Bool, ℕ, ◌+◌, ◌-◌, ◌≡◌, ◌<◌, max, ◌⊎◌, inl, inr, List, Some, None, Bool, false, sym, ap, subst, ◌∙◌, arith, lit≤}
 use Rattle.std.specs.Prelude.{codes}
 use Rattle.vlog_tree.specs.declared.token.Token.{Token}
 use Rattle.vlog_tree.specs.declared.token.Number.{Number}
-use Rattle.vlog_tree.specs.declared.token.Kind.{Kind}
 use Rattle.vlog_tree.specs.declared.token.Kind.TheVariants as k
 use Rattle.vlog_tree.specs.declared.expr.Unary.{Unary}
 use Rattle.vlog_tree.specs.declared.expr.Cast.{Cast}
 use Rattle.vlog_tree.specs.declared.expr.Span.{Span}
 use Rattle.vlog_tree.specs.declared.expr.Name.{Name}
-use Rattle.vlog_tree.specs.declared.expr.Infix.{Infix}
-use Rattle.vlog_tree.specs.declared.expr.Expr.{Expr, Row_of-Expr, end_of-Expr, more_of-Expr}
+use Rattle.vlog_tree.specs.declared.expr.Expr.{Expr}
 use Rattle.vlog_tree.specs.declared.expr.Expr.TheVariants as e
-use Rattle.vlog_tree.specs.Signs.{kind_at, IsSign, IsWord, is_reserved, infix_at, infix_level, unary_of, unary_at, on_sign, cast_of, cast_at, on_word, span_at}
-use Rattle.vlog_tree.specs.Spelling.{level, height, heights, IsIdentifier, IsName, IsNumber, NoSuffix, Spells, SpellsList, SpellsMore, Ends, Reads}
+use Rattle.vlog_tree.specs.Signs.{kind_at, IsSign, IsWord, unary_at, cast_of, cast_at, on_word, span_at}
+use Rattle.vlog_tree.specs.Spelling.{height, IsIdentifier, IsName, NoSuffix, Spells, Ends, Reads}
 use Rattle.vlog_spell.specs.Growing.{NoPath}
 use Rattle.vlog_spell.proofs.Names.{bracket_no_path, one_name as same_name, name_begins, name_long}
 use Rattle.vlog_read_expr.specs.Names.{Lacks, ReadsName}
-use Rattle.vlog_spell.proofs.Tokens.{First, number, word, paren, brace, unary, nothing, first_at, first_of, by_unary, first_number, first_word, first_paren, first_brace, first_unary, Stops, stops_paren, stops_bracket, stops_brace, stops_comma, stops_span, no_span, word_of}
-use Rattle.vlog_spell.proofs.Forms.{height_pos, length_of, within, select_of, part_of, cast_tree, paren_of, unary_tree, NameForm, SelectForm, PartForm, CastForm, NamedForm, ParenForm, ConcatForm, UnaryForm, Begun, begun}
+use Rattle.vlog_spell.proofs.Tokens.{First, number, word, paren, unary, nothing, first_at, first_number, first_word, first_paren, first_unary, stops_paren, stops_bracket, stops_span, no_span, word_of}
+use Rattle.vlog_spell.proofs.Forms.{length_of, select_of, part_of, cast_tree, paren_of, unary_tree, SelectForm, PartForm, CastForm, NamedForm, ParenForm, UnaryForm, Begun, begun}
 use Rattle.vlog_spell.proofs.Compare.{infix_low, named_no_cast, no_cast, suffix_path}
 use Rattle.vlog_spell.proofs.Reading.{level_pos, unique, stop_ends}
 use Rattle.vlog_lex.specs.declared.error.ReadFault.{ReadFault}
 use Rattle.vlog_lex.specs.declared.error.ReadFault.TheVariants as f
 use Rattle.vlog_read_expr.specs.declared.expr.Parsed.{Parsed}
-use Rattle.vlog_read_expr.specs.Answers.{IsDeep, Refusal, Refuses, IsRead, Closed, IsClosed}
+use Rattle.vlog_read_expr.specs.Answers.{Refusal, Refuses, IsRead, Closed, IsClosed}
 use Rattle.vlog_read_expr.proofs.Steps.{Has, passes}
 
 -- a tree and its closing sign

@@ -1,22 +1,22 @@
 -- One step of the reader: an operand, and what an operator adds.
-use Rattle.std.proofs.Common.{Bool, ℕ, zero, suc, ◌+◌, ◌-◌, ◌≡◌, ◌<◌, ◌≤◌, max, ◌⊎◌, inl, inr, List, [], ◌∷◌, length, Option, Some, None, Result, Ok, Err, refl, sym, ap, subst, ◌∙◌, arith, lit<, lit≤}
+use Rattle.std.proofs.Common.{Bool, ℕ, ◌+◌, ◌-◌, ◌≡◌, ◌<◌, ◌≤◌, max, inl, inr, List, Some, refl, sym, ap, subst, ◌∙◌, arith}
 use Rattle.std.specs.Prelude.{codes}
 use Rattle.vlog_tree.specs.declared.token.Token.{Token}
 use Rattle.vlog_tree.specs.declared.expr.Infix.{Infix}
 use Rattle.vlog_tree.specs.declared.expr.Infix.TheVariants as x
 use Rattle.vlog_tree.specs.declared.expr.Binary.{Binary}
 use Rattle.vlog_tree.specs.declared.expr.Expr.{Expr}
-use Rattle.vlog_tree.specs.Signs.{kind_at, IsSign, infix_at, infix_level, binary_level}
-use Rattle.vlog_tree.specs.Spelling.{level, height, NoSuffix, Spells, Ends, Reads}
-use Rattle.vlog_spell.specs.Growing.{Takes, Loose}
-use Rattle.vlog_spell.proofs.Tokens.{Stops, stops_colon, infix_no_suffix, binary_low, binary_high}
+use Rattle.vlog_tree.specs.Signs.{IsSign, infix_at, infix_level, binary_level}
+use Rattle.vlog_tree.specs.Spelling.{level, height, NoSuffix, Spells, Reads}
+use Rattle.vlog_spell.specs.Growing.{Takes}
+use Rattle.vlog_spell.proofs.Tokens.{binary_high}
 use Rattle.vlog_spell.proofs.Forms.{height_pos, length_of, within, binary_of, choice_of}
-use Rattle.vlog_spell.proofs.Compare.{Shorter, Outcome, infix_low, infix_high}
-use Rattle.vlog_spell.proofs.Reading.{level_pos, outcome, unique, begins, NextBinary, NextChoice, Next, next}
+use Rattle.vlog_spell.proofs.Compare.{Outcome, infix_low, infix_high}
+use Rattle.vlog_spell.proofs.Reading.{outcome, unique, begins, NextBinary, NextChoice, Next, next}
 use Rattle.vlog_lex.specs.declared.error.ReadFault.{ReadFault}
 use Rattle.vlog_lex.specs.declared.error.ReadFault.TheVariants as f
 use Rattle.vlog_read_expr.specs.declared.expr.Parsed.{Parsed}
-use Rattle.vlog_read_expr.specs.Answers.{IsDeep, Refusal, Refuses, IsRead, Answers, Grown, Extends}
+use Rattle.vlog_read_expr.specs.Answers.{Refusal, Refuses, IsRead, Grown}
 
 -- a value of P, low enough to be a part
 pub record Has {A : Type 0} (h : A → ℕ) (P : A → ℕ → Type 0) (up n : ℕ) : Type 0 where

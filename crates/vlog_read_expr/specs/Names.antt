@@ -1,8 +1,7 @@
 -- What the readers of names answer.
-use Rattle.std.specs.Prelude.{ℕ, ◌≡◌, List, Bool, true, Result, Ok, Err, codes}
+use Rattle.std.specs.Prelude.{ℕ, ◌≡◌, List, Bool, Result, Ok, Err}
 use Rattle.vlog_tree.specs.declared.token.Token.{Token}
 use Rattle.vlog_tree.specs.declared.expr.Name.{Name}
-use Rattle.vlog_tree.specs.Signs.{IsSign}
 use Rattle.vlog_tree.specs.Spelling.{IsIdentifier, IsPath, IsOffset, IsName, Dot}
 use Rattle.vlog_spell.specs.Growing.{NoPath}
 use Rattle.vlog_lex.specs.declared.error.ReadFault.{ReadFault}

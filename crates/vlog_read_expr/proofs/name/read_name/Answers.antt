@@ -1,4 +1,4 @@
-use Rattle.std.proofs.Common.{◌≡◌, ◌+◌, ℕ, arith, rules, refl, sym, ap, ◌∙◌}
+use Rattle.std.proofs.Common.{refl}
 use Rattle.std.proofs.lemmas.Result.{err_from_is_err_and}
 use Rattle.vlog_read_expr.proofs.SignTests.{yes_by, no_by}
 use Rattle.vlog_read_expr.proofs.NameSteps.{word_name_refuses, word_followed, word_named}

@@ -1,7 +1,7 @@
-use Rattle.std.proofs.Common.{◌≡◌, ◌+◌, ◌<◌, ◌≤◌, ℕ, Some, arith, rules, refl, sym, ap, ◌∙◌}
+use Rattle.std.proofs.Common.{refl}
 use Rattle.vlog_spell.proofs.Tokens.{kind_within}
 use Rattle.vlog_read_expr.proofs.SignTests.{yes_by, no_by}
-use Rattle.vlog_read_expr.proofs.NameSteps.{no_offset, some_offset, offset_lacks}
+use Rattle.vlog_read_expr.proofs.NameSteps.{no_offset}
 use Rattle.vlog_read_expr.proofs.name.read_offset.Goals as goal
 
 pub returns-then-not-is_sign : goal.returns-then-not-is_sign

@@ -1,7 +1,7 @@
-use Rattle.std.proofs.Common.{◌≡◌, ◌+◌, ℕ, arith, rules, refl, sym, ap, ◌∙◌}
+use Rattle.std.proofs.Common.{refl}
 use Rattle.std.proofs.lemmas.Result.{err_from_is_err_and}
 use Rattle.vlog_read_expr.proofs.SignTests.{yes_by, no_by}
-use Rattle.vlog_read_expr.proofs.NameSteps.{set_path_refuses, set_offset_refuses, set_followed, set_named, path_free}
+use Rattle.vlog_read_expr.proofs.NameSteps.{set_path_refuses, set_offset_refuses, set_followed, set_named}
 use Rattle.vlog_read_expr.proofs.name.set_name.Goals as goal
 
 pub returns-in_err-path : goal.returns-in_err-path

@@ -1,10 +1,7 @@
-use Rattle.std.proofs.Common.{◌+◌, refl, arith}
 use Rattle.vlog_spell.proofs.Tokens.{kind_within}
 use Rattle.vlog_read_expr.proofs.SignTests.{no_by}
 use Rattle.vlog_read_expr.proofs.Operands.{number_followed, number_wild}
-use Rattle.vlog_read_expr.proofs.ListSteps.{list_ends}
-use Rattle.vlog_spell.proofs.Made.{binary_made}
-use Rattle.vlog_read_expr.proofs.expr.whole_number.Goals as goal
+use Rattle.vlog_read_expr.proofs.expr.Reader.whole_number.Goals as goal
 
 pub after-end-requires : goal.after-end-requires
 after-end-requires c = kind_within _ _ _ c.requires.here

@@ -1,15 +1,14 @@
-use Rattle.std.proofs.Common.{◌≡◌, ◌≤◌, ◌<◌, ◌+◌, ◌-◌, ◌*◌, length, max, Some, List, [], ◌∷◌, ◌++◌, subst, ℕ, arith, rules, refl, sym, ◌∙◌, ap}
+use Rattle.std.proofs.Common.{◌≡◌, ◌+◌, Some, [], ◌∷◌, ◌++◌, subst, arith, rules, refl, sym, ◌∙◌, ap}
 use Rattle.std.proofs.lemmas.Result.{err_from_is_err_and}
 use Rattle.vlog_spell.proofs.Forms.{within, sign_within, span_within, height_pos, length_of}
 use Rattle.vlog_tree.specs.Signs.{unary_of, on_sign, cast_of, on_word}
 use Rattle.vlog_spell.proofs.Tokens.{binary_low, first_of, first_other, kind_within}
 use Rattle.vlog_spell.proofs.Made.{part_made, cast_made, paren_made, unary_made, binary_made}
-use Rattle.vlog_tree.specs.declared.expr.Expr.TheVariants as e
 use Rattle.vlog_read_expr.proofs.SignTests.{yes_by, no_by}
-use Rattle.vlog_read_expr.proofs.Steps.{grown_of_operand, refuses_operand, read_of_grown, past_start, low_depth, binary_refuses, binary_grown, binary_deep, choice_refuses_yes, choice_no_colon, choice_refuses_no}
-use Rattle.vlog_read_expr.proofs.Operands.{enclosed_refuses, enclosed_open, enclosed_followed, nothing_begins, paren_refuses, paren_read, unary_refuses, unary_read, name_refuses, name_read, bracket_refuses, part_refuses, part_read, cast_open, cast_refuses, cast_read}
+use Rattle.vlog_read_expr.proofs.Steps.{refuses_operand, low_depth, binary_refuses, binary_grown, binary_deep, choice_refuses_yes, choice_no_colon, choice_refuses_no}
+use Rattle.vlog_read_expr.proofs.Operands.{enclosed_open, enclosed_followed, nothing_begins, paren_refuses, paren_read, unary_refuses, unary_read, name_refuses, name_read, bracket_refuses, part_refuses, part_read, cast_open, cast_refuses, cast_read}
 use Rattle.vlog_read_expr.proofs.ListSteps.{Begun_list, list_refuses, list_begins, list_ends, item_refuses, list_grows, brace_refuses, repeat_refuses, repeat_open, repeat_open_2, repeat_followed, repeat_read, concat_refuses, concat_open, concat_followed, concat_read}
-use Rattle.vlog_read_expr.proofs.expr.+expr.Goals as goal
+use Rattle.vlog_read_expr.proofs.expr.Reader.+expr.Goals as goal
 
 -- an expression
 pub expr_at-returns-in_err-left : goal.expr_at-returns-in_err-left
@@ -19,14 +18,14 @@ expr_at-returns-in_err-left t c =
 
 pub expr_at-loop-op-smaller : goal.expr_at-loop-op-smaller
 expr_at-loop-op-smaller t c =
-    omega (arith, c.in_ok-left-2.ensures.1, within c.args.set c.args.tokens.now c.args.at c.in_ok-left-2.left.tree c.in_ok-left-2.left.end c.in_ok-left-2.ensures.0.spelt)
+    omega (arith, c.in_ok-left-2.ensures.1, within c.args.self.now.set c.args.self.now.tokens.now c.args.at c.in_ok-left-2.left.tree c.in_ok-left-2.left.end c.in_ok-left-2.ensures.0.spelt)
 
 -- a binary operator
 pub binary-after-next-requires : goal.binary-after-next-requires
 binary-after-next-requires t c = sign_within _ _ _ _ c.requires.sign
 
-pub binary-overflow_sub-depth : goal.binary-overflow_sub-depth
-binary-overflow_sub-depth t c = omega (arith, low_depth _ _ _ _ _ _ c.requires.grown)
+pub binary-overflow_sub-sought : goal.binary-overflow_sub-sought
+binary-overflow_sub-sought t c = omega (arith, low_depth _ _ _ _ _ _ c.requires.grown)
 
 pub binary-expr_at-requires : goal.binary-expr_at-requires
 binary-expr_at-requires t c =
@@ -37,22 +36,22 @@ pub binary-returns-in-Err : goal.binary-returns-in-Err
 binary-returns-in-Err t c =
     binary_refuses _ _ _ _ _ _ c.requires.grown _ c.requires.sign c.requires.high _ c.level.ensures _ (rw c.after-next.ensures at c.in-Err.ensures)
 
-pub binary-returns-then-height-depth : goal.binary-returns-then-height-depth
-binary-returns-then-height-depth t c =
+pub binary-returns-then-height-sought : goal.binary-returns-then-height-sought
+binary-returns-then-height-sought t c =
     binary_deep _ _ _ _ _ _ c.requires.grown _ c.requires.sign c.requires.high _ c.level.ensures _ (rw c.after-next.ensures at c.in-Ok.ensures)
-    (omega (arith, c.max-height.ensures, c.if-height-depth.true))
+    (omega (arith, c.max-height.ensures, c.if-height-sought.true))
 
 pub binary-returns : goal.binary-returns
 binary-returns t c =
     binary_grown _ _ _ _ _ _ c.requires.grown _ c.requires.sign c.requires.high _ c.level.ensures _ (rw c.after-next.ensures at c.in-Ok.ensures) _
-    (binary_made _ _ _ _ _ c.in_ok-left.ensures c.in_ok-right.ensures) refl (omega (arith, c.max-height.ensures)) (omega (arith, c.if-height-depth.false))
+    (binary_made _ _ _ _ _ c.in_ok-left.ensures c.in_ok-right.ensures) refl (omega (arith, c.max-height.ensures)) (omega (arith, c.if-height-sought.false))
 
 -- a choice
 pub choice-after-next-requires : goal.choice-after-next-requires
 choice-after-next-requires t c = sign_within _ _ _ _ c.requires.sign
 
-pub choice-overflow_sub-depth : goal.choice-overflow_sub-depth
-choice-overflow_sub-depth t c = omega (arith, low_depth _ _ _ _ _ _ c.requires.grown)
+pub choice-overflow_sub-sought : goal.choice-overflow_sub-sought
+choice-overflow_sub-sought t c = omega (arith, low_depth _ _ _ _ _ _ c.requires.grown)
 
 pub choice-expr_at-requires : goal.choice-expr_at-requires
 choice-expr_at-requires t c = let l = low_depth _ _ _ _ _ _ c.requires.grown in (search rules, (omega arith, omega arith))
@@ -69,8 +68,8 @@ choice-returns-then-not-is_sign t c =
 pub choice-after-last-requires : goal.choice-after-last-requires
 choice-after-last-requires t c = kind_within _ _ _ (yes_by _ c.is_sign.ensures c.if-not-is_sign.false)
 
-pub choice-overflow_sub-depth-2 : goal.choice-overflow_sub-depth-2
-choice-overflow_sub-depth-2 t c = omega (arith, low_depth _ _ _ _ _ _ c.requires.grown)
+pub choice-overflow_sub-sought-2 : goal.choice-overflow_sub-sought-2
+choice-overflow_sub-sought-2 t c = omega (arith, low_depth _ _ _ _ _ _ c.requires.grown)
 
 pub choice-expr_at-requires-2 : goal.choice-expr_at-requires-2
 choice-expr_at-requires-2 t c = let l = low_depth _ _ _ _ _ _ c.requires.grown in (search rules, (omega arith, omega arith))
@@ -295,32 +294,32 @@ list-returns-in_err-first t c =
     let p = err_from_is_err_and c.from_residual.result c.from_residual.ensures.1 in
     rw (p.1, p.2) (list_refuses _ _ _ _ _ c.in_err-first.ensures)
 
-pub list_from-loop-alloc-init : goal.list_from-loop-alloc-init
-list_from-loop-alloc-init t c =
+pub list_from-loop-items-init : goal.list_from-loop-items-init
+list_from-loop-items-init t c =
     let q : c.push.new.self ≡ c.args.first.tree ∷ [] = c.in_ok-push.ensures.ok ∙ ap (λ z. z ++ c.args.first.tree ∷ []) c.new-items.ensures in
-    subst (λ z. Begun_list c.args.set c.args.tokens.now c.args.at c.args.depth z c.args.first.height c.args.first.end) (sym q) (list_begins _ _ _ _ _ c.requires.read)
+    subst (λ z. Begun_list c.args.self.now.set c.args.self.now.tokens.now c.args.at c.args.depth z c.args.first.height c.args.first.end) (sym q) (list_begins _ _ _ _ _ c.requires.read)
 
 pub list_from-after-requires : goal.list_from-after-requires
-list_from-after-requires t c = kind_within _ _ _ (yes_by _ c.is_sign.ensures c.loop-alloc-test.true)
+list_from-after-requires t c = kind_within _ _ _ (yes_by _ c.is_sign.ensures c.loop-items-test.true)
 
 pub list_from-returns-in_err-item : goal.list_from-returns-in_err-item
 list_from-returns-in_err-item t c =
     let p = err_from_is_err_and c.from_residual-in_err-item.result c.from_residual-in_err-item.ensures.1 in
-    rw (p.1, p.2) (item_refuses _ _ _ _ _ _ _ c.loop-alloc.invariant (yes_by _ c.is_sign.ensures c.loop-alloc-test.true) _ (rw c.after.ensures at c.in_err-item.ensures))
+    rw (p.1, p.2) (item_refuses _ _ _ _ _ _ _ c.loop-items.invariant (yes_by _ c.is_sign.ensures c.loop-items-test.true) _ (rw c.after.ensures at c.in_err-item.ensures))
 
-pub list_from-loop-alloc-smaller : goal.list_from-loop-alloc-smaller
-list_from-loop-alloc-smaller t c =
+pub list_from-loop-items-smaller : goal.list_from-loop-items-smaller
+list_from-loop-items-smaller t c =
     omega (
       arith,
       c.after.ensures,
-      within c.args.set c.args.tokens.now c.after.result c.in_ok-item.item.tree c.in_ok-item.item.end c.in_ok-item.ensures.reads.spelt,
-      length_of c.args.set c.args.tokens.now c.after.result c.in_ok-item.item.tree c.in_ok-item.item.end c.in_ok-item.ensures.reads.spelt,
+      within c.args.self.now.set c.args.self.now.tokens.now c.after.result c.in_ok-item.item.tree c.in_ok-item.item.end c.in_ok-item.ensures.reads.spelt,
+      length_of c.args.self.now.set c.args.self.now.tokens.now c.after.result c.in_ok-item.item.tree c.in_ok-item.item.end c.in_ok-item.ensures.reads.spelt,
     )
 
-pub list_from-loop-alloc-preserved : goal.list_from-loop-alloc-preserved
-list_from-loop-alloc-preserved t c =
-    list_grows _ _ _ _ _ _ _ c.loop-alloc.invariant (yes_by _ c.is_sign.ensures c.loop-alloc-test.true) _ (rw c.after.ensures at c.in_ok-item.ensures) _
+pub list_from-loop-items-preserved : goal.list_from-loop-items-preserved
+list_from-loop-items-preserved t c =
+    list_grows _ _ _ _ _ _ _ c.loop-items.invariant (yes_by _ c.is_sign.ensures c.loop-items-test.true) _ (rw c.after.ensures at c.in_ok-item.ensures) _
     c.in_ok-push-2.ensures.ok _ c.max-height.ensures
 
 pub list_from-returns : goal.list_from-returns
-list_from-returns t c = list_ends _ _ _ _ _ _ _ c.loop-alloc.invariant (no_by _ c.is_sign.ensures c.loop-alloc-test.false) _ refl refl refl
+list_from-returns t c = list_ends _ _ _ _ _ _ _ c.loop-items.invariant (no_by _ c.is_sign.ensures c.loop-items-test.false) _ refl refl refl

@@ -1,19 +1,19 @@
 use Rattle.std.proofs.Common.{◌+◌, ◌-◌, ◌*◌, length}
 use Rattle.vlog_read_expr.specs.Answers.{Grown}
 use Rattle.vlog_read_expr.proofs.ListSteps.{Begun_list}
-use Rattle.vlog_read_expr.proofs.expr.+expr.Given as goal
+use Rattle.vlog_read_expr.proofs.expr.Reader.+expr.Given as goal
 
 abbrev pub invariant-expr_at-loop-op : goal.invariant-expr_at-loop-op
-invariant-expr_at-loop-op l = Grown l.set l.tokens l.level l.at l.depth l.left
+invariant-expr_at-loop-op l = Grown l.self.set l.self.tokens.now l.level l.at l.depth l.left
 
 abbrev pub decreases-expr_at-loop-op : goal.decreases-expr_at-loop-op
-decreases-expr_at-loop-op l = length l.tokens - l.left.end
+decreases-expr_at-loop-op l = length l.self.tokens.now - l.left.end
 
-abbrev pub invariant-list_from-loop-alloc : goal.invariant-list_from-loop-alloc
-invariant-list_from-loop-alloc l = Begun_list l.set l.tokens l.at l.depth l.items l.height l.end
+abbrev pub invariant-list_from-loop-items : goal.invariant-list_from-loop-items
+invariant-list_from-loop-items l = Begun_list l.self.set l.self.tokens.now l.at l.depth l.items l.height l.end
 
-abbrev pub decreases-list_from-loop-alloc : goal.decreases-list_from-loop-alloc
-decreases-list_from-loop-alloc l = length l.tokens - l.end
+abbrev pub decreases-list_from-loop-items : goal.decreases-list_from-loop-items
+decreases-list_from-loop-items l = length l.self.tokens.now - l.end
 
 abbrev pub decreases-enclosed : goal.decreases-enclosed
 decreases-enclosed l = 10 * l.depth + 9
@@ -31,13 +31,13 @@ abbrev pub decreases-operand : goal.decreases-operand
 decreases-operand l = 10 * l.depth + 6
 
 abbrev pub decreases-extended : goal.decreases-extended
-decreases-extended l = 10 * l.depth + 6
+decreases-extended l = 10 * l.sought.depth + 6
 
 abbrev pub decreases-binary : goal.decreases-binary
-decreases-binary l = 10 * l.depth + 5
+decreases-binary l = 10 * l.sought.depth + 5
 
 abbrev pub decreases-choice : goal.decreases-choice
-decreases-choice l = 10 * l.depth + 5
+decreases-choice l = 10 * l.sought.depth + 5
 
 abbrev pub decreases-worded : goal.decreases-worded
 decreases-worded l = 10 * l.depth + 5
