@@ -31,6 +31,16 @@ pub struct ListedLvals {
     pub end: usize,
 }
 
+/// A part-select of which the first expression and the sign after it are read.
+#[derive(Drop)]
+struct PartStart {
+    /// Where the name stands.
+    at: usize,
+    name: Text,
+    index: Parsed,
+    span: Span,
+}
+
 /// The left side at a place, no higher than `depth`.
 #[cycle(lval)]
 pub fn read_lval(
@@ -100,7 +110,13 @@ fn bracket(
     let open = after(tokens, at);
     let index = read_tree(alloc, false, tokens, after(tokens, open), depth - 1)?;
     if let Some(span) = span_at(tokens, index.end) {
-        return part(alloc, tokens, at, name, index, span, depth);
+        let start = PartStart {
+            at,
+            name,
+            index,
+            span,
+        };
+        return part(alloc, tokens, start, depth);
     }
     if !is_sign(tokens, index.end, b"]") {
         let place = index.end;
@@ -118,33 +134,37 @@ fn bracket(
 fn part(
     alloc: Global,
     tokens: &[Token],
-    at: usize,
-    name: Text,
-    index: Parsed,
-    span: Span,
+    start: PartStart,
     depth: usize,
 ) -> Result<ParsedLval, ReadFault>
-    requires here { IsIdentifier false tokens.now at name }
-    requires open { IsSign tokens.now (at + 1) (codes "[") }
-    requires read { IsRead false tokens.now 1 (at + 2) (depth - 1) index }
-    requires sign { span_at tokens.now index.end ≡ Some span }
+    requires here { IsIdentifier false tokens.now start.at start.name }
+    requires open { IsSign tokens.now (start.at + 1) (codes "[") }
+    requires read { IsRead false tokens.now 1 (start.at + 2) (depth - 1) start.index }
+    requires sign { span_at tokens.now start.index.end ≡ Some start.span }
     requires positive { 0 < depth }
     requires low { depth ≤ 500 }
-    ensures { BeginsLval tokens.now at depth result }
+    ensures { BeginsLval tokens.now start.at depth result }
 {
-    let other = match read_tree(alloc, false, tokens, after(tokens, index.end), depth - 1) {
+    let next = after(tokens, start.index.end);
+    let other = match read_tree(alloc, false, tokens, next, depth - 1) {
         Ok(other) => other,
         Err(fault) => {
-            drop(index);
+            drop(start);
             return Err(fault);
         }
     };
     if !is_sign(tokens, other.end, b"]") {
         let place = other.end;
-        drop(index);
+        drop(start);
         drop(other);
         return Err(ReadFault::Syntax(place));
     }
+    let PartStart {
+        name,
+        index,
+        span,
+        ..
+    } = start;
     Ok(ParsedLval {
         tree: Lval::Part(name, span, index.tree, other.tree),
         height: index.height.max(other.height) + 1,

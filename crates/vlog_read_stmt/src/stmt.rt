@@ -57,6 +57,15 @@ pub struct BlockName {
     pub end: usize,
 }
 
+/// An `if` of which the condition and the statement after it are read.
+#[derive(Drop)]
+struct IfStart {
+    /// Where the `if` stands.
+    at: usize,
+    condition: Parsed,
+    yes: ParsedStmt,
+}
+
 /// The statement at a place, no higher than `depth`.
 #[cycle(stmt)]
 pub fn read_stmt(
@@ -230,7 +239,8 @@ fn conditional(
         }
     };
     if is_word(tokens, yes.end, b"else") {
-        return with_else(alloc, tokens, at, condition, yes, depth);
+        let start = IfStart { at, condition, yes };
+        return with_else(alloc, tokens, start, depth);
     }
     let height = condition.height.max(yes.height) + 1;
     let end = yes.end;
@@ -252,27 +262,25 @@ fn conditional(
 fn with_else(
     alloc: Global,
     tokens: &[Token],
-    at: usize,
-    condition: Parsed,
-    yes: ParsedStmt,
+    start: IfStart,
     depth: usize,
 ) -> Result<ParsedStmt, ReadFault>
-    requires here { IsWord tokens.now at (codes "if") }
-    requires condition { IsHeader tokens.now at (depth - 1) condition }
-    requires yes { IsStmt tokens.now condition.end (depth - 1) yes }
-    requires word { IsWord tokens.now yes.end (codes "else") }
+    requires here { IsWord tokens.now start.at (codes "if") }
+    requires condition { IsHeader tokens.now start.at (depth - 1) start.condition }
+    requires yes { IsStmt tokens.now start.condition.end (depth - 1) start.yes }
+    requires word { IsWord tokens.now start.yes.end (codes "else") }
     requires positive { 0 < depth }
     requires low { depth ≤ 500 }
-    ensures { AnswersStmt tokens.now at depth result }
+    ensures { AnswersStmt tokens.now start.at depth result }
 {
-    let no = match read_stmt(alloc, tokens, after(tokens, yes.end), depth - 1) {
+    let no = match read_stmt(alloc, tokens, after(tokens, start.yes.end), depth - 1) {
         Ok(no) => no,
         Err(fault) => {
-            drop(condition);
-            drop(yes);
+            drop(start);
             return Err(fault);
         }
     };
+    let IfStart { condition, yes, .. } = start;
     let height = condition.height.max(yes.height.max(no.height)) + 1;
     let end = no.end;
     match (Boxed::new(alloc, yes.tree), Boxed::new(alloc, no.tree)) {
