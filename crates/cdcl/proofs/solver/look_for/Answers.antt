@@ -16,22 +16,22 @@ z = record { var = 0; negative = false }
 pub returns-then-is_true : goal.returns-then-is_true
 returns-then-is_true c =
     let s = c.args.search.now in
-    rests_from s.trail.entries c.args.denied c.args.watch c.in-Some.other c.in-Some.ensures
+    rests_from s.trail.entries c.args.denied c.args.clause.watch c.in-Some.other c.in-Some.ensures
     (true_known c.values-values.result.now (lits_of s.trail.entries) c.values-values.ensures.shows c.in-Some.other (c.is_true.ensures.0 c.if-is_true.true))
 
 pub returns-in-Some-find_other : goal.returns-in-Some-find_other
 returns-in-Some-find_other c =
     let s = c.args.search.now in
-    let at = subst (IsClauseAt c.args.cnf.now.vars (clauses_of c.args.cnf.now.clauses s.steps.items) c.args.number) (sym c.clause-clause.ensures) c.requires.copied.clause in
+    let at = subst (IsClauseAt c.args.cnf.now.vars (clauses_of c.args.cnf.now.clauses s.steps.items) c.args.clause.number) (sym c.clause-lits.ensures) c.requires.copied.clause in
     let found = c.in-Some-find_other.ensures in
-    let clause = c.clause-clause.result.now in
+    let clause = c.clause-lits.result.now in
     let first = get_or clause c.in-Some-find_other.place z in
     let among = contains_place clause c.in-Some-find_other.place z found.within in
-    let is : c.lit-first.result ≡ first = c.lit-first.ensures ∙ (c.index-clause-place.is ∙ get_or_default clause c.in-Some-find_other.place c.index-clause-place.result z found.within) in
+    let is : c.lit-first.result ≡ first = c.lit-first.ensures ∙ (c.index-lits-place.is ∙ get_or_default clause c.in-Some-find_other.place c.index-lits-place.result z found.within) in
     record {
       leaves = c.in-Some.ensures;
       in_range = subst (λ (l : Lit). l.var < c.args.cnf.now.vars) (sym is) (All-contains (λ (l : Lit). l.var < c.args.cnf.now.vars) clause first at.in_range among);
-      among = subst (Contains (clause_at (clauses_of c.args.cnf.now.clauses s.steps.items) c.args.number)) (sym is) (subst (λ k. Contains k first) at.is among);
+      among = subst (Contains (clause_at (clauses_of c.args.cnf.now.clauses s.steps.items) c.args.clause.number)) (sym is) (subst (λ k. Contains k first) at.is among);
       apart = subst (λ (l : Lit). l.var ≢ c.in-Some.other.var) (sym is) (found.apart z);
       not_false = λ h. found.not_false z (known_false c.values-values.result.now (lits_of s.trail.entries) c.values-values.ensures.shows first (subst (λ l. Contains (lits_of s.trail.entries) (negated l)) is h));
     }
@@ -40,9 +40,9 @@ pub returns-then-is_free : goal.returns-then-is_free
 returns-then-is_free c =
     let s = c.args.search.now in let other = c.in-Some.other in
     let values = c.values-values.result.now in let shows = c.values-values.ensures.shows in
-    let at = subst (IsClauseAt c.args.cnf.now.vars (clauses_of c.args.cnf.now.clauses s.steps.items) c.args.number) (sym c.clause-clause.ensures) c.requires.copied.clause in
-    let clause = c.clause-clause.result.now in
-    let among = among_leaves (clause_at (clauses_of c.args.cnf.now.clauses s.steps.items) c.args.number) c.args.denied c.args.watch other c.requires.watch c.in-Some.ensures in
+    let at = subst (IsClauseAt c.args.cnf.now.vars (clauses_of c.args.cnf.now.clauses s.steps.items) c.args.clause.number) (sym c.clause-lits.ensures) c.requires.copied.clause in
+    let clause = c.clause-lits.result.now in
+    let among = among_leaves (clause_at (clauses_of c.args.cnf.now.clauses s.steps.items) c.args.clause.number) c.args.denied c.args.clause.watch other c.requires.watch c.in-Some.ensures in
     record {
       leaves = c.in-Some.ensures;
       avoided = avoids_from_free values (lits_of s.trail.entries) other shows (c.is_free.ensures.0 c.if-is_free.true);
@@ -59,9 +59,9 @@ pub returns-else-is_free : goal.returns-else-is_free
 returns-else-is_free c =
     let s = c.args.search.now in let other = c.in-Some.other in
     let values = c.values-values.result.now in let shows = c.values-values.ensures.shows in
-    let at = subst (IsClauseAt c.args.cnf.now.vars (clauses_of c.args.cnf.now.clauses s.steps.items) c.args.number) (sym c.clause-clause.ensures) c.requires.copied.clause in
-    let clause = c.clause-clause.result.now in
-    let among = among_leaves (clause_at (clauses_of c.args.cnf.now.clauses s.steps.items) c.args.number) c.args.denied c.args.watch other c.requires.watch c.in-Some.ensures in
+    let at = subst (IsClauseAt c.args.cnf.now.vars (clauses_of c.args.cnf.now.clauses s.steps.items) c.args.clause.number) (sym c.clause-lits.ensures) c.requires.copied.clause in
+    let clause = c.clause-lits.result.now in
+    let among = among_leaves (clause_at (clauses_of c.args.cnf.now.clauses s.steps.items) c.args.clause.number) c.args.denied c.args.clause.watch other c.requires.watch c.in-Some.ensures in
     record {
       known = at.known;
       all_false = λ m h. elim (cases_lit m other) [

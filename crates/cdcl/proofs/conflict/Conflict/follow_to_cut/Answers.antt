@@ -1,7 +1,7 @@
 use Rattle.std.proofs.Common.{◌≡◌, ◌<◌, ◌≤◌, ◌+◌, ◌-◌, ℕ, List, true, false, None, length, subst, sym, ap, ◌∙◌, arith, get_or}
 use Rattle.std.proofs.lemmas.List.{get_or_read}
-use Rattle.clause_check.specs.Derivations.{clauses_of}
 use Rattle.cdcl.specs.declared.trail.Entry.{Entry}
+use Rattle.cdcl.specs.Reasons.{clauses_in}
 use Rattle.cdcl.specs.Marking.{IsSeen, open_count}
 use Rattle.cdcl.specs.Conflicts.{IsFollowed}
 use Rattle.cdcl.proofs.ConflictLemmas.{alone, not_first, none_left, followed_past}
@@ -12,7 +12,7 @@ returns-then-self-eq1 c =
     let p = c.loop-place.place - 1 in
     let s = c.loop-place.self in
     let f = c.loop-place.invariant.followed in
-    let within : p < length c.args.trail.now.entries = omega arith in
+    let within : p < length c.args.reasons.now.trail.now.entries = omega arith in
     let seen : IsSeen s.seen.items p = sym (get_or_read s.seen.items p c.index.result.now (omega (arith, f.len)) c.index.ensures false) ∙ c.if-index.true in
     let next : c.loop-place.place ≡ p + 1 = omega arith in
     let level : c.args.start ≤ p = omega arith in
@@ -20,7 +20,7 @@ returns-then-self-eq1 c =
       level = level;
       within = within;
       seen = seen;
-      followed = subst (λ n. IsFollowed (clauses_of c.args.cnf.now.clauses c.args.steps.now) c.args.trail.now.entries c.args.start n s) next f;
+      followed = subst (λ n. IsFollowed (clauses_in c.args.reasons.now) c.args.reasons.now.trail.now.entries c.args.start n s) next f;
       alone = alone c.args.start s.seen.items p level seen (sym f.counted ∙ c.if-self-eq1.true);
     }
 
@@ -47,8 +47,8 @@ loop-place-preserved c =
     let bad : false ≡ true = sym c.if-index.false ∙ was in cc in
     record {
       followed =
-          followed_past (clauses_of c.args.cnf.now.clauses c.args.steps.now) c.args.trail.now.entries c.args.start p s
-          (subst (λ n. IsFollowed (clauses_of c.args.cnf.now.clauses c.args.steps.now) c.args.trail.now.entries c.args.start n s) next f) (omega arith) unseen;
+          followed_past (clauses_in c.args.reasons.now) c.args.reasons.now.trail.now.entries c.args.start p s
+          (subst (λ n. IsFollowed (clauses_in c.args.reasons.now) c.args.reasons.now.trail.now.entries c.args.start n s) next f) (omega arith) unseen;
       pending = c.loop-place.invariant.pending;
     }
 

@@ -1,6 +1,6 @@
 use Rattle.std.proofs.Common.{◌≡◌, ◌+◌, ◌-◌, true, false, subst, sym, ◌∙◌, arith}
 use Rattle.std.proofs.lemmas.List.{get_or_read}
-use Rattle.clause_check.specs.Derivations.{clauses_of}
+use Rattle.cdcl.specs.Reasons.{clauses_in}
 use Rattle.cdcl.specs.Marking.{IsSeen}
 use Rattle.cdcl.specs.Conflicts.{IsFollowed}
 use Rattle.cdcl.proofs.ConflictLemmas.{followed_past}
@@ -15,5 +15,5 @@ loop-place-preserved c =
     let unseen : IsSeen s.seen.items p → ⊥ = λ h.
     let was : c.index.result.now ≡ true = get_or_read s.seen.items p c.index.result.now (omega (arith, f.len)) c.index.ensures false ∙ h in
     let bad : false ≡ true = sym c.if-index.false ∙ was in cc in
-    followed_past (clauses_of c.args.cnf.now.clauses c.args.steps.now) c.args.trail.now.entries 0 p s
-    (subst (λ n. IsFollowed (clauses_of c.args.cnf.now.clauses c.args.steps.now) c.args.trail.now.entries 0 n s) next f) (omega arith) unseen
+    followed_past (clauses_in c.args.reasons.now) c.args.reasons.now.trail.now.entries 0 p s
+    (subst (λ n. IsFollowed (clauses_in c.args.reasons.now) c.args.reasons.now.trail.now.entries 0 n s) next f) (omega arith) unseen

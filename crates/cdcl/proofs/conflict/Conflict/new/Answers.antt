@@ -1,7 +1,8 @@
 use Rattle.std.proofs.Common.{◌≡◌, ◌<◌, false, [], ◌∷◌, ◌++◌, reverse, replicate, length, Contains, subst, sym, ap, ◌∙◌, arith, rules}
 use Rattle.std.proofs.VecSteps.Gaps.{with_items_is}
 use Rattle.std.proofs.lemmas.List.{length-replicate}
-use Rattle.clause_check.specs.Derivations.{clauses_of, clause_at}
+use Rattle.clause_check.specs.Derivations.{clause_at}
+use Rattle.cdcl.specs.Reasons.{clauses_in}
 use Rattle.cdcl.specs.Marking.{Marks, IsSeen, open_count}
 use Rattle.cdcl.proofs.FollowLemmas.{explains_start, assigned_from_false}
 use Rattle.cdcl.proofs.ConflictLemmas.{followed_from, seen_within, count_none_seen}
@@ -9,12 +10,12 @@ use Rattle.cdcl.proofs.conflict.Conflict.new.Goals as goal
 
 pub mark_clause-pending-requires-clause-assigned : goal.mark_clause-pending-requires-clause-assigned
 mark_clause-pending-requires-clause-assigned c l h =
-    assigned_from_false c.args.trail.now.entries l (c.requires.conflict l (subst (λ k. Contains k l) c.clause_at-clause.ensures.is h))
+    assigned_from_false c.args.reasons.now.trail.now.entries l (c.requires.conflict l (subst (λ k. Contains k l) c.clause_at-clause.ensures.is h))
 
 pub returns-clause-followed : goal.returns-clause-followed
 returns-clause-followed c =
-    let clauses = clauses_of c.args.cnf.now.clauses c.args.steps.now in
-    let entries = c.args.trail.now.entries in
+    let clauses = clauses_in c.args.reasons.now in
+    let entries = c.args.reasons.now.trail.now.entries in
     let start_seen : c.in_ok-seen.seen.items ≡ replicate (length entries) false = search rules in
     let before : c.as_mut_slice.result.now ≡ replicate (length entries) false = c.as_mut_slice.ensures.value ∙ start_seen in
     let at = c.clause_at-clause.ensures in

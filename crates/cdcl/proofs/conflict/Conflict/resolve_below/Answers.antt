@@ -1,7 +1,8 @@
 use Rattle.std.proofs.Common.{◌≡◌, ◌∷◌, false, reverse, length, Contains, subst, sym, ap, ◌∙◌, set, None, length-set}
 use Rattle.std.proofs.VecSteps.Gaps.{with_items_is}
-use Rattle.clause_check.specs.Derivations.{clauses_of, clause_at}
+use Rattle.clause_check.specs.Derivations.{clause_at}
 use Rattle.cdcl.specs.declared.trail.Entry.{Entry}
+use Rattle.cdcl.specs.Reasons.{clauses_in}
 use Rattle.cdcl.specs.Marking.{Marks}
 use Rattle.cdcl.proofs.FollowLemmas.{alone_below, assigned_from_forced, cut_below, explains_below}
 use Rattle.cdcl.proofs.ConflictLemmas.{reverse_push}
@@ -16,13 +17,13 @@ clause_at-clause-requires-clause-number c = (c.requires.forced z).known
 
 pub mark_clause-opened-requires-clause-assigned : goal.mark_clause-opened-requires-clause-assigned
 mark_clause-opened-requires-clause-assigned c l h =
-    assigned_from_forced (clauses_of c.args.cnf.now.clauses c.args.steps.now) c.args.trail.now.entries c.args.place c.requires.within z c.args.reason (c.requires.forced z) l (subst (λ k. Contains k l) c.clause_at-clause.ensures.is h)
+    assigned_from_forced (clauses_in c.args.reasons.now) c.args.reasons.now.trail.now.entries c.args.place c.requires.within z c.args.reason (c.requires.forced z) l (subst (λ k. Contains k l) c.clause_at-clause.ensures.is h)
 
 pub returns : goal.returns
 returns c cut was =
-    let clauses = clauses_of c.args.cnf.now.clauses c.args.steps.now in
-    let entries = c.args.trail.now.entries in
-    let vars = c.args.trail.now.vars in
+    let clauses = clauses_in c.args.reasons.now in
+    let entries = c.args.reasons.now.trail.now.entries in
+    let vars = c.args.reasons.now.trail.now.vars in
     let p = c.args.place in
     let seen = c.mark_clause-opened.new.seen in
     let old = c.args.self.now.seen.items in

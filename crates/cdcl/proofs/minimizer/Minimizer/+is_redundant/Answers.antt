@@ -2,11 +2,11 @@ use Rattle.std.proofs.Common.{◌≡◌, List, Some, None, Contains, get_or, tak
 use Rattle.std.specs.Option.{IfSome}
 use Rattle.std.proofs.lemmas.List.Elements.{Contains-get_or}
 use Rattle.clause_check.specs.declared.literal.Lit.{Lit}
-use Rattle.clause_check.specs.Derivations.{clauses_of}
 use Rattle.cdcl.specs.declared.trail.Entry.{Entry}
+use Rattle.cdcl.specs.Reasons.{clauses_in}
 use Rattle.cdcl.specs.Marking.{IsForcedBy}
 use Rattle.cdcl.proofs.FollowLemmas.{assigned_from_forced}
-use Rattle.cdcl.proofs.conflict.+is_redundant.Goals as goal
+use Rattle.cdcl.proofs.minimizer.Minimizer.+is_redundant.Goals as goal
 
 abbrev y : Lit
 y = record { var = 0; negative = false }
@@ -16,8 +16,8 @@ z = record { lit = y; reason = None }
 
 pub place-other-requires : goal.place-other-requires
 place-other-requires t c =
-    let entries = c.args.trail.now.entries in
-    let clauses = clauses_of c.args.cnf.now.clauses c.args.steps.now in
+    let entries = c.args.reasons.now.trail.now.entries in
+    let clauses = clauses_in c.args.reasons.now in
     let p = c.args.place in
     let items = c.clause_at-lit-items.result.now in
     let lit = get_or items c.loop-lit.lit-index y in
