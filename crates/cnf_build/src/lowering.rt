@@ -7,7 +7,7 @@ ghost use Rattle.word_dag.specs.Nodes.{FitsNode};
 ghost use Rattle.cnf_build.specs.Lower.{node_made, lits_at, low_of};
 ghost use Rattle.cnf_build.specs.Table.{AllShort};
 
-use crate::operations::{operation, top_bit};
+use crate::operations::{Operands, operation, top_bit};
 use bit_circuits::{Bitwise, Gate, add_gate, false_lit, gate_row, inverted, true_lit};
 use clause_check::Lit;
 use std::alloc::{AllocError, Global};
@@ -137,14 +137,11 @@ pub fn node_lits(
         Node::Free { width, .. } => free_row(alloc, gates, *width),
         Node::Const(word) => const_row(alloc, word.width(), word.value()),
         Node::Two { op, width, a, b } => {
-            operation(
-                alloc,
-                gates,
-                *op,
-                *width,
-                operand(table, *a),
-                operand(table, *b),
-            )
+            let operands = Operands {
+                a: operand(table, *a),
+                b: operand(table, *b),
+            };
+            operation(alloc, gates, *op, *width, &operands)
         }
         Node::Not { a, .. } => inverted(alloc, operand(table, *a)),
         Node::Slice { width, a, lo } => sliced(alloc, operand(table, *a), *lo, *width),

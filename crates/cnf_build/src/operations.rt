@@ -12,6 +12,13 @@ use clause_check::Lit;
 use std::alloc::{AllocError, Global};
 use word_dag::Op;
 
+/// The literals of an operation's operands.
+#[derive(Clone, Copy)]
+pub struct Operands<'a> {
+    pub a: &'a [Lit],
+    pub b: &'a [Lit],
+}
+
 /// The top bit of a word.
 #[tactic(auto, using(crate::proofs::Tops::tops))]
 pub fn top_bit(a: &[Lit]) -> Lit
@@ -50,22 +57,25 @@ fn single(alloc: Global, lit: Lit) -> Result<Vec<Lit>, AllocError>
 fn or_row(
     alloc: Global,
     gates: &mut Vec<Gate>,
-    a: &[Lit],
-    b: &[Lit],
+    operands: &Operands<'_>,
 ) -> Result<Vec<Lit>, AllocError>
-    requires { length a.now ≡ length b.now }
-    ensures { IfOk result (λ r. Makes gates.old.items gates.new.items r.items (or_made (length gates.old.items) a.now b.now)) }
+    requires { length operands.now.a.now ≡ length operands.now.b.now }
+    ensures { IfOk result (λ r. Makes gates.old.items gates.new.items r.items (or_made (length gates.old.items) operands.now.a.now operands.now.b.now)) }
 {
-    let neither = gate_row(alloc, gates, Bitwise::Neither, a, b)?;
+    let neither = gate_row(alloc, gates, Bitwise::Neither, operands.a, operands.b)?;
     inverted(alloc, &neither)
 }
 
 // Whether a is below b, unsigned: no carry goes out of the difference.
-fn less(alloc: Global, gates: &mut Vec<Gate>, a: &[Lit], b: &[Lit]) -> Result<Vec<Lit>, AllocError>
-    requires { length a.now ≡ length b.now }
-    ensures { IfOk result (λ r. Makes gates.old.items gates.new.items r.items (op_made (length gates.old.items) Op.Ult a.now b.now)) }
+fn less(
+    alloc: Global,
+    gates: &mut Vec<Gate>,
+    operands: &Operands<'_>,
+) -> Result<Vec<Lit>, AllocError>
+    requires { length operands.now.a.now ≡ length operands.now.b.now }
+    ensures { IfOk result (λ r. Makes gates.old.items gates.new.items r.items (op_made (length gates.old.items) Op.Ult operands.now.a.now operands.now.b.now)) }
 {
-    let difference = subtract(alloc, gates, a, b)?;
+    let difference = subtract(alloc, gates, operands.a, operands.b)?;
     single(alloc, difference.carry.negated())
 }
 
@@ -74,15 +84,18 @@ fn less(alloc: Global, gates: &mut Vec<Gate>, a: &[Lit], b: &[Lit]) -> Result<Ve
 fn signed_less(
     alloc: Global,
     gates: &mut Vec<Gate>,
-    a: &[Lit],
-    b: &[Lit],
+    operands: &Operands<'_>,
 ) -> Result<Vec<Lit>, AllocError>
-    requires { length a.now ≡ length b.now }
-    ensures { IfOk result (λ r. Makes gates.old.items gates.new.items r.items (op_made (length gates.old.items) Op.Slt a.now b.now)) }
+    requires { length operands.now.a.now ≡ length operands.now.b.now }
+    ensures { IfOk result (λ r. Makes gates.old.items gates.new.items r.items (op_made (length gates.old.items) Op.Slt operands.now.a.now operands.now.b.now)) }
 {
-    let a = turned(alloc, a)?;
-    let b = turned(alloc, b)?;
-    less(alloc, gates, &a, &b)
+    let a = turned(alloc, operands.a)?;
+    let b = turned(alloc, operands.b)?;
+    let operands = Operands {
+        a: a.as_slice(),
+        b: b.as_slice(),
+    };
+    less(alloc, gates, &operands)
 }
 
 /// The circuit of an operation.
@@ -91,13 +104,13 @@ pub fn operation(
     gates: &mut Vec<Gate>,
     op: Op,
     width: u8,
-    a: &[Lit],
-    b: &[Lit],
+    operands: &Operands<'_>,
 ) -> Result<Vec<Lit>, AllocError>
-    requires fits { FitsOp op width (length a.now) (length b.now) }
-    requires short { length b.now ≤ 64 }
-    ensures { IfOk result (λ r. Makes gates.old.items gates.new.items r.items (op_made (length gates.old.items) op a.now b.now)) }
+    requires fits { FitsOp op width (length operands.now.a.now) (length operands.now.b.now) }
+    requires short { length operands.now.b.now ≤ 64 }
+    ensures { IfOk result (λ r. Makes gates.old.items gates.new.items r.items (op_made (length gates.old.items) op operands.now.a.now operands.now.b.now)) }
 {
+    let Operands { a, b } = *operands;
     match op {
         Op::Add => {
             let sum = add(alloc, gates, false_lit(), a, b)?;
@@ -109,13 +122,13 @@ pub fn operation(
         }
         Op::Mul => multiply(alloc, gates, a, b),
         Op::And => gate_row(alloc, gates, Bitwise::Both, a, b),
-        Op::Or => or_row(alloc, gates, a, b),
+        Op::Or => or_row(alloc, gates, operands),
         Op::Xor => gate_row(alloc, gates, Bitwise::Differ, a, b),
         Op::Shl => shift(alloc, gates, Direction::Up, a, b),
         Op::Shr => shift(alloc, gates, Direction::Down(false_lit()), a, b),
         Op::Sar => shift(alloc, gates, Direction::Down(top_bit(a)), a, b),
-        Op::Ult => less(alloc, gates, a, b),
-        Op::Slt => signed_less(alloc, gates, a, b),
+        Op::Ult => less(alloc, gates, operands),
+        Op::Slt => signed_less(alloc, gates, operands),
         Op::Eq => {
             let same = equal(gates, a, b)?;
             single(alloc, same)
