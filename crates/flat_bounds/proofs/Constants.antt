@@ -48,34 +48,34 @@ module _ (test : Name → Bool) where
   unary_parts tree op a x r is i f = subst (λ t. Parts t r) (sym is) (subst (λ t. Parts t r) i f)
 
   -- two parts, and what both together are asked
-  both : (P : Expr → Expr → Type 0) (a b x y x' y' : Expr) (p q m n r : Bool) → x ≡ a → y ≡ b → x' ≡ a → y' ≡ b → Parts x p → Parts y q → Decides (P x' y') m → n ≡ (q && m) → r ≡ (p && n) →
+  both : (P : Expr → Expr → Type 0) (a b x y x' y' : Expr) (p q m r : Bool) → x ≡ a → y ≡ b → x' ≡ a → y' ≡ b → Parts x p → Parts y q → Decides (P x' y') m → r ≡ (p && (q && m)) →
       Decides (HasConstantParts test a × HasConstantParts test b × P a b) r
-  both P a b x y x' y' p q m n r i j i' j' f g k h l =
+  both P a b x y x' y' p q m r i j i' j' f g k l =
       let more = subst (λ t. Decides (P t b) m) i' (subst (λ t. Decides (P x' t) m) j' k) in
-      let right = decides_both (HasConstantParts test b) (P a b) q m n (subst (λ t. Parts t q) j g) more h in
-      let all = decides_both (HasConstantParts test a) (HasConstantParts test b × P a b) p n r (subst (λ t. Parts t p) i f) right l in
+      let right = decides_both (HasConstantParts test b) (P a b) q m (q && m) (subst (λ t. Parts t q) j g) more refl in
+      let all = decides_both (HasConstantParts test a) (HasConstantParts test b × P a b) p (q && m) r (subst (λ t. Parts t p) i f) right l in
       decides_as (HasConstantParts test a × (HasConstantParts test b × P a b)) (HasConstantParts test a × HasConstantParts test b × P a b) r (λ z. (z.0, z.1.0, z.1.1)) (λ z. (z.0, (z.1, z.2))) all
 
-  pub part_parts : (tree : Expr) (s : Read) (w : Span) (a b x y x' y' : Expr) (p q m n r : Bool) → tree ≡ e.Part s w a b → x ≡ a → y ≡ b → x' ≡ a → y' ≡ b → Parts x p → Parts y q →
-      Decides (IsPartConstant test w x' y') m → n ≡ (q && m) → r ≡ (p && n) → Parts tree r
+  pub part_parts : (tree : Expr) (s : Read) (w : Span) (a b x y x' y' : Expr) (p q m r : Bool) → tree ≡ e.Part s w a b → x ≡ a → y ≡ b → x' ≡ a → y' ≡ b → Parts x p → Parts y q →
+      Decides (IsPartConstant test w x' y') m → r ≡ (p && (q && m)) → Parts tree r
   unfolding shape-the_row-Expr-0 hidden-the_row-Expr-0 denote.Hole.Carrier.hidden
-  part_parts tree s w a b x y x' y' p q m n r is i j i' j' f g k h l = subst (λ t. Parts t r) (sym is) (both (IsPartConstant test w) a b x y x' y' p q m n r i j i' j' f g k h l)
+  part_parts tree s w a b x y x' y' p q m r is i j i' j' f g k l = subst (λ t. Parts t r) (sym is) (both (IsPartConstant test w) a b x y x' y' p q m r i j i' j' f g k l)
 
-  pub constant_part_parts : (tree : Expr) (s : Constant) (w : Span) (a b x y x' y' : Expr) (p q m n r : Bool) → tree ≡ e.ConstantPart s w a b → x ≡ a → y ≡ b → x' ≡ a → y' ≡ b → Parts x p → Parts y q →
-      Decides (IsPartConstant test w x' y') m → n ≡ (q && m) → r ≡ (p && n) → Parts tree r
+  pub constant_part_parts : (tree : Expr) (s : Constant) (w : Span) (a b x y x' y' : Expr) (p q m r : Bool) → tree ≡ e.ConstantPart s w a b → x ≡ a → y ≡ b → x' ≡ a → y' ≡ b → Parts x p → Parts y q →
+      Decides (IsPartConstant test w x' y') m → r ≡ (p && (q && m)) → Parts tree r
   unfolding shape-the_row-Expr-0 hidden-the_row-Expr-0 denote.Hole.Carrier.hidden
-  constant_part_parts tree s w a b x y x' y' p q m n r is i j i' j' f g k h l = subst (λ t. Parts t r) (sym is) (both (IsPartConstant test w) a b x y x' y' p q m n r i j i' j' f g k h l)
+  constant_part_parts tree s w a b x y x' y' p q m r is i j i' j' f g k l = subst (λ t. Parts t r) (sym is) (both (IsPartConstant test w) a b x y x' y' p q m r i j i' j' f g k l)
 
-  pub binary_parts : (tree : Expr) (op : Binary) (a b x y x' y' : Expr) (p q m n r : Bool) → tree ≡ e.Binary op a b → x ≡ a → y ≡ b → x' ≡ a → y' ≡ b → Parts x p → Parts y q →
-      Decides (IsDivisionConstant test op x' y') m → n ≡ (q && m) → r ≡ (p && n) → Parts tree r
+  pub binary_parts : (tree : Expr) (op : Binary) (a b x y x' y' : Expr) (p q m r : Bool) → tree ≡ e.Binary op a b → x ≡ a → y ≡ b → x' ≡ a → y' ≡ b → Parts x p → Parts y q →
+      Decides (IsDivisionConstant test op x' y') m → r ≡ (p && (q && m)) → Parts tree r
   unfolding shape-the_row-Expr-0 hidden-the_row-Expr-0 denote.Hole.Carrier.hidden
-  binary_parts tree op a b x y x' y' p q m n r is i j i' j' f g k h l = subst (λ t. Parts t r) (sym is) (both (IsDivisionConstant test op) a b x y x' y' p q m n r i j i' j' f g k h l)
+  binary_parts tree op a b x y x' y' p q m r is i j i' j' f g k l = subst (λ t. Parts t r) (sym is) (both (IsDivisionConstant test op) a b x y x' y' p q m r i j i' j' f g k l)
 
-  pub choice_parts : (tree : Expr) (c a b w x y : Expr) (o p q s r : Bool) → tree ≡ e.Choice c a b → w ≡ c → x ≡ a → y ≡ b → Parts w o → Parts x p → Parts y q → s ≡ (p && q) → r ≡ (o && s) → Parts tree r
+  pub choice_parts : (tree : Expr) (c a b w x y : Expr) (o p q r : Bool) → tree ≡ e.Choice c a b → w ≡ c → x ≡ a → y ≡ b → Parts w o → Parts x p → Parts y q → r ≡ (o && (p && q)) → Parts tree r
   unfolding shape-the_row-Expr-0 hidden-the_row-Expr-0 denote.Hole.Carrier.hidden
-  choice_parts tree c a b w x y o p q s r is u i j f g h k l =
-      let branches = decides_both (HasConstantParts test a) (HasConstantParts test b) p q s (subst (λ t. Parts t p) i g) (subst (λ t. Parts t q) j h) k in
-      let all = decides_both (HasConstantParts test c) (HasConstantParts test a × HasConstantParts test b) o s r (subst (λ t. Parts t o) u f) branches l in
+  choice_parts tree c a b w x y o p q r is u i j f g h l =
+      let branches = decides_both (HasConstantParts test a) (HasConstantParts test b) p q (p && q) (subst (λ t. Parts t p) i g) (subst (λ t. Parts t q) j h) refl in
+      let all = decides_both (HasConstantParts test c) (HasConstantParts test a × HasConstantParts test b) o (p && q) r (subst (λ t. Parts t o) u f) branches l in
       subst (λ t. Parts t r) (sym is)
       (decides_as (HasConstantParts test c × (HasConstantParts test a × HasConstantParts test b)) (HasConstantParts test c × HasConstantParts test a × HasConstantParts test b) r (λ z. (z.0, z.1.0, z.1.1)) (λ z. (z.0, (z.1, z.2))) all)
 
@@ -83,13 +83,13 @@ module _ (test : Name → Bool) where
   unfolding shape-the_row-Expr-1 hidden-the_row-Expr-1 denote.Hole.Carrier.hidden
   concat_parts tree xs ys r is i f = subst (λ t. Parts t r) (sym is) (subst (λ P. Decides P r) (sym (listed xs)) (subst (λ zs. Decides (EachHasConstantParts test zs) r) i f))
 
-  pub repeat_parts : (tree a x x' : Expr) (xs ys : List Expr) (p q m n r : Bool) → tree ≡ e.Repeat a xs → x ≡ a → x' ≡ a → ys ≡ xs → Parts x p → Decides (NamesOnly test x') q →
-      Decides (EachHasConstantParts test ys) m → n ≡ (q && m) → r ≡ (p && n) → Parts tree r
+  pub repeat_parts : (tree a x x' : Expr) (xs ys : List Expr) (p q m r : Bool) → tree ≡ e.Repeat a xs → x ≡ a → x' ≡ a → ys ≡ xs → Parts x p → Decides (NamesOnly test x') q →
+      Decides (EachHasConstantParts test ys) m → r ≡ (p && (q && m)) → Parts tree r
   unfolding shape-the_row-Expr-0 hidden-the_row-Expr-0 shape-the_row-Expr-1 hidden-the_row-Expr-1 denote.Hole.Carrier.hidden
-  repeat_parts tree a x x' xs ys p q m n r is i i' j f g k h l =
+  repeat_parts tree a x x' xs ys p q m r is i i' j f g k l =
       let row = subst (λ P. Decides P m) (sym (listed xs)) (subst (λ zs. Decides (EachHasConstantParts test zs) m) j k) in
-      let right = decides_both (NamesOnly test a) (AllHaveConstantParts test (hidden-the_row-Expr-1 xs)) q m n (subst (λ t. Decides (NamesOnly test t) q) i' g) row h in
-      let all = decides_both (HasConstantParts test a) (NamesOnly test a × AllHaveConstantParts test (hidden-the_row-Expr-1 xs)) p n r (subst (λ t. Parts t p) i f) right l in
+      let right = decides_both (NamesOnly test a) (AllHaveConstantParts test (hidden-the_row-Expr-1 xs)) q m (q && m) (subst (λ t. Decides (NamesOnly test t) q) i' g) row refl in
+      let all = decides_both (HasConstantParts test a) (NamesOnly test a × AllHaveConstantParts test (hidden-the_row-Expr-1 xs)) p (q && m) r (subst (λ t. Parts t p) i f) right l in
       subst (λ t. Parts t r) (sym is)
       (decides_as (HasConstantParts test a × (NamesOnly test a × AllHaveConstantParts test (hidden-the_row-Expr-1 xs))) (HasConstantParts test a × NamesOnly test a × AllHaveConstantParts test (hidden-the_row-Expr-1 xs)) r
       (λ z. (z.0, z.1.0, z.1.1)) (λ z. (z.0, (z.1, z.2))) all)

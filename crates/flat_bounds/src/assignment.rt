@@ -15,7 +15,7 @@ ghost use Rattle.flat_bounds.specs.Taken.{Fails};
 ghost use Rattle.flat_bounds.specs.Stores.{NamesSignals, IsSoundStore, BreaksStore};
 
 use crate::side::Side;
-use crate::store::check_store;
+use crate::store::Store;
 use crate::violation::Violation;
 use elab_drive::{Part, parts_of};
 use flat_instances::Scope;
@@ -49,14 +49,12 @@ fn check_assigned(
     ensures err { IfErr result (Fails (BreaksStore d.Continuous (place_of (scope_meant scope.now)) (assigned_meant assigned.now))) }
 {
     let parts = target_parts(alloc, assigned.left)?;
-    check_store(
-        alloc,
-        Side::Continuous,
-        &parts,
-        assigned.right,
-        &scope.params,
-        rest,
-    )
+    let store = Store {
+        side: Side::Continuous,
+        parts: &parts,
+        right: assigned.right,
+    };
+    store.check(alloc, &scope.params, rest)
 }
 
 fn check_each(

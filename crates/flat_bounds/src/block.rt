@@ -14,7 +14,7 @@ ghost use Rattle.flat_bounds.specs.Sites.{site_meant};
 use crate::cases::check_cases;
 use crate::side::Side;
 use crate::site::{Site, sites_of};
-use crate::store::check_store;
+use crate::store::Store;
 use crate::taken::check_alone;
 use crate::violation::Violation;
 use elab_drive::parts_of;
@@ -40,7 +40,12 @@ fn check_site(
         Site::Cases(subject, items) => check_cases(alloc, subject, items, &scope.params, rest),
         Site::Store(left, right) => {
             let parts = parts_of(alloc, left)?;
-            check_store(alloc, Side::Procedural, &parts, right, &scope.params, rest)
+            let store = Store {
+                side: Side::Procedural,
+                parts: &parts,
+                right,
+            };
+            store.check(alloc, &scope.params, rest)
         }
     }
 }

@@ -16,6 +16,12 @@ fn both(a: bool, b: bool) -> bool
     a && b
 }
 
+fn all_three(a: bool, b: bool, c: bool) -> bool
+    ensures { result ≡ (a && (b && c)) }
+{
+    a && b && c
+}
+
 /// Whether an expression names parameters alone.
 pub fn is_constant(expr: &Expr, params: &Valuation) -> bool
     ensures { MatchBool result (NamesOnly (is_known params.now) expr.now) (NamesOnly (is_known params.now) expr.now → ⊥) }
@@ -55,46 +61,36 @@ pub fn has_constant_parts(expr: &Expr, params: &Valuation) -> bool
         Expr::Number(_) => true,
         Expr::Name(_) => true,
         Expr::Select(_, index) => has_constant_parts(index.get(), params),
-        Expr::Part(_, span, a, b) => {
-            let right = both(
-                has_constant_parts(b.get(), params),
-                is_part_constant(*span, a.get(), b.get(), params),
-            );
-            both(has_constant_parts(a.get(), params), right)
-        }
+        Expr::Part(_, span, a, b) => all_three(
+            has_constant_parts(a.get(), params),
+            has_constant_parts(b.get(), params),
+            is_part_constant(*span, a.get(), b.get(), params),
+        ),
         Expr::ConstantSelect(_, index) => has_constant_parts(index.get(), params),
-        Expr::ConstantPart(_, span, a, b) => {
-            let right = both(
-                has_constant_parts(b.get(), params),
-                is_part_constant(*span, a.get(), b.get(), params),
-            );
-            both(has_constant_parts(a.get(), params), right)
-        }
+        Expr::ConstantPart(_, span, a, b) => all_three(
+            has_constant_parts(a.get(), params),
+            has_constant_parts(b.get(), params),
+            is_part_constant(*span, a.get(), b.get(), params),
+        ),
         Expr::Cast(_, inner) => has_constant_parts(inner.get(), params),
         Expr::Paren(inner) => has_constant_parts(inner.get(), params),
         Expr::Concat(parts) => all_have_constant_parts(parts.as_slice(), params),
-        Expr::Repeat(count, parts) => {
-            let right = both(
-                is_constant(count.get(), params),
-                all_have_constant_parts(parts.as_slice(), params),
-            );
-            both(has_constant_parts(count.get(), params), right)
-        }
+        Expr::Repeat(count, parts) => all_three(
+            has_constant_parts(count.get(), params),
+            is_constant(count.get(), params),
+            all_have_constant_parts(parts.as_slice(), params),
+        ),
         Expr::Unary(_, a) => has_constant_parts(a.get(), params),
-        Expr::Binary(op, a, b) => {
-            let right = both(
-                has_constant_parts(b.get(), params),
-                is_division_constant(*op, a.get(), b.get(), params),
-            );
-            both(has_constant_parts(a.get(), params), right)
-        }
-        Expr::Choice(condition, a, b) => {
-            let branches = both(
-                has_constant_parts(a.get(), params),
-                has_constant_parts(b.get(), params),
-            );
-            both(has_constant_parts(condition.get(), params), branches)
-        }
+        Expr::Binary(op, a, b) => all_three(
+            has_constant_parts(a.get(), params),
+            has_constant_parts(b.get(), params),
+            is_division_constant(*op, a.get(), b.get(), params),
+        ),
+        Expr::Choice(condition, a, b) => all_three(
+            has_constant_parts(condition.get(), params),
+            has_constant_parts(a.get(), params),
+            has_constant_parts(b.get(), params),
+        ),
     }
 }
 

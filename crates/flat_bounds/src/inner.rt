@@ -29,33 +29,18 @@ use outside::Text;
 use std::alloc::{AllocError, Global};
 use vlog_tree::{Expr, Module, Valuation};
 
-// The scope of an instance. Refused only for want of memory.
-fn inner_scope<'a>(
+/// The scope that instances stand in, with what its names stand for.
+#[derive(Drop)]
+struct Parent<'a, 'b> {
     alloc: Global,
-    modules: &Modules<'a>,
-    scope: &Scope<'a>,
-    inner: &Inner<'a>,
-) -> Result<Scope<'a>, Violation>
-    requires { IsSoundInner modules.now (scope_meant scope.now) (inner_meant inner.now) }
-    ensures ok { IfOk result (λ t. child modules.now (scope_meant scope.now) (inner_meant inner.now) ≡ Some (scope_meant t)) }
-    ensures err { IfErr result (λ w. w ≡ Memory) }
-{
-    match modules.at(inner.of_module.bytes()) {
-        Some(text) => {
-            let prefix = inner_prefix(alloc, scope.prefix.bytes(), inner.name.bytes())?;
-            let given = overriding(alloc, text, inner.overrides)?;
-            match params_of(alloc, text, &given, &scope.params) {
-                Ok(params) => Ok(Scope {
-                    prefix,
-                    text,
-                    params,
-                }),
-                Err(ParamFault::Bad(_, _)) => unreachable!(),
-                Err(ParamFault::Memory) => Err(Violation::Memory),
-            }
-        }
-        None => unreachable!(),
-    }
+    modules: &'b Modules<'a>,
+    scope: &'b Scope<'a>,
+    /// What its names stand for where its signals are 0.
+    rest: &'b Valuation,
+    /// The names of its signals.
+    signals: &'b Names<'a>,
+    /// The name that faults have for it.
+    path: &'b [u8],
 }
 
 // The length of an input of an instance's scope; none for any other port. A refusal's fault stands at that scope.
@@ -77,25 +62,15 @@ fn port_width(alloc: Global, child: &Scope<'_>, port: &Decl<'_>) -> Result<Optio
     }
 }
 
-// What an input of so many bits takes, or else what an output is assigned to, keeps the rules.
-fn check_value(
+fn connections_of<'a>(
     alloc: Global,
-    scope: &Scope<'_>,
-    rest: &Valuation,
-    signals: &Names<'_>,
-    width: Option<u8>,
-    value: &Expr,
-) -> Result<(), Violation>
-    requires rest { rest.now ≡ at_rest (place_of (scope_meant scope.now)) }
-    requires signals { signals.now ≡ map decl_name (signals_in scope.now.text.now) }
-    requires most { IfSome width (λ n. n ≤ 64) }
-    ensures ok { OnOk result (IsSoundGiven (place_of (scope_meant scope.now)) value.now width) }
-    ensures err { IfErr result (Fails (BreaksGiven (place_of (scope_meant scope.now)) value.now width)) }
+    child: &Scope<'a>,
+    inner: &Inner<'a>,
+) -> Result<Vec<Given<'a>>, AllocError>
+    ensures { IfOk result (λ r. map given_meant r.items ≡ given_to (port_names child.now.text.now) inner.now.args.now) }
 {
-    match width {
-        Some(least) => check_stored(alloc, value, least, &scope.params, rest),
-        None => check_output(alloc, scope, rest, signals, value),
-    }
+    let names = port_names(alloc, child.text)?;
+    given_to(alloc, &names, inner.args)
 }
 
 /// The fault of what breaks a rule at a scope of this name.
@@ -110,97 +85,127 @@ pub fn named_fault(
     Ok(fault_of(name, violation))
 }
 
-// What is connected to one port of an instance keeps the rules.
-fn check_connection(
-    alloc: Global,
-    scope: &Scope<'_>,
-    rest: &Valuation,
-    signals: &Names<'_>,
-    path: &[u8],
-    child: &Scope<'_>,
-    ports: &Signals<'_>,
-    connection: &Given<'_>,
-) -> Result<(), FlatFault>
-    requires rest { rest.now ≡ at_rest (place_of (scope_meant scope.now)) }
-    requires signals { signals.now ≡ map decl_name (signals_in scope.now.text.now) }
-    requires ports { ports.now ≡ signals_in child.now.text.now }
-    ensures ok { OnOk result (IsSoundConnection (place_of (scope_meant scope.now)) (scope_meant child.now) (given_meant connection.now) (decl_at (signals_in child.now.text.now) connection.now.name.now)) }
-    ensures err { IfErr result (Refuses (IsConnectionFault path.now (scope_meant child.now) (BreaksConnection (place_of (scope_meant scope.now)) (scope_meant child.now) (given_meant connection.now) (decl_at (signals_in child.now.text.now) connection.now.name.now)))) }
-{
-    let port = match ports.at(connection.name.bytes()) {
-        Some(port) => port,
-        None => return Ok(()),
-    };
-    let width = match port_width(alloc, child, port) {
-        Ok(width) => width,
-        Err(fault) => return Err(fault),
-    };
-    match check_value(alloc, scope, rest, signals, width, connection.value) {
-        Ok(()) => Ok(()),
-        Err(violation) => Err(named_fault(alloc, path, violation)?),
-    }
-}
-
-fn connections_of<'a>(
-    alloc: Global,
-    child: &Scope<'a>,
-    inner: &Inner<'a>,
-) -> Result<Vec<Given<'a>>, AllocError>
-    ensures { IfOk result (λ r. map given_meant r.items ≡ given_to (port_names child.now.text.now) inner.now.args.now) }
-{
-    let names = port_names(alloc, child.text)?;
-    given_to(alloc, &names, inner.args)
-}
-
-// What is connected to the ports of an instance keeps the rules.
-fn check_connections<'a>(
-    alloc: Global,
-    scope: &Scope<'_>,
-    rest: &Valuation,
-    signals: &Names<'_>,
-    path: &[u8],
-    child: &Scope<'a>,
-    inner: &Inner<'a>,
-) -> Result<(), FlatFault>
-    requires rest { rest.now ≡ at_rest (place_of (scope_meant scope.now)) }
-    requires signals { signals.now ≡ map decl_name (signals_in scope.now.text.now) }
-    ensures ok { OnOk result (AreSoundConnections (place_of (scope_meant scope.now)) (scope_meant child.now) (inner_meant inner.now)) }
-    ensures err { IfErr result (Refuses (IsConnectionFault path.now (scope_meant child.now) (SomeConnectionBreaks (place_of (scope_meant scope.now)) (scope_meant child.now) (inner_meant inner.now)))) }
-{
-    let ports = Signals::of(alloc, child.text)?;
-    let given = connections_of(alloc, child, inner)?;
-    for connection in &given {
-        match check_connection(alloc, scope, rest, signals, path, child, &ports, connection) {
-            Ok(()) => {}
-            Err(fault) => return Err(fault),
+impl<'a> Parent<'a, '_> {
+    // The scope of an instance. Refused only for want of memory.
+    fn inner_scope(&self, inner: &Inner<'a>) -> Result<Scope<'a>, Violation>
+        requires { IsSoundInner self.now.modules.now (scope_meant self.now.scope.now) (inner_meant inner.now) }
+        ensures ok { IfOk result (λ t. child self.now.modules.now (scope_meant self.now.scope.now) (inner_meant inner.now) ≡ Some (scope_meant t)) }
+        ensures err { IfErr result (λ w. w ≡ Memory) }
+    {
+        match self.modules.at(inner.of_module.bytes()) {
+            Some(text) => {
+                let prefix = inner_prefix(
+                    self.alloc,
+                    self.scope.prefix.bytes(),
+                    inner.name.bytes(),
+                )?;
+                let given = overriding(self.alloc, text, inner.overrides)?;
+                match params_of(self.alloc, text, &given, &self.scope.params) {
+                    Ok(params) => Ok(Scope {
+                        prefix,
+                        text,
+                        params,
+                    }),
+                    Err(ParamFault::Bad(_, _)) => unreachable!(),
+                    Err(ParamFault::Memory) => Err(Violation::Memory),
+                }
+            }
+            None => unreachable!(),
         }
     }
-    Ok(())
-}
 
-// What is connected to an instance keeps the rules.
-fn check_inner<'a>(
-    alloc: Global,
-    modules: &Modules<'a>,
-    scope: &Scope<'a>,
-    rest: &Valuation,
-    signals: &Names<'_>,
-    path: &[u8],
-    inner: &Inner<'a>,
-) -> Result<(), FlatFault>
-    requires sound { IsSoundInner modules.now (scope_meant scope.now) (inner_meant inner.now) }
-    requires rest { rest.now ≡ at_rest (place_of (scope_meant scope.now)) }
-    requires signals { signals.now ≡ map decl_name (signals_in scope.now.text.now) }
-    ensures ok { OnOk result (HasSoundConnections modules.now (scope_meant scope.now) (inner_meant inner.now)) }
-    ensures err { IfErr result (Refuses (IsInnerFault modules.now path.now (scope_meant scope.now) (inner_meant inner.now))) }
-{
-    let child = match inner_scope(alloc, modules, scope, inner) {
-        Ok(child) => child,
-        Err(_) => return Err(FlatFault::Memory),
-    };
-    match check_connections(alloc, scope, rest, signals, path, &child, inner) {
-        Ok(()) => Ok(()),
-        Err(fault) => Err(fault),
+    // What an input of so many bits takes, or else what an output is assigned to, keeps the rules.
+    fn check_value(&self, width: Option<u8>, value: &Expr) -> Result<(), Violation>
+        requires rest { self.now.rest.now ≡ at_rest (place_of (scope_meant self.now.scope.now)) }
+        requires signals { self.now.signals.now ≡ map decl_name (signals_in self.now.scope.now.text.now) }
+        requires most { IfSome width (λ n. n ≤ 64) }
+        ensures ok { OnOk result (IsSoundGiven (place_of (scope_meant self.now.scope.now)) value.now width) }
+        ensures err { IfErr result (Fails (BreaksGiven (place_of (scope_meant self.now.scope.now)) value.now width)) }
+    {
+        match width {
+            Some(least) => check_stored(self.alloc, value, least, &self.scope.params, self.rest),
+            None => check_output(self.alloc, self.scope, self.rest, self.signals, value),
+        }
+    }
+
+    // What is connected to one port of an instance keeps the rules.
+    fn check_connection(
+        &self,
+        child: &Scope<'_>,
+        ports: &Signals<'_>,
+        connection: &Given<'_>,
+    ) -> Result<(), FlatFault>
+        requires rest { self.now.rest.now ≡ at_rest (place_of (scope_meant self.now.scope.now)) }
+        requires signals { self.now.signals.now ≡ map decl_name (signals_in self.now.scope.now.text.now) }
+        requires ports { ports.now ≡ signals_in child.now.text.now }
+        ensures ok { OnOk result (IsSoundConnection (place_of (scope_meant self.now.scope.now)) (scope_meant child.now) (given_meant connection.now) (decl_at (signals_in child.now.text.now) connection.now.name.now)) }
+        ensures err { IfErr result (Refuses (IsConnectionFault self.now.path.now (scope_meant child.now) (BreaksConnection (place_of (scope_meant self.now.scope.now)) (scope_meant child.now) (given_meant connection.now) (decl_at (signals_in child.now.text.now) connection.now.name.now)))) }
+    {
+        let port = match ports.at(connection.name.bytes()) {
+            Some(port) => port,
+            None => return Ok(()),
+        };
+        let width = match port_width(self.alloc, child, port) {
+            Ok(width) => width,
+            Err(fault) => return Err(fault),
+        };
+        match self.check_value(width, connection.value) {
+            Ok(()) => Ok(()),
+            Err(violation) => Err(named_fault(self.alloc, self.path, violation)?),
+        }
+    }
+
+    // What is connected to the ports of an instance keeps the rules.
+    fn check_connections(&self, child: &Scope<'a>, inner: &Inner<'a>) -> Result<(), FlatFault>
+        requires rest { self.now.rest.now ≡ at_rest (place_of (scope_meant self.now.scope.now)) }
+        requires signals { self.now.signals.now ≡ map decl_name (signals_in self.now.scope.now.text.now) }
+        ensures ok { OnOk result (AreSoundConnections (place_of (scope_meant self.now.scope.now)) (scope_meant child.now) (inner_meant inner.now)) }
+        ensures err { IfErr result (Refuses (IsConnectionFault self.now.path.now (scope_meant child.now) (SomeConnectionBreaks (place_of (scope_meant self.now.scope.now)) (scope_meant child.now) (inner_meant inner.now)))) }
+    {
+        let ports = Signals::of(self.alloc, child.text)?;
+        let given = connections_of(self.alloc, child, inner)?;
+        for connection in &given {
+            match self.check_connection(child, &ports, connection) {
+                Ok(()) => {}
+                Err(fault) => return Err(fault),
+            }
+        }
+        Ok(())
+    }
+
+    // What is connected to an instance keeps the rules.
+    fn check_inner(&self, inner: &Inner<'a>) -> Result<(), FlatFault>
+        requires sound { IsSoundInner self.now.modules.now (scope_meant self.now.scope.now) (inner_meant inner.now) }
+        requires rest { self.now.rest.now ≡ at_rest (place_of (scope_meant self.now.scope.now)) }
+        requires signals { self.now.signals.now ≡ map decl_name (signals_in self.now.scope.now.text.now) }
+        ensures ok { OnOk result (HasSoundConnections self.now.modules.now (scope_meant self.now.scope.now) (inner_meant inner.now)) }
+        ensures err { IfErr result (Refuses (IsInnerFault self.now.modules.now self.now.path.now (scope_meant self.now.scope.now) (inner_meant inner.now))) }
+    {
+        let child = match self.inner_scope(inner) {
+            Ok(child) => child,
+            Err(_) => return Err(FlatFault::Memory),
+        };
+        match self.check_connections(&child, inner) {
+            Ok(()) => Ok(()),
+            Err(fault) => Err(fault),
+        }
+    }
+
+    fn check_each(&self, instances: &[Inner<'a>]) -> Result<(), FlatFault>
+        requires sound { HasSoundInners self.now.modules.now (scope_meant self.now.scope.now) }
+        requires rest { self.now.rest.now ≡ at_rest (place_of (scope_meant self.now.scope.now)) }
+        requires signals { self.now.signals.now ≡ map decl_name (signals_in self.now.scope.now.text.now) }
+        requires instances { map inner_meant instances.now ≡ instances_in self.now.scope.now.text.now }
+        ensures ok { OnOk result ((i : Instance) → Among (map inner_meant instances.now) i → HasSoundConnections self.now.modules.now (scope_meant self.now.scope.now) i) }
+        ensures err { IfErr result (Refuses (IsSomeInnerFault self.now.modules.now self.now.path.now (scope_meant self.now.scope.now))) }
+    {
+        for inner in instances {
+            match self.check_inner(inner) {
+                Ok(()) => {}
+                Err(fault) => return Err(fault),
+            }
+        }
+        Ok(())
     }
 }
 
@@ -224,31 +229,6 @@ fn signal_names(alloc: Global, text: &Module) -> Result<Vec<&Text>, AllocError>
     Ok(all)
 }
 
-fn check_each<'a>(
-    alloc: Global,
-    modules: &Modules<'a>,
-    scope: &Scope<'a>,
-    rest: &Valuation,
-    signals: &Names<'_>,
-    path: &[u8],
-    instances: &[Inner<'a>],
-) -> Result<(), FlatFault>
-    requires sound { HasSoundInners modules.now (scope_meant scope.now) }
-    requires rest { rest.now ≡ at_rest (place_of (scope_meant scope.now)) }
-    requires signals { signals.now ≡ map decl_name (signals_in scope.now.text.now) }
-    requires instances { map inner_meant instances.now ≡ instances_in scope.now.text.now }
-    ensures ok { OnOk result ((i : Instance) → Among (map inner_meant instances.now) i → HasSoundConnections modules.now (scope_meant scope.now) i) }
-    ensures err { IfErr result (Refuses (IsSomeInnerFault modules.now path.now (scope_meant scope.now))) }
-{
-    for inner in instances {
-        match check_inner(alloc, modules, scope, rest, signals, path, inner) {
-            Ok(()) => {}
-            Err(fault) => return Err(fault),
-        }
-    }
-    Ok(())
-}
-
 /// What is connected to the instances of a scope keeps the rules. A refusal's fault is of a connection, or of a range in an instance's scope.
 pub fn check_inners<'a>(
     alloc: Global,
@@ -264,5 +244,13 @@ pub fn check_inners<'a>(
 {
     let signals = Names::of(alloc, signal_names(alloc, scope.text)?)?;
     let instances = instances_in(alloc, scope.text)?;
-    check_each(alloc, modules, scope, rest, &signals, path, &instances)
+    let parent = Parent {
+        alloc,
+        modules,
+        scope,
+        rest,
+        signals: &signals,
+        path,
+    };
+    parent.check_each(&instances)
 }

@@ -14,25 +14,33 @@ use elab_drive::Part;
 use std::alloc::Global;
 use vlog_tree::{Expr, Valuation};
 
-/// An assignment to the parts of a left side keeps the rules.
-pub fn check_store(
-    alloc: Global,
-    side: Side,
-    parts: &[Part<'_>],
-    right: &Expr,
-    params: &Valuation,
-    rest: &Valuation,
-) -> Result<(), Violation>
-    ensures ok { OnOk result (IsSoundTo side (is_known params.now) rest.now (map part_meant parts.now) right.now) }
-    ensures err { IfErr result (Fails (BreaksTo side (is_known params.now) rest.now (map part_meant parts.now) right.now)) }
-{
-    match check_numbers(alloc, side, parts, params, rest) {
-        Ok(()) => {}
-        Err(violation) => return Err(violation),
-    }
-    let bits = total_bits(alloc, parts, rest)?;
-    match bits {
-        Some(total) => check_stored(alloc, right, total, params, rest),
-        None => Err(Violation::Length),
+/// An assignment of an expression to the parts of a left side.
+#[derive(Drop)]
+pub struct Store<'a> {
+    pub side: Side,
+    pub parts: &'a [Part<'a>],
+    pub right: &'a Expr,
+}
+
+impl Store<'_> {
+    /// The assignment keeps the rules.
+    pub fn check(
+        &self,
+        alloc: Global,
+        params: &Valuation,
+        rest: &Valuation,
+    ) -> Result<(), Violation>
+        ensures ok { OnOk result (IsSoundTo self.now.side (is_known params.now) rest.now (map part_meant self.now.parts.now) self.now.right.now) }
+        ensures err { IfErr result (Fails (BreaksTo self.now.side (is_known params.now) rest.now (map part_meant self.now.parts.now) self.now.right.now)) }
+    {
+        match check_numbers(alloc, self.side, self.parts, params, rest) {
+            Ok(()) => {}
+            Err(violation) => return Err(violation),
+        }
+        let bits = total_bits(alloc, self.parts, rest)?;
+        match bits {
+            Some(total) => check_stored(alloc, self.right, total, params, rest),
+            None => Err(Violation::Length),
+        }
     }
 }

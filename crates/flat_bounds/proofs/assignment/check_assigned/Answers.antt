@@ -17,7 +17,7 @@ returns-clause-ok c =
     let p = place_of (scope_meant c.args.scope.now) in
     let a = assigned_meant c.args.assigned.now in
     let qs = map part_meant c.deref.result.now in
-    ok_then c.check_store.result (IsSoundTo d.Continuous (is_known c.args.scope.now.params) c.args.rest.now qs a.right) (IsSoundStore d.Continuous p a) c.check_store.ensures.ok
+    ok_then c.check.result (IsSoundTo d.Continuous (is_known c.args.scope.now.params) c.args.rest.now qs a.right) (IsSoundStore d.Continuous p a) c.check.ensures.ok
     (store_sound d.Continuous p a qs c.args.rest.now (ap (map part_meant) c.deref.ensures.value ∙ c.in_ok-parts.ensures) c.requires.rest)
 
 pub returns-clause-err : goal.returns-clause-err
@@ -26,6 +26,6 @@ returns-clause-err c =
     let a = assigned_meant c.args.assigned.now in
     let qs = map part_meant c.deref.result.now in
     let breaks = BreaksTo d.Continuous (is_known c.args.scope.now.params) c.args.rest.now qs a.right in
-    if_err c.check_store.result (Fails breaks) (Fails (BreaksStore d.Continuous p a))
+    if_err c.check.result (Fails breaks) (Fails (BreaksStore d.Continuous p a))
     (fails_map breaks (BreaksStore d.Continuous p a)
-    (store_breaks d.Continuous p a qs c.args.rest.now (ap (map part_meant) c.deref.ensures.value ∙ c.in_ok-parts.ensures) c.requires.rest c.requires.signals)) c.check_store.ensures.err
+    (store_breaks d.Continuous p a qs c.args.rest.now (ap (map part_meant) c.deref.ensures.value ∙ c.in_ok-parts.ensures) c.requires.rest c.requires.signals)) c.check.ensures.err

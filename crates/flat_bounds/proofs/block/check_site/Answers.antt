@@ -48,22 +48,22 @@ pub returns-in_ok-parts-in-Store-clause-ok : goal.returns-in_ok-parts-in-Store-c
 returns-in_ok-parts-in-Store-clause-ok c =
     let p = place_of (scope_meant c.args.scope.now) in
     let test = is_known c.args.scope.now.params in
-    let r = c.check_store.result in
+    let r = c.check.result in
     let a : Assign = record { left = c.in-Store.left.now; right = c.in-Store.right.now } in
     let qs = map part_meant c.deref.result.now in
     subst (λ (z : Site). OnOk r (IsSoundUsage p (site_meant z))) (sym c.in-Store.is)
-    (ok_then r (IsSoundTo d.Procedural test c.args.rest.now qs a.right) (IsSoundStore d.Procedural p a) c.check_store.ensures.ok
+    (ok_then r (IsSoundTo d.Procedural test c.args.rest.now qs a.right) (IsSoundStore d.Procedural p a) c.check.ensures.ok
     (store_sound d.Procedural p a qs c.args.rest.now (ap (map part_meant) c.deref.ensures.value ∙ c.in_ok-parts-in-Store.ensures) c.requires.rest))
 
 pub returns-in_ok-parts-in-Store-clause-err : goal.returns-in_ok-parts-in-Store-clause-err
 returns-in_ok-parts-in-Store-clause-err c =
     let p = place_of (scope_meant c.args.scope.now) in
     let test = is_known c.args.scope.now.params in
-    let r = c.check_store.result in
+    let r = c.check.result in
     let a : Assign = record { left = c.in-Store.left.now; right = c.in-Store.right.now } in
     let qs = map part_meant c.deref.result.now in
     let names = subst (λ (z : Site). UsesSignals p (site_meant z)) c.in-Store.is c.requires.signals in
     subst (λ (z : Site). IfErr r (Fails (BreaksUsage p (site_meant z)))) (sym c.in-Store.is)
     (if_err r (Fails (BreaksTo d.Procedural test c.args.rest.now qs a.right)) (Fails (BreaksStore d.Procedural p a))
     (fails_map (BreaksTo d.Procedural test c.args.rest.now qs a.right) (BreaksStore d.Procedural p a)
-    (store_breaks d.Procedural p a qs c.args.rest.now (ap (map part_meant) c.deref.ensures.value ∙ c.in_ok-parts-in-Store.ensures) c.requires.rest names)) c.check_store.ensures.err)
+    (store_breaks d.Procedural p a qs c.args.rest.now (ap (map part_meant) c.deref.ensures.value ∙ c.in_ok-parts-in-Store.ensures) c.requires.rest names)) c.check.ensures.err)

@@ -24,23 +24,23 @@ has_constant_parts-returns-in-Paren t c =
 
 pub has_constant_parts-returns-in-Part : goal.has_constant_parts-returns-in-Part
 has_constant_parts-returns-in-Part t c =
-    part_parts (is_known c.args.params.now) c.args.expr.now c.in-Part.field-0 c.in-Part.span c.in-Part.a c.in-Part.b c.get-in-Part-4.result.now c.get-in-Part.result.now c.get-in-Part-2.result.now c.get-in-Part-3.result.now c.has_constant_parts-in-Part-2.result c.has_constant_parts-in-Part.result c.is_part_constant.result c.both-right.result c.both.result
-    c.in-Part.is c.get-in-Part-4.ensures c.get-in-Part.ensures c.get-in-Part-2.ensures c.get-in-Part-3.ensures c.has_constant_parts-in-Part-2.ensures c.has_constant_parts-in-Part.ensures c.is_part_constant.ensures c.both-right.ensures c.both.ensures
+    part_parts (is_known c.args.params.now) c.args.expr.now c.in-Part.field-0 c.in-Part.span c.in-Part.a c.in-Part.b c.get-in-Part.result.now c.get-in-Part-2.result.now c.get-in-Part-3.result.now c.get-in-Part-4.result.now c.has_constant_parts-in-Part.result c.has_constant_parts-in-Part-2.result c.is_part_constant.result c.all_three.result
+    c.in-Part.is c.get-in-Part.ensures c.get-in-Part-2.ensures c.get-in-Part-3.ensures c.get-in-Part-4.ensures c.has_constant_parts-in-Part.ensures c.has_constant_parts-in-Part-2.ensures c.is_part_constant.ensures c.all_three.ensures
 
 pub has_constant_parts-returns-in-ConstantPart : goal.has_constant_parts-returns-in-ConstantPart
 has_constant_parts-returns-in-ConstantPart t c =
-    constant_part_parts (is_known c.args.params.now) c.args.expr.now c.in-ConstantPart.field-0 c.in-ConstantPart.span c.in-ConstantPart.a c.in-ConstantPart.b c.get-in-ConstantPart-4.result.now c.get-in-ConstantPart.result.now c.get-in-ConstantPart-2.result.now c.get-in-ConstantPart-3.result.now c.has_constant_parts-in-ConstantPart-2.result c.has_constant_parts-in-ConstantPart.result c.is_part_constant-in-ConstantPart.result c.both-right-in-ConstantPart.result c.both-in-ConstantPart.result
-    c.in-ConstantPart.is c.get-in-ConstantPart-4.ensures c.get-in-ConstantPart.ensures c.get-in-ConstantPart-2.ensures c.get-in-ConstantPart-3.ensures c.has_constant_parts-in-ConstantPart-2.ensures c.has_constant_parts-in-ConstantPart.ensures c.is_part_constant-in-ConstantPart.ensures c.both-right-in-ConstantPart.ensures c.both-in-ConstantPart.ensures
+    constant_part_parts (is_known c.args.params.now) c.args.expr.now c.in-ConstantPart.field-0 c.in-ConstantPart.span c.in-ConstantPart.a c.in-ConstantPart.b c.get-in-ConstantPart.result.now c.get-in-ConstantPart-2.result.now c.get-in-ConstantPart-3.result.now c.get-in-ConstantPart-4.result.now c.has_constant_parts-in-ConstantPart.result c.has_constant_parts-in-ConstantPart-2.result c.is_part_constant-in-ConstantPart.result c.all_three-in-ConstantPart.result
+    c.in-ConstantPart.is c.get-in-ConstantPart.ensures c.get-in-ConstantPart-2.ensures c.get-in-ConstantPart-3.ensures c.get-in-ConstantPart-4.ensures c.has_constant_parts-in-ConstantPart.ensures c.has_constant_parts-in-ConstantPart-2.ensures c.is_part_constant-in-ConstantPart.ensures c.all_three-in-ConstantPart.ensures
 
 pub has_constant_parts-returns-in-Binary : goal.has_constant_parts-returns-in-Binary
 has_constant_parts-returns-in-Binary t c =
-    binary_parts (is_known c.args.params.now) c.args.expr.now c.in-Binary.op c.in-Binary.a c.in-Binary.b c.get-in-Binary-4.result.now c.get-in-Binary.result.now c.get-in-Binary-2.result.now c.get-in-Binary-3.result.now c.has_constant_parts-in-Binary-2.result c.has_constant_parts-in-Binary.result c.is_division_constant.result c.both-right-in-Binary.result c.both-in-Binary.result
-    c.in-Binary.is c.get-in-Binary-4.ensures c.get-in-Binary.ensures c.get-in-Binary-2.ensures c.get-in-Binary-3.ensures c.has_constant_parts-in-Binary-2.ensures c.has_constant_parts-in-Binary.ensures c.is_division_constant.ensures c.both-right-in-Binary.ensures c.both-in-Binary.ensures
+    binary_parts (is_known c.args.params.now) c.args.expr.now c.in-Binary.op c.in-Binary.a c.in-Binary.b c.get-in-Binary.result.now c.get-in-Binary-2.result.now c.get-in-Binary-3.result.now c.get-in-Binary-4.result.now c.has_constant_parts-in-Binary.result c.has_constant_parts-in-Binary-2.result c.is_division_constant.result c.all_three-in-Binary.result
+    c.in-Binary.is c.get-in-Binary.ensures c.get-in-Binary-2.ensures c.get-in-Binary-3.ensures c.get-in-Binary-4.ensures c.has_constant_parts-in-Binary.ensures c.has_constant_parts-in-Binary-2.ensures c.is_division_constant.ensures c.all_three-in-Binary.ensures
 
 pub has_constant_parts-returns-in-Choice : goal.has_constant_parts-returns-in-Choice
 has_constant_parts-returns-in-Choice t c =
-    choice_parts (is_known c.args.params.now) c.args.expr.now c.in-Choice.condition c.in-Choice.a c.in-Choice.b c.get-in-Choice-3.result.now c.get-in-Choice.result.now c.get-in-Choice-2.result.now c.has_constant_parts-in-Choice-3.result c.has_constant_parts-in-Choice.result c.has_constant_parts-in-Choice-2.result c.both-branches.result c.both-in-Choice.result
-    c.in-Choice.is c.get-in-Choice-3.ensures c.get-in-Choice.ensures c.get-in-Choice-2.ensures c.has_constant_parts-in-Choice-3.ensures c.has_constant_parts-in-Choice.ensures c.has_constant_parts-in-Choice-2.ensures c.both-branches.ensures c.both-in-Choice.ensures
+    choice_parts (is_known c.args.params.now) c.args.expr.now c.in-Choice.condition c.in-Choice.a c.in-Choice.b c.get-in-Choice.result.now c.get-in-Choice-2.result.now c.get-in-Choice-3.result.now c.has_constant_parts-in-Choice.result c.has_constant_parts-in-Choice-2.result c.has_constant_parts-in-Choice-3.result c.all_three-in-Choice.result
+    c.in-Choice.is c.get-in-Choice.ensures c.get-in-Choice-2.ensures c.get-in-Choice-3.ensures c.has_constant_parts-in-Choice.ensures c.has_constant_parts-in-Choice-2.ensures c.has_constant_parts-in-Choice-3.ensures c.all_three-in-Choice.ensures
 
 pub has_constant_parts-returns-in-Concat : goal.has_constant_parts-returns-in-Concat
 has_constant_parts-returns-in-Concat t c =
@@ -48,5 +48,5 @@ has_constant_parts-returns-in-Concat t c =
 
 pub has_constant_parts-returns-in-Repeat : goal.has_constant_parts-returns-in-Repeat
 has_constant_parts-returns-in-Repeat t c =
-    repeat_parts (is_known c.args.params.now) c.args.expr.now c.in-Repeat.count c.get-in-Repeat-2.result.now c.get-in-Repeat.result.now c.in-Repeat.parts c.as_slice-in-Repeat.result.now c.has_constant_parts-in-Repeat.result c.is_constant.result c.all_have_constant_parts-in-Repeat.result c.both-right-in-Repeat.result c.both-in-Repeat.result
-    c.in-Repeat.is c.get-in-Repeat-2.ensures c.get-in-Repeat.ensures c.as_slice-in-Repeat.ensures c.has_constant_parts-in-Repeat.ensures c.is_constant.ensures c.all_have_constant_parts-in-Repeat.ensures c.both-right-in-Repeat.ensures c.both-in-Repeat.ensures
+    repeat_parts (is_known c.args.params.now) c.args.expr.now c.in-Repeat.count c.get-in-Repeat.result.now c.get-in-Repeat-2.result.now c.in-Repeat.parts c.as_slice-in-Repeat.result.now c.has_constant_parts-in-Repeat.result c.is_constant.result c.all_have_constant_parts-in-Repeat.result c.all_three-in-Repeat.result
+    c.in-Repeat.is c.get-in-Repeat.ensures c.get-in-Repeat-2.ensures c.as_slice-in-Repeat.ensures c.has_constant_parts-in-Repeat.ensures c.is_constant.ensures c.all_have_constant_parts-in-Repeat.ensures c.all_three-in-Repeat.ensures

@@ -9,15 +9,15 @@ use Rattle.flat_instances.specs.Unfolding.{scope_meant}
 use Rattle.elab_drive.proofs.Naming.{meant_at}
 use Rattle.flat_bounds.specs.Texts.{BreaksConnection, SomeConnectionBreaks}
 use Rattle.flat_bounds.proofs.Connections.{wider}
-use Rattle.flat_bounds.proofs.inner.check_connections.Goals as goal
+use Rattle.flat_bounds.proofs.inner.Parent.check_connections.Goals as goal
 
 pub returns-in-Err-clause-err : goal.returns-in-Err-clause-err
 returns-in-Err-clause-err c =
-    let p = place_of (scope_meant c.args.scope.now) in
+    let p = place_of (scope_meant c.args.self.now.scope.now) in
     let t = scope_meant c.args.child.now in
     let i = inner_meant c.args.inner.now in
     let g = given_meant c.connection-item.result in
-    wider c.args.path.now t (BreaksConnection p t g (decl_at (signals_in t.module') g.name)) (SomeConnectionBreaks p t i)
+    wider c.args.self.now.path.now t (BreaksConnection p t g (decl_at (signals_in t.module') g.name)) (SomeConnectionBreaks p t i)
     (λ w h. (g, meant_at given_meant c.deref-connection-items.result.now c.in_ok-given.given.items (given_to (port_names t.module') i.args) c.loop-connection.connection-index c.connection-item.result c.loop-connection-test.true c.connection-item.is c.deref-connection-items.ensures.value c.in_ok-given.ensures, h))
     c.in-Err.fault c.in-Err.ensures.err
 

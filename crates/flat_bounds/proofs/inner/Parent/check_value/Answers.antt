@@ -7,12 +7,12 @@ use Rattle.flat_params.specs.Constants.{is_known}
 use Rattle.flat_instances.specs.Unfolding.{scope_meant}
 use Rattle.flat_bounds.specs.Taken.{Breaks, Fails}
 use Rattle.flat_bounds.specs.Texts.{BreaksGiven}
-use Rattle.flat_bounds.proofs.inner.check_value.Goals as goal
+use Rattle.flat_bounds.proofs.inner.Parent.check_value.Goals as goal
 
 pub returns-in-Some-clause-err : goal.returns-in-Some-clause-err
 returns-in-Some-clause-err c =
-    let p = place_of (scope_meant c.args.scope.now) in
-    let test = is_known c.args.scope.now.params in
+    let p = place_of (scope_meant c.args.self.now.scope.now) in
+    let test = is_known c.args.self.now.scope.now.params in
     let r = c.check_stored.result in
     let a = c.args.value.now in
     let n = c.in-Some.least in

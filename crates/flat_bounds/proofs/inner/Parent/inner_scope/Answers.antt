@@ -4,12 +4,12 @@ use Rattle.vlog_runs.specs.Scopes.{Given, module_at, overriding}
 use Rattle.flat_scopes.specs.Borrowed.{inner_meant, given_meant}
 use Rattle.flat_instances.specs.Unfolding.{scope_meant}
 use Rattle.flat_bounds.proofs.Inners.{never_bad}
-use Rattle.flat_bounds.proofs.inner.inner_scope.Goals as goal
+use Rattle.flat_bounds.proofs.inner.Parent.inner_scope.Goals as goal
 
 pub unreachable-requires : goal.unreachable-requires
 unreachable-requires c =
-    let ms = c.args.modules.now in
-    let s = scope_meant c.args.scope.now in
+    let ms = c.args.self.now.modules.now in
+    let s = scope_meant c.args.self.now.scope.now in
     let i = inner_meant c.args.inner.now in
     let m = c.in-Some.text.now in
     let there : module_at ms i.of_module ≡ Some m = ap (module_at ms) (sym c.bytes.ensures) ∙ (sym c.at.ensures ∙ ap option_copied c.in-Some.is) in

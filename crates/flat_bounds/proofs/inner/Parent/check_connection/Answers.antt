@@ -8,11 +8,11 @@ use Rattle.flat_instances.specs.Unfolding.{scope_meant}
 use Rattle.flat_bounds.specs.Texts.{IsSoundGiven, BreaksGiven, IsSoundConnection, BreaksConnection, IsConnectionFault}
 use Rattle.flat_bounds.proofs.Inners.{first_at, nowhere_at, among_at}
 use Rattle.flat_bounds.proofs.Connections.{own_fault, port_fault}
-use Rattle.flat_bounds.proofs.inner.check_connection.Goals as goal
+use Rattle.flat_bounds.proofs.inner.Parent.check_connection.Goals as goal
 
 pub returns-in-None-clause-ok : goal.returns-in-None-clause-ok
 returns-in-None-clause-ok c =
-    let p = place_of (scope_meant c.args.scope.now) in
+    let p = place_of (scope_meant c.args.self.now.scope.now) in
     let t = scope_meant c.args.child.now in
     let g = given_meant c.args.connection.now in
     let at = subst (λ (ds : List Decl). decl_at ds g.name ≡ None) c.requires.ports (nowhere_at c.args.ports.now c.at.result c.bytes.result.now g.name c.at.ensures c.in-None.is c.bytes.ensures) in
@@ -27,14 +27,14 @@ port_width-requires c =
 
 pub returns-in-Err-clause-err : goal.returns-in-Err-clause-err
 returns-in-Err-clause-err c =
-    let p = place_of (scope_meant c.args.scope.now) in
+    let p = place_of (scope_meant c.args.self.now.scope.now) in
     let t = scope_meant c.args.child.now in
     let g = given_meant c.args.connection.now in
-    port_fault c.args.path.now t (BreaksConnection p t g (decl_at (signals_in t.module') g.name)) c.in-Err.fault c.in-Err.ensures.err
+    port_fault c.args.self.now.path.now t (BreaksConnection p t g (decl_at (signals_in t.module') g.name)) c.in-Err.fault c.in-Err.ensures.err
 
 pub returns-in-Ok-check_value-clause-ok : goal.returns-in-Ok-check_value-clause-ok
 returns-in-Ok-check_value-clause-ok c =
-    let p = place_of (scope_meant c.args.scope.now) in
+    let p = place_of (scope_meant c.args.self.now.scope.now) in
     let t = scope_meant c.args.child.now in
     let g = given_meant c.args.connection.now in
     let d = decl_meant c.in-Some.port.now in
@@ -44,11 +44,11 @@ returns-in-Ok-check_value-clause-ok c =
 
 pub returns-in_ok-named_fault-in-Err-check_value-clause-err : goal.returns-in_ok-named_fault-in-Err-check_value-clause-err
 returns-in_ok-named_fault-in-Err-check_value-clause-err c =
-    let p = place_of (scope_meant c.args.scope.now) in
+    let p = place_of (scope_meant c.args.self.now.scope.now) in
     let t = scope_meant c.args.child.now in
     let g = given_meant c.args.connection.now in
     let d = decl_meant c.in-Some.port.now in
-    let path = c.args.path.now in
+    let path = c.args.self.now.path.now in
     let at = subst (λ (ds : List Decl). decl_at ds g.name ≡ Some d) c.requires.ports
     (first_at c.args.ports.now c.at.result c.in-Some.port c.bytes.result.now g.name c.at.ensures c.in-Some.is c.bytes.ensures) in
     subst (Refuses (IsConnectionFault path t (BreaksConnection p t g (decl_at (signals_in t.module') g.name)))) (sym c.in_ok-named_fault-in-Err-check_value.ensures)

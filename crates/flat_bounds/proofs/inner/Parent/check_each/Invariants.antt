@@ -4,8 +4,8 @@ use Rattle.vlog_runs.specs.Contents.{Inner}
 use Rattle.flat_scopes.specs.Borrowed.{inner_meant}
 use Rattle.flat_instances.specs.Unfolding.{scope_meant}
 use Rattle.flat_bounds.specs.Texts.{HasSoundConnections}
-use Rattle.flat_bounds.proofs.inner.check_each.Given as goal
+use Rattle.flat_bounds.proofs.inner.Parent.check_each.Given as goal
 
 abbrev pub invariant-loop-inner : goal.invariant-loop-inner
 invariant-loop-inner l =
-    (i : Inner) → Among (map inner_meant l.instances) i → (HasSoundConnections l.modules (scope_meant l.scope) i) ⊎ Among (map inner_meant (drop l.inner-index l.instances)) i
+    (i : Inner) → Among (map inner_meant l.instances) i → (HasSoundConnections l.self.modules.now (scope_meant l.self.scope.now) i) ⊎ Among (map inner_meant (drop l.inner-index l.instances)) i
