@@ -218,7 +218,7 @@ def block_from_its_end_behind_parts(size):
 
 
 def block_of_vectors_in_turn(size, part=lambda k: f"i[{k % 8}]"):
-    """Signals that each take an exclusive or of all vectors of which the block assigns parts. Each vector is solved by itself between two of them."""
+    """Signals that each take an exclusive or of all vectors of which the block assigns parts."""
     count = size // 114
     names = "".join(f"reg [1:0] v{k};\nwire x{k} = i[0];\nreg [1:0] c{k};\n" for k in range(count))
     parts = "".join(f"v{k}[0] = {part(k)};\nv{k}[1] = {part(3 * k)};\n" for k in range(count))
@@ -228,8 +228,20 @@ def block_of_vectors_in_turn(size, part=lambda k: f"i[{k % 8}]"):
 
 
 def block_of_constant_vectors(size):
-    """The same, where what is made again after each vector is a constant, so that no nodes come of it."""
+    """The same, where the parts are constants, so that no nodes come of them."""
     return block_of_vectors_in_turn(size, lambda k: "1'b1")
+
+
+def block_of_vectors_between(size):
+    """Signals that each take all vectors as they stand before the block assigns parts of them once more. Each signal depends on the one before it, and each
+    vector on such a signal, so that no order of the nets has two of the signals without a vector between them."""
+    count = size // 160
+    names = "".join(f"reg [1:0] v{k};\nreg c{k};\nwire x{k} = c{k};\n" for k in range(count))
+    first = "".join(f"v{k}[0] = 1'b0;\nv{k}[1] = 1'b0;\n" for k in range(count))
+    sums = "".join(f"s = s ^ v{k}[0];\n" for k in range(count))
+    given = "".join(f"c{k} = s" + (f" ^ x{k - 1};\n" if k else ";\n") for k in range(count))
+    last = "".join(f"v{k}[0] = x{k} | 1'b1;\nv{k}[1] = 1'b0;\n" for k in range(count))
+    return module(f"{names}reg s;\nalways @* begin\ns = 1'b0;\n{first}{sums}{given}{last}end\n"), SET
 
 
 def block_of_pairs(size):
@@ -445,8 +457,9 @@ KINDS = {
     "one combinational block, a chain from its end under a long condition": block_from_its_end_under_a_condition,
     "one combinational block, a chain from its end behind statements": block_from_its_end_behind_statements,
     "one combinational block, a chain from its end behind parts": block_from_its_end_behind_parts,
-    "one combinational block, vectors solved in turn": block_of_vectors_in_turn,
-    "one combinational block, constant vectors solved in turn": block_of_constant_vectors,
+    "one combinational block, vectors in turn": block_of_vectors_in_turn,
+    "one combinational block, constant vectors in turn": block_of_constant_vectors,
+    "one combinational block, vectors between signals": block_of_vectors_between,
     "one combinational block, each signal by all others": block_of_pairs,
     "one signal assigned again and again": one_signal,
     "a list of events": events,

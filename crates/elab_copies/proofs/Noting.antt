@@ -50,6 +50,20 @@ noted_at old at n was now d lt is put =
       ];
     }
 
+-- a list that has the node already
+pub noted_before : (lists : List (Vec ℕ Global)) (at n : ℕ) → Among (list_at lists at) n → IsNoted lists lists (at ∷ []) n
+noted_before lists at n here = record {
+  long = refl;
+  keeps = λ a i m. m;
+  adds = λ a m. ⊎_elim (λ (q : at ≡ a). subst (λ (v : ℕ). Among (list_at lists v) n) q here) (λ z. absurd z) m;
+  only = λ a i m. inl m;
+}
+
+pub got_among : (xs : List ℕ) (i d n : ℕ) → i < length xs → get_or xs i d ≡ n → Among xs n
+got_among [] i d n lt is = absurd (omega (arith, lt))
+got_among (x ∷ xs) zero d n lt is = inl is
+got_among (x ∷ xs) (suc i) d n lt is = inr (got_among xs i d n (omega (arith, lt)) is)
+
 pub noted_then : (r s t : List (Vec ℕ Global)) (at : ℕ) (more : List ℕ) (n : ℕ) → IsNoted r s (at ∷ []) n → IsNoted s t more n → IsNoted r t (at ∷ more) n
 noted_then r s t at more n h g = record {
   long = g.long ∙ h.long;

@@ -1,5 +1,6 @@
 // Lists of nodes, one for each number.
-ghost use Rattle.std.specs.Prelude.{◌≡◌, ◌<◌, ◌∷◌, ◌++◌, ℕ, [], length, IfOk, OnOk};
+ghost use Rattle.std.specs.Prelude.{◌≡◌, ◌<◌, ◌∷◌, ◌++◌, ℕ, [], true, length, IfOk, OnOk};
+ghost use Rattle.vlog_runs.specs.Places.{Among};
 ghost use Rattle.word_dag.specs.Walks.{Each, operands};
 ghost use Rattle.elab_copies.specs.Copies.{list_at};
 ghost use Rattle.elab_copies.specs.Walks.{IsNoted, IsTaken};
@@ -19,11 +20,25 @@ pub fn empty_lists(alloc: Global, count: usize) -> Result<Vec<Vec<u64>>, AllocEr
     Ok(lists)
 }
 
-/// Adds a node to a list.
+// Whether a list ends with a node.
+fn ends_with(list: &[u64], number: u64) -> bool
+    ensures { result ≡ true → Among list.now number }
+{
+    match list.last() {
+        Some(last) => *last == number,
+        None => false,
+    }
+}
+
+/// Adds a node to a list, unless it ends with it already.
 pub fn note_at(lists: &mut Vec<Vec<u64>>, at: usize, number: u64) -> Result<(), AllocError>
     requires { at < length lists.old.items }
     ensures { OnOk result (IsNoted lists.old.items lists.new.items (at ∷ []) number) }
 {
+    // (a node with one operand twice is noted once)
+    if ends_with(&lists[at], number) {
+        return Ok(());
+    }
     lists[at].push(number)?;
     Ok(())
 }

@@ -15,10 +15,10 @@ pub bool_cases : (b : Bool) → (b ≡ true) ⊎ (b ≡ false)
 bool_cases true = inl refl
 bool_cases false = inr refl
 
-differ : {b : Bool} → b ≡ false → b ≡ true → ⊥
+pub differ : {b : Bool} → b ≡ false → b ≡ true → ⊥
 differ h e = let r : true ≡ false = sym e ∙ h in cc
 
-same_or : (u v : ℕ) → (u ≡ v) ⊎ (u ≢ v)
+pub same_or : (u v : ℕ) → (u ≡ v) ⊎ (u ≢ v)
 same_or u v = ⊎_elim (λ (e : nat_eq u v ≡ true). inl (eqb-true u v e)) (λ (e : nat_eq u v ≡ false). inr (λ h. differ e (eq-eqb u v h))) (bool_cases (nat_eq u v))
 
 among_append : (xs ys : List ℕ) (z : ℕ) → Among (xs ++ ys) z → Among xs z ⊎ Among ys z

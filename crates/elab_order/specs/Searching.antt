@@ -3,7 +3,7 @@ use Rattle.std.specs.Prelude.{ℕ, zero, suc, ◌≡◌, ◌≢◌, ◌+◌, ◌
 use Rattle.elab_order.specs.declared.search.Mark.{Mark}
 use Rattle.elab_order.specs.declared.search.Mark.TheVariants as m
 use Rattle.elab_order.specs.declared.search.Search.{Search}
-use Rattle.elab_order.specs.Graphs.{Among, AreDistinct, AreAfter, successors}
+use Rattle.elab_order.specs.Graphs.{Among, AreDistinct, AreAfter, graph_of, successors}
 
 -- the mark of a vertex
 abbrev pub mark_at : List Mark → ℕ → Mark
@@ -51,8 +51,12 @@ pub record IsSearch (g : List (List ℕ)) (marks : List Mark) (passed path done 
   pub are_passed : (v : ℕ) → IsPassed g marks v (slice_index passed v)
   pub within : (v : ℕ) → slice_index passed v ≤ length (successors g v)
 
-abbrev pub Searches : List (List ℕ) → Search → Type 0
-Searches g s = IsSearch g s.marks.items s.passed.items s.path.items s.done.items
+-- the graph of a search
+abbrev pub searched : Search → List (List ℕ)
+searched s = graph_of s.graph.now
+
+abbrev pub Searches : Search → Type 0
+Searches s = IsSearch (searched s) s.marks.items s.passed.items s.path.items s.done.items
 
 -- what isn't new doesn't become new again
 abbrev pub KeepsKnown : List Mark → List Mark → Type 0

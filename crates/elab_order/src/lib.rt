@@ -1,6 +1,7 @@
 //! Graphs: an order of the vertices, each after its successors, or a cycle.
 #![tactic(auto)]
 
+mod levels;
 mod search;
 mod sort;
 mod sorted;

@@ -1,5 +1,6 @@
 -- For each signal the places of the statements that assign it, statement after statement.
-use Rattle.std.specs.Prelude.{ℕ, zero, suc, Bool, false, List, [], ◌∷◌, ◌++◌, length, Option, Some, None, replicate, nat_eq, if◌then◌else◌}
+use Rattle.std.specs.Prelude.{ℕ, zero, suc, Bool, false, List, [], ◌∷◌, ◌++◌, length, Option, Some, None, replicate, nat_eq, slice_index, if◌then◌else◌}
+use Rattle.std.proofs.Common.{Vec, Global}
 use Rattle.vlog_tree.specs.declared.item.Assign.{Assign}
 use Rattle.vlog_runs.specs.declared.flat.Always.{Always}
 use Rattle.vlog_runs.specs.declared.flat.Flat.{Flat}
@@ -50,3 +51,7 @@ abbrev pub places_in : Flat → List (List ℕ)
 places_in f =
     let names = signal_names f.signals in
     blocks_placed names (length f.assigns) f.blocks (assigns_placed names 0 f.assigns (replicate (length f.signals) []))
+
+-- the first place of a list: 0 where it has none
+abbrev pub first_place : Vec ℕ Global → ℕ
+first_place v = slice_index v.items 0

@@ -8,31 +8,27 @@ ghost use Rattle.elab_step.specs.Asked.{CanElaborate};
 ghost use Rattle.elab_step.specs.Boards.{groups_of, IsSolution, IsSolved};
 ghost use Rattle.elab_step.specs.Solving.{IsNetOrder, joined};
 ghost use Rattle.elaborate.specs.Parts.{HasSignals};
-ghost use Rattle.elaborate.specs.Sources.{signal_names, clocked_names, flags_among};
+ghost use Rattle.elaborate.specs.Sources.{flags_among};
 
+use crate::flags::{register_flags, signal_names};
 use crate::parts::{asyncs_of, clock_of, inputs_of, nets_of, outputs_of, registers_of};
 use elab_step::Solution;
-use flat_scopes::Names;
 use std::alloc::{AllocError, Global};
 use vlog_runs::Flat;
 use word_design::Design;
 
-/// The design of a module whose nets are solved group after group in an order of their dependences. The flags tell the nets and the registers. It is refused for
-/// want of memory alone.
+/// The design of a module whose nets are solved group after group in an order of their dependences. The flags tell the nets.
+/// It is refused for want of memory alone.
 pub fn design_of(
     alloc: Global,
     flat: &Flat,
-    names: &Names<'_>,
     groups: &[Vec<usize>],
     nets: &[bool],
-    registers: &[bool],
     solution: Solution,
 ) -> Result<Design, AllocError>
     requires can { CanElaborate flat.now }
-    requires names { names.now ≡ signal_names flat.now.signals }
     requires order { IsNetOrder flat.now (DependsOn flat.now) (joined (groups_of flat.now.signals groups.now)) }
     requires nets { nets.now ≡ flags_among (joined (groups_of flat.now.signals groups.now)) flat.now.signals }
-    requires registers { registers.now ≡ flags_among (clocked_names flat.now) flat.now.signals }
     requires apart { (x : Name) → IsInput flat.now x → IsRegister flat.now x → ⊥ }
     requires solution { IsSolution flat.now (groups_of flat.now.signals groups.now) nets.now solution.dag solution.begun solution.now solution.next }
     ensures solved { IfOk result (λ d. IsSolved flat.now (groups_of flat.now.signals groups.now) d) }
@@ -40,8 +36,10 @@ pub fn design_of(
 {
     // the nodes of a dag fit, and no two are the same
     let _nodes = solution.dag.nodes();
-    let all_registers = registers_of(alloc, registers, &solution.begun, &solution.next)?;
-    let all_inputs = inputs_of(alloc, flat.ports.as_slice(), names, &solution.begun)?;
+    let names = signal_names(alloc, flat.signals.as_slice())?;
+    let registers = register_flags(alloc, flat)?;
+    let all_registers = registers_of(alloc, &registers, &solution.begun, &solution.next)?;
+    let all_inputs = inputs_of(alloc, flat.ports.as_slice(), &names, &solution.begun)?;
     let all_nets = nets_of(alloc, nets, &solution.begun, &solution.now)?;
     let outputs = outputs_of(alloc, flat.ports.as_slice())?;
     let clock = clock_of(alloc, &flat.clock)?;

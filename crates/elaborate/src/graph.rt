@@ -17,6 +17,7 @@ ghost use Rattle.elaborate.specs.Sources.{flags_among};
 
 use crate::flags::{flags_among, name_at};
 use crate::ordered::design_in_order;
+use crate::places::{first_places, places_of};
 use elab_drive::{Form, block_names};
 use elab_faults::ElabFault;
 use elab_order::{Sorted, order};
@@ -97,11 +98,14 @@ pub fn design_by_graph(
     ensures acyclic { IfOk result (λ d. (x : Name) → Stands flat.now (f.Loop x) → ⊥) }
     ensures fault { IfErr result (λ e. (e ≡ f.Memory) ⊎ Stands flat.now e) }
 {
-    match order(alloc, graph)? {
-        Sorted::Order(places) => {
+    let places = places_of(alloc, flat)?;
+    let firsts = first_places(alloc, &places)?;
+    // (nets of one level that the same statements assign stand side by side, so that they are solved at once)
+    match order(alloc, graph, &firsts)? {
+        Sorted::Order(signals) => {
             let sources = source_flags(alloc, flat)?;
-            let nets = unflagged(alloc, &sources, &places)?;
-            let design = design_in_order(alloc, flat, graph, &nets)?;
+            let nets = unflagged(alloc, &sources, &signals)?;
+            let design = design_in_order(alloc, flat, graph, &places, &nets)?;
             Ok(design)
         }
         Sorted::Cycle(cycle) => Err(looped(alloc, flat.signals.as_slice(), cycle[0])?),

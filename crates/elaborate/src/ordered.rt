@@ -5,34 +5,35 @@ ghost use Rattle.vlog_runs.specs.Cycles.{IsInput, IsRegister};
 ghost use Rattle.word_design.specs.Designs.{HasRunsOf};
 ghost use Rattle.elab_faults.specs.Drivers.{DependsOn};
 ghost use Rattle.elab_step.specs.Asked.{CanElaborate, IsFaultless};
-ghost use Rattle.elab_step.specs.Boards.{names_of, IsSolved};
+ghost use Rattle.elab_step.specs.Boards.{names_of, ArePlacesOf, IsSolved};
 ghost use Rattle.elab_step.specs.Solving.{IsNetOrder, joined};
 ghost use Rattle.elab_order.specs.Graphs.{graph_of, IsGraph};
 ghost use Rattle.elab_flow.specs.Edges.{AreDependences};
 ghost use Rattle.elaborate.specs.Parts.{HasSignals};
 
 use crate::design::design_of;
-use crate::flags::{flags_among, names_at, register_flags, signal_names};
+use crate::flags::{flags_among, names_at};
 use crate::groups::groups_of;
-use crate::places::places_of;
 use elab_step::{solve, solved_designs_have_the_modules_runs};
 use std::alloc::{AllocError, Global};
 use vlog_runs::Flat;
 use word_design::Design;
 
-/// The design of a module, from the graph of its dependences and the places of its nets among its signals, each after those that it depends on
-/// within a cycle. Where no fault of the module stands, the design has the module's cycles, and the same cycles follow (IEEE 1364-2005,
-/// sections 6.1 and 9.2). It is refused for want of memory alone.
+/// The design of a module, from the graph of its dependences, the places of the statements that assign each signal, and the places of its nets
+/// among its signals, each after those that it depends on within a cycle. Where no fault of the module stands, the design has the module's
+/// cycles, and the same cycles follow (IEEE 1364-2005, sections 6.1 and 9.2). It is refused for want of memory alone.
 pub fn design_in_order(
     alloc: Global,
     flat: &Flat,
     graph: &[Vec<usize>],
+    places: &[Vec<usize>],
     order: &[usize],
 ) -> Result<Design, AllocError>
     requires can { CanElaborate flat.now }
     requires size { length graph.now ≡ length flat.now.signals }
     requires vertices { IsGraph (graph_of graph.now) }
     requires depends { AreDependences flat.now (graph_of graph.now) }
+    requires places { ArePlacesOf flat.now flat.now.signals places.now }
     requires within { (i : ℕ) → Among order.now i → i < length flat.now.signals }
     requires order { IsNetOrder flat.now (DependsOn flat.now) (names_of flat.now.signals order.now) }
     requires apart { (x : Name) → IsInput flat.now x → IsRegister flat.now x → ⊥ }
@@ -42,12 +43,9 @@ pub fn design_in_order(
 {
     solved_designs_have_the_modules_runs();
     let signals = flat.signals.as_slice();
-    let names = signal_names(alloc, signals)?;
     let net_names = names_at(alloc, signals, order)?;
     let nets = flags_among(alloc, &net_names, signals)?;
-    let registers = register_flags(alloc, flat)?;
-    let places = places_of(alloc, flat, &names)?;
-    let groups = groups_of(alloc, graph, &places, order)?;
-    let solution = solve(alloc, flat, &places, &groups, &nets)?;
-    design_of(alloc, flat, &names, &groups, &nets, &registers, solution)
+    let groups = groups_of(alloc, graph, places, order)?;
+    let solution = solve(alloc, flat, places, &groups, &nets)?;
+    design_of(alloc, flat, &groups, &nets, solution)
 }

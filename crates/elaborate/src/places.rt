@@ -1,5 +1,5 @@
 // The statements that assign each signal.
-ghost use Rattle.std.specs.Prelude.{◌≡◌, ◌<◌, ◌≤◌, ◌+◌, ◌++◌, ◌^◌, [], ◌∷◌, ℕ, Some, false, IfOk, OnOk, length, map, replicate, get_or};
+ghost use Rattle.std.specs.Prelude.{◌≡◌, ◌<◌, ◌≤◌, ◌+◌, ◌++◌, ◌^◌, [], ◌∷◌, ℕ, Some, false, IfOk, OnOk, length, map, replicate, get_or, slice_index};
 ghost use Rattle.vlog_tree.specs.declared.item.Assign.{Assign as Equation};
 ghost use Rattle.vlog_runs.specs.Blocks.{left_names};
 ghost use Rattle.flat_scopes.specs.Borrowed.{name_meant};
@@ -9,9 +9,10 @@ ghost use Rattle.elab_drive.specs.Names.{chosen_names};
 ghost use Rattle.elab_order.specs.Graphs.{graph_of};
 ghost use Rattle.elab_step.specs.Asked.{CanElaborate};
 ghost use Rattle.elab_step.specs.Boards.{ArePlacesOf};
-ghost use Rattle.elaborate.specs.Placing.{last_of, is_number, ending_in, placed_at, all_placed, assigns_placed, blocks_placed, places_in};
+ghost use Rattle.elaborate.specs.Placing.{last_of, is_number, ending_in, placed_at, all_placed, assigns_placed, blocks_placed, places_in, first_place};
 ghost use Rattle.elaborate.specs.Sources.{signal_names};
 
+use crate::flags::signal_names;
 use elab_drive::{Form, block_names, name_of, parts_of};
 use flat_scopes::Names;
 use outside::Text;
@@ -134,24 +135,34 @@ fn no_places(alloc: Global, count: usize) -> Result<Vec<Vec<usize>>, AllocError>
 
 /// For each signal the places of the continuous assignments and the combinational blocks that assign it, of the assignments first. It is refused
 /// for want of memory alone.
-pub fn places_of(
-    alloc: Global,
-    flat: &Flat,
-    names: &Names<'_>,
-) -> Result<Vec<Vec<usize>>, AllocError>
-    requires can { CanElaborate flat.now }
-    requires names { names.now ≡ signal_names flat.now.signals }
+pub fn places_of(alloc: Global, flat: &Flat) -> Result<Vec<Vec<usize>>, AllocError>
+    requires { CanElaborate flat.now }
     ensures { IfOk result (λ r. ArePlacesOf flat.now flat.now.signals r.items) }
 {
-    let mut places = no_places(alloc, flat.signals.len())?;
+    let signals = flat.signals.as_slice();
+    let names = signal_names(alloc, signals)?;
+    let mut places = no_places(alloc, signals.len())?;
     let assigns = flat.assigns.as_slice();
-    add_assigns(&mut places, alloc, names, assigns)?;
-    add_blocks(
-        &mut places,
-        alloc,
-        names,
-        flat.blocks.as_slice(),
-        assigns.len(),
-    )?;
+    let blocks = flat.blocks.as_slice();
+    add_assigns(&mut places, alloc, &names, assigns)?;
+    add_blocks(&mut places, alloc, &names, blocks, assigns.len())?;
     Ok(places)
+}
+
+// The first place of a list: 0 where it has none.
+fn first_in(list: &[usize]) -> usize
+    ensures { result ≡ slice_index list.now 0 }
+{
+    list.first().copied().unwrap_or(0)
+}
+
+/// The first place of each list: 0 where it has none. It is refused for want of memory alone.
+pub fn first_places(alloc: Global, lists: &[Vec<usize>]) -> Result<Vec<usize>, AllocError>
+    ensures { IfOk result (λ r. r.items ≡ map first_place lists.now) }
+{
+    let mut firsts = Vec::new(alloc);
+    for list in lists {
+        firsts.push(first_in(list))?;
+    }
+    Ok(firsts)
 }

@@ -20,11 +20,11 @@ design_in_order-requires-clause-within c =
     let g = graph_of c.args.graph.now in
     let r = c.requires in
     let long : length g ≡ length m.signals = placed_long c.args.graph.now ∙ r.size in
-    let is : IsOrder g c.in-Order.places.items = subst (IsSorted g) c.in-Order.is c.in_ok-places.ensures in
-    let kept : c.deref-in-Order-2.result.now ≡ unflagged (flags_among (source_names m) m.signals) c.in-Order.places.items =
-    c.deref-in-Order-2.ensures.value ∙ c.in_ok-nets-in-Order.ensures ∙ (λ i. unflagged ((c.deref.ensures.value ∙ c.in_ok-sources-in-Order.ensures) i) (c.deref-in-Order.ensures.value i)) in
+    let is : IsOrder g c.in-Order.signals.items = subst (IsSorted g) c.in-Order.is c.in_ok-signals.ensures.sorted in
+    let kept : c.deref-in-Order-4.result.now ≡ unflagged (flags_among (source_names m) m.signals) c.in-Order.signals.items =
+    c.deref-in-Order-4.ensures.value ∙ c.in_ok-nets-in-Order.ensures ∙ (λ i. unflagged ((c.deref-in-Order.ensures.value ∙ c.in_ok-sources-in-Order.ensures) i) (c.deref-in-Order-2.ensures.value i)) in
     let P : List ℕ → Type 0 = λ z. (i : ℕ) → Among z i → i < length m.signals in
-    subst P (sym kept) (nets_within m r.can g long r.vertices r.depends c.in-Order.places.items is)
+    subst P (sym kept) (nets_within m r.can g long r.vertices r.depends c.in-Order.signals.items is)
 
 pub design_in_order-requires-clause-order : goal.design_in_order-requires-clause-order
 design_in_order-requires-clause-order c =
@@ -32,11 +32,11 @@ design_in_order-requires-clause-order c =
     let g = graph_of c.args.graph.now in
     let r = c.requires in
     let long : length g ≡ length m.signals = placed_long c.args.graph.now ∙ r.size in
-    let is : IsOrder g c.in-Order.places.items = subst (IsSorted g) c.in-Order.is c.in_ok-places.ensures in
-    let kept : c.deref-in-Order-2.result.now ≡ unflagged (flags_among (source_names m) m.signals) c.in-Order.places.items =
-    c.deref-in-Order-2.ensures.value ∙ c.in_ok-nets-in-Order.ensures ∙ (λ i. unflagged ((c.deref.ensures.value ∙ c.in_ok-sources-in-Order.ensures) i) (c.deref-in-Order.ensures.value i)) in
+    let is : IsOrder g c.in-Order.signals.items = subst (IsSorted g) c.in-Order.is c.in_ok-signals.ensures.sorted in
+    let kept : c.deref-in-Order-4.result.now ≡ unflagged (flags_among (source_names m) m.signals) c.in-Order.signals.items =
+    c.deref-in-Order-4.ensures.value ∙ c.in_ok-nets-in-Order.ensures ∙ (λ i. unflagged ((c.deref-in-Order.ensures.value ∙ c.in_ok-sources-in-Order.ensures) i) (c.deref-in-Order-2.ensures.value i)) in
     let P : List ℕ → Type 0 = λ z. IsNetOrder m (DependsOn m) (names_of m.signals z) in
-    subst P (sym kept) (net_order m r.can g long r.vertices r.depends c.in-Order.places.items is)
+    subst P (sym kept) (net_order m r.can g long r.vertices r.depends c.in-Order.signals.items is)
 
 pub looped-requires : goal.looped-requires
 looped-requires c =
@@ -44,26 +44,26 @@ looped-requires c =
     let g = graph_of c.args.graph.now in
     let r = c.requires in
     let long : length g ≡ length m.signals = placed_long c.args.graph.now ∙ r.size in
-    let is : IsCycle g c.in-Cycle.cycle.items = subst (IsSorted g) c.in-Cycle.is c.in_ok-places.ensures in
+    let is : IsCycle g c.in-Cycle.cycle.items = subst (IsSorted g) c.in-Cycle.is c.in_ok-signals.ensures.sorted in
     let at = (loop_at m r.can g long r.vertices r.depends c.in-Cycle.cycle.items c.index.result.now _ is c.index.ensures).0 in
     subst (λ (gs : List Signal). c.index.result.now < length gs) (sym c.as_slice.ensures) at
 
-pub returns-in_ok-looped-in-Cycle-clause-fault : goal.returns-in_ok-looped-in-Cycle-clause-fault
-returns-in_ok-looped-in-Cycle-clause-fault c =
+pub returns-clause-fault : goal.returns-clause-fault
+returns-clause-fault c =
     let m = c.args.flat.now in
     let g = graph_of c.args.graph.now in
     let r = c.requires in
     let long : length g ≡ length m.signals = placed_long c.args.graph.now ∙ r.size in
-    let is : IsCycle g c.in-Cycle.cycle.items = subst (IsSorted g) c.in-Cycle.is c.in_ok-places.ensures in
+    let is : IsCycle g c.in-Cycle.cycle.items = subst (IsSorted g) c.in-Cycle.is c.in_ok-signals.ensures.sorted in
     let stands = (loop_at m r.can g long r.vertices r.depends c.in-Cycle.cycle.items c.index.result.now _ is c.index.ensures).1 in
     let e : c.in_ok-looped-in-Cycle.field-0 ≡ f.Loop (name_of m.signals c.index.result.now) = c.in_ok-looped-in-Cycle.ensures ∙ ap (λ gs. f.Loop (name_of gs c.index.result.now)) c.as_slice.ensures in
     inr (subst (Stands m) (sym e) stands)
 
-pub returns-in_ok-design-in-Order-clause-acyclic : goal.returns-in_ok-design-in-Order-clause-acyclic
-returns-in_ok-design-in-Order-clause-acyclic c x h =
+pub returns-in-Order-clause-acyclic : goal.returns-in-Order-clause-acyclic
+returns-in-Order-clause-acyclic c x h =
     let m = c.args.flat.now in
     let g = graph_of c.args.graph.now in
     let r = c.requires in
     let long : length g ≡ length m.signals = placed_long c.args.graph.now ∙ r.size in
-    let is : IsOrder g c.in-Order.places.items = subst (IsSorted g) c.in-Order.is c.in_ok-places.ensures in
-    no_loop m r.can g long r.depends c.in-Order.places.items is x h.0 h.1
+    let is : IsOrder g c.in-Order.signals.items = subst (IsSorted g) c.in-Order.is c.in_ok-signals.ensures.sorted in
+    no_loop m r.can g long r.depends c.in-Order.signals.items is x h.0 h.1

@@ -5,7 +5,6 @@ use Rattle.elab_order.specs.Graphs.{graph_of}
 use Rattle.elab_step.specs.Boards.{names_of, groups_of, AreBelow, IsSolution}
 use Rattle.elab_step.specs.Solving.{joined, processes, AreGroups, IsNetOrder}
 use Rattle.elab_step.proofs.Boards.{places_long}
-use Rattle.elaborate.specs.Groups.{AreGroupsOf}
 use Rattle.elaborate.specs.Sources.{flags_among}
 use Rattle.elaborate.proofs.Grouping.{below, joined_names, net_groups}
 use Rattle.elaborate.proofs.ordered.design_in_order.Goals as goal
@@ -13,7 +12,7 @@ use Rattle.elaborate.proofs.ordered.design_in_order.Goals as goal
 pub groups_of-requires-clause-places : goal.groups_of-requires-clause-places
 groups_of-requires-clause-places c =
     let f = c.args.flat.now in
-    ap length c.deref.ensures.value ∙ places_long f f.signals c.in_ok-places.places.items c.in_ok-places.ensures ∙ sym c.requires.size
+    places_long f f.signals c.args.places.now c.requires.places ∙ sym c.requires.size
 
 pub groups_of-requires-clause-order : goal.groups_of-requires-clause-order
 groups_of-requires-clause-order c i m = let l = c.requires.within i m in let n = c.requires.size in omega (arith, l, n)
@@ -21,11 +20,10 @@ groups_of-requires-clause-order c i m = let l = c.requires.within i m in let n =
 pub solve-requires-clause-groups : goal.solve-requires-clause-groups
 solve-requires-clause-groups c =
     let f = c.args.flat.now in
-    let n = places_long f f.signals c.in_ok-places.places.items c.in_ok-places.ensures in
-    let e = ap length c.deref-2.ensures.value in
-    let P : List (Vec ℕ Global) → Type 0 = λ z. AreBelow (length c.deref-2.result.now) z in
-    subst P (sym c.deref-3.ensures.value)
-    (below (length c.deref-2.result.now) c.in_ok-groups.groups.items (λ i m. let l = c.requires.within i (subst (λ z. Among z i) c.in_ok-groups.ensures.all m) in omega (arith, l, n, e)))
+    let n = places_long f f.signals c.args.places.now c.requires.places in
+    let P : List (Vec ℕ Global) → Type 0 = λ z. AreBelow (length c.args.places.now) z in
+    subst P (sym c.deref.ensures.value)
+    (below (length c.args.places.now) c.in_ok-groups.groups.items (λ i m. let l = c.requires.within i (subst (λ z. Among z i) c.in_ok-groups.ensures.all m) in omega (arith, l, n)))
 
 so_then : {T E : Type 0} (r : Result T E) (P Q : T → Type 0) → ((x : T) → P x → Q x) → IfOk r P → IfOk r Q
 so_then (Ok x) P Q f p = f x p
@@ -37,9 +35,9 @@ design_of-requires-clause-order c =
     let r = c.requires in
     let vs = c.in_ok-groups.groups.items in
     let e : joined (groups_of f.signals vs) ≡ names_of f.signals c.args.order.now =
-    joined_names f r.can (graph_of c.args.graph.now) r.depends c.in_ok-places.places.items c.in_ok-places.ensures vs ∙ ap (names_of f.signals) c.in_ok-groups.ensures.all in
+    joined_names f r.can (graph_of c.args.graph.now) r.depends c.args.places.now c.requires.places vs ∙ ap (names_of f.signals) c.in_ok-groups.ensures.all in
     let P : List Name → Type 0 = λ z. IsNetOrder f (DependsOn f) z in
-    subst P (sym (ap (λ z. joined (groups_of f.signals z)) c.deref-5.ensures.value ∙ e)) r.order
+    subst P (sym (ap (λ z. joined (groups_of f.signals z)) c.deref-3.ensures.value ∙ e)) r.order
 
 pub design_of-requires-clause-nets : goal.design_of-requires-clause-nets
 design_of-requires-clause-nets c =
@@ -47,18 +45,18 @@ design_of-requires-clause-nets c =
     let r = c.requires in
     let vs = c.in_ok-groups.groups.items in
     let e : joined (groups_of f.signals vs) ≡ names_of f.signals c.args.order.now =
-    joined_names f r.can (graph_of c.args.graph.now) r.depends c.in_ok-places.places.items c.in_ok-places.ensures vs ∙ ap (names_of f.signals) c.in_ok-groups.ensures.all in
-    let names : c.in_ok-net_names.net_names ≡ joined (groups_of f.signals c.deref-5.result.now) =
-    c.in_ok-net_names.ensures ∙ ap (λ z. names_of z c.args.order.now) c.as_slice-signals.ensures ∙ sym (ap (λ z. joined (groups_of f.signals z)) c.deref-5.ensures.value ∙ e) in
-    c.deref-6.ensures.value ∙ c.in_ok-nets.ensures ∙ (λ i. flags_among (names i) (c.as_slice-signals.ensures i))
+    joined_names f r.can (graph_of c.args.graph.now) r.depends c.args.places.now c.requires.places vs ∙ ap (names_of f.signals) c.in_ok-groups.ensures.all in
+    let names : c.in_ok-net_names.net_names ≡ joined (groups_of f.signals c.deref-3.result.now) =
+    c.in_ok-net_names.ensures ∙ ap (λ z. names_of z c.args.order.now) c.as_slice-signals.ensures ∙ sym (ap (λ z. joined (groups_of f.signals z)) c.deref-3.ensures.value ∙ e) in
+    c.deref-4.ensures.value ∙ c.in_ok-nets.ensures ∙ (λ i. flags_among (names i) (c.as_slice-signals.ensures i))
 
 pub design_of-requires-clause-solution : goal.design_of-requires-clause-solution
 design_of-requires-clause-solution c =
     let f = c.args.flat.now in
     let s = c.in_ok-solution.solution in
     let P : List (Vec ℕ Global) → List Bool → Type 0 = λ z t. IsSolution f (groups_of f.signals z) t s.dag s.begun s.now s.next in
-    subst (λ z. P z c.deref-6.result.now) (c.deref-3.ensures.value ∙ sym c.deref-5.ensures.value)
-    (subst (λ t. P c.deref-3.result.now t) (c.deref-4.ensures.value ∙ sym c.deref-6.ensures.value) c.in_ok-solution.ensures)
+    subst (λ z. P z c.deref-4.result.now) (c.deref.ensures.value ∙ sym c.deref-3.ensures.value)
+    (subst (λ t. P c.deref.result.now t) (c.deref-2.ensures.value ∙ sym c.deref-4.ensures.value) c.in_ok-solution.ensures)
 
 pub returns-clause-solved : goal.returns-clause-solved
 returns-clause-solved c =
@@ -66,8 +64,8 @@ returns-clause-solved c =
     let r = c.requires in
     let vs = c.in_ok-groups.groups.items in
     let e : joined (groups_of f.signals vs) ≡ names_of f.signals c.args.order.now =
-    joined_names f r.can (graph_of c.args.graph.now) r.depends c.in_ok-places.places.items c.in_ok-places.ensures vs ∙ ap (names_of f.signals) c.in_ok-groups.ensures.all in
-    so_then c.design_of.result _ _ (λ d is. (groups_of f.signals c.deref-5.result.now, ap (λ z. joined (groups_of f.signals z)) c.deref-5.ensures.value ∙ e, is)) c.design_of.ensures.solved
+    joined_names f r.can (graph_of c.args.graph.now) r.depends c.args.places.now c.requires.places vs ∙ ap (names_of f.signals) c.in_ok-groups.ensures.all in
+    so_then c.design_of.result _ _ (λ d is. (groups_of f.signals c.deref-3.result.now, ap (λ z. joined (groups_of f.signals z)) c.deref-3.ensures.value ∙ e, is)) c.design_of.ensures.solved
 
 pub returns-clause-runs : goal.returns-clause-runs
 returns-clause-runs c clean =
@@ -75,15 +73,14 @@ returns-clause-runs c clean =
     let r = c.requires in
     let vs = c.in_ok-groups.groups.items in
     let g = graph_of c.args.graph.now in
-    let ps = c.in_ok-places.places.items in
-    let at = c.deref-5.result.now in
-    let e : joined (groups_of f.signals vs) ≡ names_of f.signals c.args.order.now = joined_names f r.can g r.depends ps c.in_ok-places.ensures vs ∙ ap (names_of f.signals) c.in_ok-groups.ensures.all in
+    let ps = c.args.places.now in
+    let at = c.deref-3.result.now in
+    let e : joined (groups_of f.signals vs) ≡ names_of f.signals c.args.order.now = joined_names f r.can g r.depends ps c.requires.places vs ∙ ap (names_of f.signals) c.in_ok-groups.ensures.all in
     let P : List Name → Type 0 = λ z. IsNetOrder f (DependsOn f) z in
     let order : IsNetOrder f (DependsOn f) (joined (groups_of f.signals vs)) = subst P (sym e) r.order in
-    let Q : List (Vec ℕ Global) → Type 0 = λ z. AreGroupsOf g (graph_of z) c.args.order.now (graph_of vs) in
-    let are = subst Q c.deref.ensures.value c.in_ok-groups.ensures in
+    let are = c.in_ok-groups.ensures in
     let groups : AreGroups (processes f) (DependsOn f) (groups_of f.signals vs) =
-    net_groups f r.can g r.depends ps c.in_ok-places.ensures vs (λ i m. r.within i (subst (λ z. Among z i) are.all m)) are.each order.order in
+    net_groups f r.can g r.depends ps c.requires.places vs (λ i m. r.within i (subst (λ z. Among z i) are.all m)) are.each order.order in
     let R : List (Vec ℕ Global) → Type 0 = λ z. IsNetOrder f (DependsOn f) (joined (groups_of f.signals z)) × AreGroups (processes f) (DependsOn f) (groups_of f.signals z) in
-    let both : R at = subst R (sym c.deref-5.ensures.value) (order, groups) in
+    let both : R at = subst R (sym c.deref-3.ensures.value) (order, groups) in
     so_then c.design_of.result _ _ (λ d is. c.solved_designs_have_the_modules_runs.ensures f (groups_of f.signals at) d r.can clean both.0 both.1 is) c.design_of.ensures.solved

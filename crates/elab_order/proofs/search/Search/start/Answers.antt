@@ -2,7 +2,7 @@ use Rattle.std.proofs.Common.{rules, replicate, sym, ap, ◌∙◌, length, ◌�
 use Rattle.elab_order.specs.declared.search.Mark.TheVariants as m
 use Rattle.elab_order.specs.Graphs.{graph_of}
 use Rattle.elab_order.proofs.Searching.{graph_long, started}
-use Rattle.elab_order.proofs.search.start.Goals as goal
+use Rattle.elab_order.proofs.search.Search.start.Goals as goal
 
 pub returns-clause-search : goal.returns-clause-search
 returns-clause-search c =

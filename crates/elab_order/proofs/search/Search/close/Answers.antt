@@ -1,22 +1,21 @@
 use Rattle.std.proofs.Common.{ℕ, List, set, arith, sym, subst, ◌∙◌, ◌≡◌}
 use Rattle.elab_order.specs.declared.search.Mark.TheVariants as m
-use Rattle.elab_order.specs.Graphs.{graph_of}
-use Rattle.elab_order.specs.Searching.{IsSearch}
+use Rattle.elab_order.specs.Searching.{searched, IsSearch}
 use Rattle.elab_order.proofs.Searching.{closed, known_set, done_new, done_changes, front_taken}
 use Rattle.elab_order.proofs.Searching.{opens_at}
-use Rattle.elab_order.proofs.search.close.Goals as goal
+use Rattle.elab_order.proofs.search.Search.close.Goals as goal
 
 pub index_mut-requires : goal.index_mut-requires
 index_mut-requires c =
     let o = opens_at _ _ _ _ _ c.args.v c.requires.search c.requires.last in
-    let l = c.args.search.now.marks.ok.0 in
+    let l = c.args.self.now.marks.ok.0 in
     let h = o.0 in
     omega (arith, l, h)
 
 pub returns-clause-search : goal.returns-clause-search
 returns-clause-search c =
-    let g = graph_of c.args.graph.now in
-    let s = c.args.search.now in
+    let g = searched c.args.self.now in
+    let s = c.args.self.now in
     let last = c.requires.last in
     let n = s.path.ok.0 in
     let r : c.pop.new.self.items ≡ last.0 = c.pop.ensures.rest ∙ front_taken s.path.items last.0 c.args.v s.path.len last.1 (omega (arith, n)) in
@@ -27,11 +26,11 @@ returns-clause-search c =
 
 pub returns-clause-known : goal.returns-clause-known
 returns-clause-known c =
-    let s = c.args.search.now in
+    let s = c.args.self.now in
     known_set s.marks.items c.args.v m.Done done_new (opens_at _ _ _ _ _ c.args.v c.requires.search c.requires.last).0
 
 pub returns-clause-changes : goal.returns-clause-changes
 returns-clause-changes c =
-    let s = c.args.search.now in
+    let s = c.args.self.now in
     let o = opens_at _ _ _ _ _ c.args.v c.requires.search c.requires.last in
     done_changes s.marks.items c.args.v o.0 o.1
