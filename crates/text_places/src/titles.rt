@@ -1,10 +1,16 @@
 // What a set's positions stand for, and how sentences name them.
+ghost use Rattle.std.specs.Prelude.{◌≡◌, MatchOption};
+ghost use Rattle.set_tree.specs.Parts.{IsPosition, property_at};
+ghost use Rattle.text_places.specs.Titles.{property_name, invariant_name, declared_name};
+
 use crate::tokens::shown;
 use set_tree::{Property, Set};
 use std::alloc::{AllocError, Global};
 
 /// The property at a position, 0 being the reset property.
-pub fn property_at(set: &Set, at: u32) -> Option<&Property> {
+pub fn property_at(set: &Set, at: u32) -> Option<&Property>
+    ensures { MatchOption result (¬ (IsPosition set.now at)) (λ p. IsPosition set.now at × (p.now ≡ property_at set.now at)) }
+{
     if at == 0 {
         return Some(&set.first);
     }
@@ -12,7 +18,9 @@ pub fn property_at(set: &Set, at: u32) -> Option<&Property> {
 }
 
 /// The name of the property at a position: that of the reset property is `reset`.
-pub fn property_name(set: &Set, at: u32) -> &[u8] {
+pub fn property_name(set: &Set, at: u32) -> &[u8]
+    ensures { result.now ≡ property_name set.now at }
+{
     if at == 0 {
         return b"reset";
     }
@@ -23,7 +31,9 @@ pub fn property_name(set: &Set, at: u32) -> &[u8] {
 }
 
 /// The name of the invariant at a position.
-pub fn invariant_name(set: &Set, at: u32) -> &[u8] {
+pub fn invariant_name(set: &Set, at: u32) -> &[u8]
+    ensures { result.now ≡ invariant_name set.now at }
+{
     match set.invariants.as_slice().get(at as usize) {
         Some(rule) => rule.name.bytes(),
         None => b"",
@@ -31,7 +41,9 @@ pub fn invariant_name(set: &Set, at: u32) -> &[u8] {
 }
 
 /// The declared name at a position.
-pub fn declared_name(set: &Set, at: u32) -> &[u8] {
+pub fn declared_name(set: &Set, at: u32) -> &[u8]
+    ensures { result.now ≡ declared_name set.now at }
+{
     match set.names.as_slice().get(at as usize) {
         Some(name) => name.name.bytes(),
         None => b"",

@@ -1,0 +1,5 @@
+pub mod LineLemmas
+pub mod Marks
+pub mod Items
+pub mod Firsts
+pub mod Cuts
