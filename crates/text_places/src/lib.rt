@@ -1,5 +1,5 @@
-//! Where the names of modules and of sets stand in their texts, as far as the tokens tell, and the lines of places. The calls are safe and end; that the
-//! places are right is tested, not proved.
+//! Where the names of modules and of sets stand in their texts, as far as the tokens tell, and the lines of places. What a call answers of a text and of its
+//! tokens is proved; that hierarchical names lead to the right places, and which rule on clocks is broken, is tested.
 #![tactic(auto)]
 
 mod clocks;

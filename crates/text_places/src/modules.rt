@@ -1,10 +1,24 @@
 // Where the names of modules are declared and used. A module is the list of its tokens from its name up to its `endmodule`.
+ghost use Rattle.std.specs.Prelude.{◌≡◌};
+ghost use Rattle.std.specs.Option.{option_copied};
+ghost use Rattle.text_places.specs.Tokens.{word_at};
+ghost use Rattle.text_places.specs.Modules.{
+  module_in,
+  is_reg,
+  is_parameter,
+  given_in,
+  is_use,
+  used_in,
+};
+
 use crate::tokens::{behind, behind_word, byte_at, stands, up_to, word_at};
 use vlog_tree::Token;
 use vlog_words::is;
 
 /// A module by its name.
-pub fn module_in<'a>(tokens: &'a [Token], name: &[u8]) -> Option<&'a [Token]> {
+pub fn module_in<'a>(tokens: &'a [Token], name: &[u8]) -> Option<&'a [Token]>
+    ensures { option_copied result ≡ module_in tokens.now name.now }
+{
     Some(up_to(behind_word(tokens, b"module", name)?, b"endmodule"))
 }
 
@@ -17,7 +31,9 @@ pub struct Instance<'a> {
 
 impl<'a> Instance<'a> {
     /// The name of its module.
-    pub fn of_module(&self) -> &'a [u8] {
+    pub fn of_module(&self) -> &'a [u8]
+        ensures { result.now ≡ word_at self.now.item.now 0 }
+    {
         word_at(self.item, 0)
     }
 }
@@ -66,7 +82,9 @@ pub struct Named<'a> {
 
 impl<'a> Named<'a> {
     /// The name of the module.
-    pub fn module_name(&self) -> &'a [u8] {
+    pub fn module_name(&self) -> &'a [u8]
+        ensures { result.now ≡ word_at self.now.body.now 0 }
+    {
         word_at(self.body, 0)
     }
 }
@@ -98,17 +116,23 @@ pub struct Declared<'a> {
 
 impl<'a> Declared<'a> {
     /// `input`, `output`, `wire`, `reg`, `parameter` or `localparam`.
-    pub fn kind(&self) -> &'a [u8] {
+    pub fn kind(&self) -> &'a [u8]
+        ensures { result.now ≡ word_at self.now.item.now 0 }
+    {
         word_at(self.item, 0)
     }
 
     /// Whether it has the word `reg`.
-    pub fn is_reg(&self) -> bool {
+    pub fn is_reg(&self) -> bool
+        ensures { result ≡ is_reg self.now.item.now }
+    {
         stands(self.item, 0, b"reg") || stands(self.item, 1, b"reg")
     }
 
     /// Whether it declares a parameter.
-    pub fn is_parameter(&self) -> bool {
+    pub fn is_parameter(&self) -> bool
+        ensures { result ≡ is_parameter self.now.item.now }
+    {
         stands(self.item, 0, b"parameter") || stands(self.item, 0, b"localparam")
     }
 
@@ -221,12 +245,21 @@ pub fn declared_in<'a>(body: &'a [Token], name: &[u8], pick: Pick) -> Option<Dec
     found
 }
 
+/// Whether a name stands at a place, and isn't that of a port behind a dot.
+fn is_use(here: &[Token], name: &[u8], previous: &[u8]) -> bool
+    ensures { result ≡ is_use name.now previous.now here.now }
+{
+    stands(here, 0, name) && !is(previous, b".")
+}
+
 /// Where a name first stands in a module other than as that of a port behind a dot.
-pub fn used_in<'a>(body: &'a [Token], name: &[u8]) -> Option<&'a [Token]> {
+pub fn used_in<'a>(body: &'a [Token], name: &[u8]) -> Option<&'a [Token]>
+    ensures { option_copied result ≡ used_in body.now name.now }
+{
     let mut previous: &[u8] = b"";
     for at in 0..body.len() {
         let here = &body[at..];
-        if stands(here, 0, name) && !is(previous, b".") {
+        if is_use(here, name, previous) {
             return Some(here);
         }
         previous = word_at(here, 0);
@@ -235,15 +268,10 @@ pub fn used_in<'a>(body: &'a [Token], name: &[u8]) -> Option<&'a [Token]> {
 }
 
 /// The connection or the override of an instance by a name, at that name.
-pub fn given_in<'a>(instance: &Instance<'a>, name: &[u8]) -> Option<&'a [Token]> {
-    let item = up_to(instance.item, b";");
-    for at in 0..item.len() {
-        let here = &item[at..];
-        if stands(here, 0, b".") && stands(here, 1, name) {
-            return Some(behind(here, 1));
-        }
-    }
-    None
+pub fn given_in<'a>(instance: &Instance<'a>, name: &[u8]) -> Option<&'a [Token]>
+    ensures { option_copied result ≡ given_in instance.now.item.now name.now }
+{
+    behind_word(up_to(instance.item, b";"), b".", name)
 }
 
 /// The place of what a hierarchical name names: its declaration, else its instance, else the module, else its first use.

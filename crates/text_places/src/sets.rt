@@ -1,4 +1,16 @@
 // Where the names of a set are declared and used.
+ghost use Rattle.std.specs.Prelude.{◌≡◌, count_by, slice_get};
+ghost use Rattle.std.specs.Option.{option_copied, option_map, option_and_then};
+ghost use Rattle.text_places.specs.Tokens.{byte_of, word_at, first_where, is_word};
+ghost use Rattle.text_places.specs.Sets.{
+  block_of,
+  declares,
+  width_of_item,
+  property_in,
+  begins_above,
+  window_of,
+};
+
 use crate::modules::Pick;
 use crate::tokens::{
     behind, behind_word, byte_at, first, number_at, spells, stands, up_to, width_at, word_at,
@@ -8,18 +20,19 @@ use vlog_tree::Token;
 use vlog_words::is;
 
 /// The name of the set's block.
-pub fn block_of(set: &[Token]) -> &[u8] {
-    for at in 0..set.len() {
-        let here = &set[at..];
-        if stands(here, 0, b"block") {
-            return word_at(here, 1);
-        }
+pub fn block_of(set: &[Token]) -> &[u8]
+    ensures { result.now ≡ block_of set.now }
+{
+    match first(set, b"block") {
+        Some(here) => word_at(here, 1),
+        None => b"",
     }
-    b""
 }
 
 /// Whether a word begins a declaration.
-pub fn declares(word: &[u8]) -> bool {
+pub fn declares(word: &[u8]) -> bool
+    ensures { result ≡ declares word.now }
+{
     is(word, b"input") || is(word, b"output") || is(word, b"state")
 }
 
@@ -32,12 +45,16 @@ pub struct DeclaredInSet<'a> {
 
 impl<'a> DeclaredInSet<'a> {
     /// `input`, `output` or `state`.
-    pub fn role(&self) -> &'a [u8] {
+    pub fn role(&self) -> &'a [u8]
+        ensures { result.now ≡ word_at self.now.item.now 0 }
+    {
         word_at(self.item, 0)
     }
 
     /// The declared width, where it is well formed.
-    pub fn width(&self) -> Option<u64> {
+    pub fn width(&self) -> Option<u64>
+        ensures { result ≡ width_of_item self.now.item.now }
+    {
         let range = if stands(self.item, 1, b"signed") {
             behind(self.item, 2)
         } else {
@@ -93,7 +110,10 @@ pub fn used_in_set<'a>(set: &'a [Token], name: &[u8]) -> Option<&'a [Token]> {
 }
 
 /// A property by its name, from the name up to the next operation.
-pub fn property_in<'a>(set: &'a [Token], name: &[u8]) -> Option<&'a [Token]> {
+#[tactic(auto, using(crate::proofs::Copies::copied_or))]
+pub fn property_in<'a>(set: &'a [Token], name: &[u8]) -> Option<&'a [Token]>
+    ensures { option_copied result ≡ property_in set.now name.now }
+{
     let place = behind_word(set, b"operation", name).or(behind_word(set, b"property", name))?;
     Some(up_to(place, b"operation"))
 }
@@ -152,40 +172,44 @@ pub fn next_again<'a>(set: &'a [Token], name: &[u8]) -> Option<&'a [Token]> {
     None
 }
 
+/// Whether an offset above a bound stands at a place.
+fn begins_above(here: &[Token], bound: u64) -> bool
+    ensures { result ≡ begins_above bound here.now }
+{
+    match number_at(here, 1) {
+        Some(offset) => stands(here, 0, b"@") && bound < offset,
+        None => false,
+    }
+}
+
 /// The first offset above a bound.
-pub fn offset_above(tokens: &[Token], bound: u64) -> Option<usize> {
+pub fn offset_above(tokens: &[Token], bound: u64) -> Option<usize>
+    ensures { result ≡ option_and_then (λ here. option_map byte_of (slice_get here 0)) (first_where (begins_above bound) tokens.now) }
+{
     for at in 0..tokens.len() {
         let here = &tokens[at..];
-        if stands(here, 0, b"@") {
-            if let Some(offset) = number_at(here, 1) {
-                if offset > bound {
-                    return byte_at(here);
-                }
-            }
+        if begins_above(here, bound) {
+            return byte_at(here);
         }
     }
     None
 }
 
 /// The window of a property: the number behind `window`, else its greatest length.
-pub fn window_of(property: &[Token]) -> Option<u64> {
-    for at in 0..property.len() {
-        let here = &property[at..];
-        if stands(here, 0, b"window") {
-            return number_at(here, 1);
-        }
+pub fn window_of(property: &[Token]) -> Option<u64>
+    ensures { result ≡ window_of property.now }
+{
+    if let Some(window) = first(property, b"window") {
+        return number_at(window, 1);
     }
-    for at in 0..property.len() {
-        let here = &property[at..];
-        if stands(here, 0, b"length") {
-            return number_at(here, 3).or(number_at(here, 1));
-        }
-    }
-    None
+    let length = first(property, b"length")?;
+    number_at(length, 3).or(number_at(length, 1))
 }
 
 /// How many tokens of a list are this word or sign.
-pub fn count_of(tokens: &[Token], word: &[u8]) -> usize {
+pub fn count_of(tokens: &[Token], word: &[u8]) -> usize
+    ensures { result ≡ count_by (is_word word.now) tokens.now }
+{
     tokens
         .iter()
         .filter(|token| is(word_of(token), word))
