@@ -15,6 +15,13 @@ pub enum Rest {
     Lits(Vec<Lit>),
 }
 
+/// A variable, and the literal of a variable before it that it is equal to.
+#[derive(Clone, Copy, Debug)]
+pub struct Equality {
+    pub var: u32,
+    pub to: Lit,
+}
+
 /// What is known of the variables of a formula, and the steps that say so.
 #[derive(Drop)]
 pub struct Facts<'a> {
@@ -141,16 +148,15 @@ impl<'a> Facts<'a> {
         Ok(true)
     }
 
-    /// Makes it known that the variable is equal to the literal of a variable before it, if the clauses of these numbers imply it.
-    /// The answer is whether they do.
+    /// Makes the equality known, if the clauses of these numbers imply it. The answer is whether they do.
     fn set_equal(
         &mut self,
         alloc: Global,
-        var: u32,
-        to: Lit,
+        equality: Equality,
         splits: &[u32],
         numbers: &[u32],
     ) -> Result<bool, AllocError> {
+        let Equality { var, to } = equality;
         let on = Lit {
             var,
             negative: false,
@@ -182,17 +188,16 @@ impl<'a> Facts<'a> {
         Ok(())
     }
 
-    /// Makes it known that the variable is equal to the literal of a variable before it, if steps for it are found.
+    /// Makes the equality known, if steps for it are found.
     pub fn merge(
         &mut self,
         alloc: Global,
-        var: u32,
-        to: Lit,
+        equality: Equality,
         splits: &[u32],
         sources: &[u32],
     ) -> Result<(), AllocError> {
         let numbers = self.with_links(alloc, sources)?;
-        if self.set_equal(alloc, var, to, splits, numbers.as_slice())? {
+        if self.set_equal(alloc, equality, splits, numbers.as_slice())? {
             self.changed = true;
         }
         Ok(())
@@ -216,7 +221,10 @@ impl<'a> Facts<'a> {
                 self.set_true(alloc, Lit { var, negative }, &[], numbers)?;
                 Ok(false)
             }
-            Meaning::Open(next) => self.set_equal(alloc, var, next, &[], numbers),
+            Meaning::Open(next) => {
+                let equality = Equality { var, to: next };
+                self.set_equal(alloc, equality, &[], numbers)
+            }
         }
     }
 

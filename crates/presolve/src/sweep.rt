@@ -3,7 +3,7 @@
 //! what outputs are known to be goes back to inputs. Both are repeated while they find something.
 
 use crate::classes::turned;
-use crate::facts::{Facts, Rest};
+use crate::facts::{Equality, Facts, Rest};
 use crate::gates::{Gate, INPUTS, Part, add_inputs, gate_of};
 use clause_check::{Cnf, Lit, in_32_bits};
 use std::alloc::{AllocError, Global};
@@ -146,8 +146,9 @@ impl<'a> Sweep<'a> {
                 let mut both = output.sources.to_vec(alloc)?;
                 both.extend_from_slice(sources.as_slice())?;
                 if to.var != out {
+                    let equality = Equality { var: out, to };
                     self.facts
-                        .merge(alloc, out, to, gate.inputs.as_slice(), both.as_slice())?;
+                        .merge(alloc, equality, gate.inputs.as_slice(), both.as_slice())?;
                 }
             }
             None => {
@@ -183,7 +184,9 @@ impl<'a> Sweep<'a> {
                     var: *var,
                     negative: gate.value(0),
                 };
-                self.facts.merge(alloc, out, to, inputs, sources.as_slice())
+                let equality = Equality { var: out, to };
+                self.facts
+                    .merge(alloc, equality, inputs, sources.as_slice())
             }
             _ => self.share(alloc, out, gate, sources),
         }
