@@ -22,6 +22,6 @@ pub fn flow_of(alloc: Global, scope: &Scope<'_>, body: &Stmt) -> Result<BlockFlo
 {
     let mut flow = BlockFlow::start(alloc, scope.list())?;
     let around = Vec::new(alloc);
-    pass(&mut flow, alloc, scope, &around, body)?;
+    pass(&mut flow, scope, &around, body)?;
     Ok(flow)
 }

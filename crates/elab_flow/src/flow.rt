@@ -98,6 +98,11 @@ impl BlockFlow {
         })
     }
 
+    /// Where memory for the lists of places is taken from.
+    pub(crate) fn allocator(&self) -> Global {
+        *self.outside.allocator()
+    }
+
     /// Reads places; what they count as, with the places that the conditions around count as. Refused only for want of memory.
     pub fn enter(
         &mut self,

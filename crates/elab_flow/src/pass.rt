@@ -29,7 +29,6 @@ use vlog_tree::{CaseItem, CaseKind, Expr, Lval, Stmt};
 /// After an assignment, with the places that the conditions around it count as. Refused only for want of memory.
 pub fn pass_assignment(
     flow: &mut BlockFlow,
-    alloc: Global,
     scope: &Scope<'_>,
     around: &[usize],
     left: &Lval,
@@ -43,6 +42,7 @@ pub fn pass_assignment(
     ensures changes { OnOk result (ChangesAt (λ i. AnyAt scope.now (parts_of left.now) i) (tables flow.old) (tables flow.new)) }
     ensures sized { OnOk result (IsSized (length scope.now) flow.new) }
 {
+    let alloc = flow.allocator();
     let read = places_read(alloc, scope, left, right)?;
     let sources = flow.enter(alloc, &read, around)?;
     assign_left(flow, alloc, scope, left, &sources)
@@ -51,7 +51,6 @@ pub fn pass_assignment(
 // Where a condition is read; what it counts as, with the conditions around it.
 fn enter_test(
     flow: &mut BlockFlow,
-    alloc: Global,
     scope: &Scope<'_>,
     around: &[usize],
     test: &Expr,
@@ -62,49 +61,10 @@ fn enter_test(
     ensures changes { OnOk result (ChangesAt (λ i. ⊥) (tables flow.old) (tables flow.new)) }
     ensures sized { OnOk result (IsSized (length scope.now) flow.new) }
 {
+    let alloc = flow.allocator();
     let read = places_tested(alloc, scope, test)?;
     let inner = flow.enter(alloc, &read, around)?;
     Ok(inner)
-}
-
-// Where a case expression and labels are.
-fn enter_case(
-    flow: &mut BlockFlow,
-    alloc: Global,
-    scope: &Scope<'_>,
-    around: &[usize],
-    subject: &Expr,
-    labels: &[&Expr],
-) -> Result<Vec<usize>, AllocError>
-    requires distinct { AreDistinct scope.now }
-    requires sized { IsSized (length scope.now) flow.old }
-    ensures enters { IfOk result (λ r. EnterTo scope.now around.now (subject.now ∷ map expr_meant labels.now) (tables flow.old) (tables flow.new) r.items) }
-    ensures changes { OnOk result (ChangesAt (λ i. ⊥) (tables flow.old) (tables flow.new)) }
-    ensures sized { OnOk result (IsSized (length scope.now) flow.new) }
-{
-    let read = places_compared(alloc, scope, subject, labels)?;
-    let inner = flow.enter(alloc, &read, around)?;
-    Ok(inner)
-}
-
-// Whether a path leads past the items of a case statement.
-fn leads_past(
-    alloc: Global,
-    scope: &Scope<'_>,
-    kind: CaseKind,
-    subject: &Expr,
-    labels: &[&Expr],
-    items: &[CaseItem],
-) -> Result<bool, AllocError>
-    requires labels { map expr_meant labels.now ≡ labels_of items.now }
-    requires ready { IsComparable (at_rest scope.now) subject.now (labels_of items.now) }
-    ensures { IfOk result (λ r. MatchBool r (LeadsPastEach scope.now kind subject.now items.now) (LeadsPastEach scope.now kind subject.now items.now → ⊥)) }
-{
-    if has_default(items) {
-        return Ok(false);
-    }
-    let full = is_full(alloc, kind, subject, labels, scope)?;
-    Ok(!full)
 }
 
 // No branch of a statement yet, where a path leads past all of them or none does.
@@ -125,33 +85,72 @@ fn branches_of(
     Ok(Branches::of(alloc, places))
 }
 
-// No item of a case statement yet.
-fn case_branches(
-    alloc: Global,
-    scope: &Scope<'_>,
-    stmt: &Stmt,
+// A case statement on its way through the pass: its kind, the case expression, and the items with all their labels in the order of the text.
+#[derive(Clone, Copy)]
+struct Case<'a> {
     kind: CaseKind,
-    subject: &Expr,
-    labels: &[&Expr],
-    items: &[CaseItem],
-) -> Result<Branches, AllocError>
-    requires labels { map expr_meant labels.now ≡ labels_of items.now }
-    requires ready { IsComparable (at_rest scope.now) subject.now (labels_of items.now) }
-    ensures spots { IfOk result (λ r. r.spots.items ≡ []) }
-    ensures common { IfOk result (λ r. (past : Bool) × MatchBool past (LeadsPastEach scope.now kind subject.now items.now) (LeadsPastEach scope.now kind subject.now items.now → ⊥)
-        × ((i : ℕ) → Among r.common.items i ↔ ((past ≡ false) × IsAssigned scope.now stmt.now i))) }
-    ensures outside { IfOk result (λ r. r.outside.items ≡ []) }
-{
-    let past = leads_past(alloc, scope, kind, subject, labels, items)?;
-    let branches = branches_of(alloc, scope, stmt, past)?;
-    Ok(branches)
+    subject: &'a Expr,
+    labels: &'a [&'a Expr],
+    items: &'a [CaseItem],
+}
+
+impl<'a> Case<'a> {
+    // Where the case expression and the labels are read; what they count as, with the conditions around them.
+    fn enter(
+        &self,
+        flow: &mut BlockFlow,
+        scope: &Scope<'_>,
+        around: &[usize],
+    ) -> Result<Vec<usize>, AllocError>
+        requires distinct { AreDistinct scope.now }
+        requires sized { IsSized (length scope.now) flow.old }
+        ensures enters { IfOk result (λ r. EnterTo scope.now around.now (self.now.subject.now ∷ map expr_meant self.now.labels.now) (tables flow.old) (tables flow.new) r.items) }
+        ensures changes { OnOk result (ChangesAt (λ i. ⊥) (tables flow.old) (tables flow.new)) }
+        ensures sized { OnOk result (IsSized (length scope.now) flow.new) }
+    {
+        let alloc = flow.allocator();
+        let read = places_compared(alloc, scope, self.subject, self.labels)?;
+        let inner = flow.enter(alloc, &read, around)?;
+        Ok(inner)
+    }
+
+    // Whether a path leads past the items.
+    fn leads_past(&self, alloc: Global, scope: &Scope<'_>) -> Result<bool, AllocError>
+        requires labels { map expr_meant self.now.labels.now ≡ labels_of self.now.items.now }
+        requires ready { IsComparable (at_rest scope.now) self.now.subject.now (labels_of self.now.items.now) }
+        ensures { IfOk result (λ r. MatchBool r (LeadsPastEach scope.now self.now.kind self.now.subject.now self.now.items.now) (LeadsPastEach scope.now self.now.kind self.now.subject.now self.now.items.now → ⊥)) }
+    {
+        if has_default(self.items) {
+            return Ok(false);
+        }
+        let full = is_full(alloc, self.kind, self.subject, self.labels, scope)?;
+        Ok(!full)
+    }
+
+    // Its branches, before the first item is passed.
+    fn branches(
+        &self,
+        alloc: Global,
+        scope: &Scope<'_>,
+        stmt: &Stmt,
+    ) -> Result<Branches, AllocError>
+        requires labels { map expr_meant self.now.labels.now ≡ labels_of self.now.items.now }
+        requires ready { IsComparable (at_rest scope.now) self.now.subject.now (labels_of self.now.items.now) }
+        ensures spots { IfOk result (λ r. r.spots.items ≡ []) }
+        ensures common { IfOk result (λ r. (past : Bool) × MatchBool past (LeadsPastEach scope.now self.now.kind self.now.subject.now self.now.items.now) (LeadsPastEach scope.now self.now.kind self.now.subject.now self.now.items.now → ⊥)
+            × ((i : ℕ) → Among r.common.items i ↔ ((past ≡ false) × IsAssigned scope.now stmt.now i))) }
+        ensures outside { IfOk result (λ r. r.outside.items ≡ []) }
+    {
+        let past = self.leads_past(alloc, scope)?;
+        let branches = branches_of(alloc, scope, stmt, past)?;
+        Ok(branches)
+    }
 }
 
 /// After a statement, with the places that the conditions around it count as. Refused only for want of memory.
 #[cycle(pass)]
 pub fn pass(
     flow: &mut BlockFlow,
-    alloc: Global,
     scope: &Scope<'_>,
     around: &[usize],
     stmt: &Stmt,
@@ -164,35 +163,42 @@ pub fn pass(
     ensures changes { OnOk result (ChangesAt (λ i. IsAssigned scope.now stmt.now i) (tables flow.old) (tables flow.new)) }
     ensures sized { OnOk result (IsSized (length scope.now) flow.new) }
 {
+    let alloc = flow.allocator();
     match stmt {
         Stmt::Empty => Ok(()),
-        Stmt::Block(_, stmts) => pass_row(flow, alloc, scope, around, stmts.as_slice()),
+        Stmt::Block(_, stmts) => pass_row(flow, scope, around, stmts.as_slice()),
         Stmt::If(test, body) => {
             let body = body.get();
-            let inner = enter_test(flow, alloc, scope, around, test)?;
+            let inner = enter_test(flow, scope, around, test)?;
             let mut branches = branches_of(alloc, scope, stmt, true)?;
-            pass_branch(&mut branches, flow, alloc, scope, &inner, body)?;
+            pass_branch(&mut branches, flow, scope, &inner, body)?;
             flow.join(alloc, &branches)
         }
         Stmt::IfElse(test, body, other) => {
             let body = body.get();
             let other = other.get();
-            let inner = enter_test(flow, alloc, scope, around, test)?;
+            let inner = enter_test(flow, scope, around, test)?;
             let mut branches = branches_of(alloc, scope, stmt, false)?;
-            pass_branch(&mut branches, flow, alloc, scope, &inner, body)?;
-            pass_branch(&mut branches, flow, alloc, scope, &inner, other)?;
+            pass_branch(&mut branches, flow, scope, &inner, body)?;
+            pass_branch(&mut branches, flow, scope, &inner, other)?;
             flow.join(alloc, &branches)
         }
         Stmt::Case(kind, subject, items) => {
             let items = items.as_slice();
             let labels = labels_of(alloc, items)?;
-            let inner = enter_case(flow, alloc, scope, around, subject, &labels)?;
-            let mut branches = case_branches(alloc, scope, stmt, *kind, subject, &labels, items)?;
-            pass_items(&mut branches, flow, alloc, scope, &inner, items)?;
+            let case = Case {
+                kind: *kind,
+                subject,
+                labels: &labels,
+                items,
+            };
+            let inner = case.enter(flow, scope, around)?;
+            let mut branches = case.branches(alloc, scope, stmt)?;
+            pass_items(&mut branches, flow, scope, &inner, items)?;
             flow.join(alloc, &branches)
         }
         Stmt::Blocking(left, right) | Stmt::Nonblocking(left, right) => {
-            pass_assignment(flow, alloc, scope, around, left, right)
+            pass_assignment(flow, scope, around, left, right)
         }
     }
 }
@@ -201,7 +207,6 @@ pub fn pass(
 #[cycle(pass)]
 fn pass_row(
     flow: &mut BlockFlow,
-    alloc: Global,
     scope: &Scope<'_>,
     around: &[usize],
     stmts: &[Stmt],
@@ -215,7 +220,7 @@ fn pass_row(
     ensures sized { OnOk result (IsSized (length scope.now) flow.new) }
 {
     for stmt in stmts {
-        pass(flow, alloc, scope, around, stmt)?;
+        pass(flow, scope, around, stmt)?;
     }
     Ok(())
 }
@@ -225,7 +230,6 @@ fn pass_row(
 fn pass_branch(
     branches: &mut Branches,
     flow: &mut BlockFlow,
-    alloc: Global,
     scope: &Scope<'_>,
     around: &[usize],
     body: &Stmt,
@@ -238,10 +242,11 @@ fn pass_branch(
     ensures back { OnOk result (tables flow.new ≡ tables flow.old) }
     ensures sized { OnOk result (IsSized (length scope.now) flow.new) }
 {
+    let alloc = flow.allocator();
     let places = assigned(alloc, scope, body)?;
     let before = spots_at(alloc, flow, &places)?;
     let reads = flow.outside.len();
-    pass(flow, alloc, scope, around, body)?;
+    pass(flow, scope, around, body)?;
     branches.add(alloc, flow, &places, reads)?;
     flow.put_back(alloc, &before)?;
     flow.outside.truncate(reads);
@@ -253,7 +258,6 @@ fn pass_branch(
 fn pass_items(
     branches: &mut Branches,
     flow: &mut BlockFlow,
-    alloc: Global,
     scope: &Scope<'_>,
     around: &[usize],
     items: &[CaseItem],
@@ -269,7 +273,7 @@ fn pass_items(
     ensures sized { OnOk result (IsSized (length scope.now) flow.new) }
 {
     for item in items {
-        pass_branch(branches, flow, alloc, scope, around, &item.body)?;
+        pass_branch(branches, flow, scope, around, &item.body)?;
     }
     Ok(())
 }

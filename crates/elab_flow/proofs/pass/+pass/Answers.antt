@@ -51,8 +51,8 @@ pass-pass_items-requires t c =
       (c.requires.distinct, (c.requires.narrow, (subst (EachItemReady c.args.scope.now) (sym same) (case_ready c.args.scope.now c.in-Case.kind c.in-Case.subject c.in-Case.items c.args.stmt.now is c.requires.ready).1, (search rules, (search rules, search rules))))),
     )
 
-pub pass-case_branches-requires-clause-ready : goal.pass-case_branches-requires-clause-ready
-pass-case_branches-requires-clause-ready t c =
+pub pass-branches-requires-clause-ready : goal.pass-branches-requires-clause-ready
+pass-branches-requires-clause-ready t c =
     let gs = c.args.scope.now in
     subst (λ (xs : List CaseItem). IsComparable (at_rest gs) c.in-Case.subject (labels_of xs)) (sym c.as_slice-items.ensures) (case_ready gs c.in-Case.kind c.in-Case.subject c.in-Case.items c.args.stmt.now c.in-Case.is c.requires.ready).0
 
@@ -134,30 +134,30 @@ pub pass-join-requires-in-Case-clause-within : goal.pass-join-requires-in-Case-c
 pass-join-requires-in-Case-clause-within t c =
     let b = c.in_ok-branches-in-Case.ensures in
     let h = c.in_ok-pass_items-in-Case.ensures in
-    let before = tables c.enter_case.new.flow in
+    let before = tables c.enter.new.flow in
     subst (λ n. AreInside n c.pass_items.new.branches) (sym h.sized.unset)
-    (case_inside_done c.args.scope.now c.args.stmt.now (tables c.args.flow.now) before c.in-Case.kind c.in-Case.subject c.in-Case.items c.as_slice-items.result.now c.in_ok-inner-in-Case.inner.items c.deref-in-Case-3.result.now (tables c.pass_items.new.flow) before
-    c.in_ok-branches-in-Case.branches c.pass_items.new.branches b.common.0 c.in-Case.is c.deref-in-Case-3.ensures.value c.as_slice-items.ensures h.back b.common.2 h.items)
+    (case_inside_done c.args.scope.now c.args.stmt.now (tables c.args.flow.now) before c.in-Case.kind c.in-Case.subject c.in-Case.items c.as_slice-items.result.now c.in_ok-inner-in-Case.inner.items c.deref-in-Case-2.result.now (tables c.pass_items.new.flow) before
+    c.in_ok-branches-in-Case.branches c.pass_items.new.branches b.common.0 c.in-Case.is c.deref-in-Case-2.ensures.value c.as_slice-items.ensures h.back b.common.2 h.items)
 
 pub pass-returns-in_ok-pass_items-in-Case-clause-passes : goal.pass-returns-in_ok-pass_items-in-Case-clause-passes
 pass-returns-in_ok-pass_items-in-Case-clause-passes t c =
     let b = c.in_ok-branches-in-Case.ensures in
     let h = c.in_ok-pass_items-in-Case.ensures in
-    let before = tables c.enter_case.new.flow in
+    let before = tables c.enter.new.flow in
     let same = c.as_slice-items.ensures in
     let enters = subst (λ (es : List Expr). EnterTo c.args.scope.now c.args.around.now (c.in-Case.subject ∷ es) (tables c.args.flow.now) before c.in_ok-inner-in-Case.inner.items) (ap (map expr_meant) c.deref-in-Case.ensures.value ∙ (c.in_ok-labels-in-Case.ensures ∙ ap labels_of same)) c.in_ok-inner-in-Case.ensures.enters in
     ok_then c.join-in-Case.result _ _ c.join-in-Case.ensures.joined
-    (λ e. case_done c.args.scope.now c.args.stmt.now (tables c.args.flow.now) before c.in-Case.kind c.in-Case.subject c.in-Case.items c.as_slice-items.result.now c.in_ok-inner-in-Case.inner.items c.deref-in-Case-3.result.now (tables c.pass_items.new.flow)
-    (tables c.join-in-Case.new.self) c.in_ok-branches-in-Case.branches c.pass_items.new.branches b.common.0 c.in-Case.is c.deref-in-Case-3.ensures.value same h.back b.common.2 h.items e c.args.around.now enters b.common.1)
+    (λ e. case_done c.args.scope.now c.args.stmt.now (tables c.args.flow.now) before c.in-Case.kind c.in-Case.subject c.in-Case.items c.as_slice-items.result.now c.in_ok-inner-in-Case.inner.items c.deref-in-Case-2.result.now (tables c.pass_items.new.flow)
+    (tables c.join-in-Case.new.self) c.in_ok-branches-in-Case.branches c.pass_items.new.branches b.common.0 c.in-Case.is c.deref-in-Case-2.ensures.value same h.back b.common.2 h.items e c.args.around.now enters b.common.1)
 
 pub pass-returns-in_ok-pass_items-in-Case-clause-changes : goal.pass-returns-in_ok-pass_items-in-Case-clause-changes
 pass-returns-in_ok-pass_items-in-Case-clause-changes t c =
     let b = c.in_ok-branches-in-Case.ensures in
     let h = c.in_ok-pass_items-in-Case.ensures in
-    let before = tables c.enter_case.new.flow in
+    let before = tables c.enter.new.flow in
     ok_then c.join-in-Case.result _ _ c.join-in-Case.ensures.joined
-    (λ e. case_done_changes c.args.scope.now c.args.stmt.now (tables c.args.flow.now) before c.in-Case.kind c.in-Case.subject c.in-Case.items c.as_slice-items.result.now c.in_ok-inner-in-Case.inner.items c.deref-in-Case-3.result.now (tables c.pass_items.new.flow)
-    (tables c.join-in-Case.new.self) c.in_ok-branches-in-Case.branches c.pass_items.new.branches b.common.0 c.in-Case.is c.deref-in-Case-3.ensures.value c.as_slice-items.ensures h.back b.common.2 h.items e c.in_ok-inner-in-Case.ensures.changes)
+    (λ e. case_done_changes c.args.scope.now c.args.stmt.now (tables c.args.flow.now) before c.in-Case.kind c.in-Case.subject c.in-Case.items c.as_slice-items.result.now c.in_ok-inner-in-Case.inner.items c.deref-in-Case-2.result.now (tables c.pass_items.new.flow)
+    (tables c.join-in-Case.new.self) c.in_ok-branches-in-Case.branches c.pass_items.new.branches b.common.0 c.in-Case.is c.deref-in-Case-2.ensures.value c.as_slice-items.ensures h.back b.common.2 h.items e c.in_ok-inner-in-Case.ensures.changes)
 
 -- ---- one after another
 
