@@ -1,6 +1,6 @@
 -- What `get` gives, and what a name is of it.
 use Rattle.std.proofs.Common.{◌≡◌, ℕ, List, [], Bor, Option, Some, None, refl, sym, ap, ◌∙◌}
-use Rattle.std.specs.Option.{option_copied, option_map_or, option_and_then}
+use Rattle.std.specs.Option.{option_copied, option_map_or}
 use Rattle.std.specs.Slice.{IsItemAt}
 use Rattle.std.specs.List.{slice_get}
 use Rattle.std.proofs.lemmas.Option.{slice_get_past, slice_get_read}

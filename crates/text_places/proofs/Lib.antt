@@ -4,4 +4,5 @@ pub mod Items
 pub mod Firsts
 pub mod PreviousWords
 pub mod Copies
+pub mod FirstGiven
 pub mod Cuts

@@ -1,6 +1,6 @@
 -- Where lists are cut, and how what is shown of a line goes on by one byte.
-use Rattle.std.proofs.Common.{◌≡◌, ℕ, ◌+◌, ◌-◌, ◌<◌, ◌≤◌, Bool, true, false, not, List, [], ◌∷◌, ◌++◌, length, take, drop, map, get_or, inl, inr, refl, sym, ap, subst, ◌∙◌, arith, append_assoc}
-use Rattle.std.specs.List.{suffix_len, position_or_len, flat_map}
+use Rattle.std.proofs.Common.{◌≡◌, ℕ, ◌+◌, ◌-◌, ◌<◌, ◌≤◌, true, false, not, List, [], ◌∷◌, ◌++◌, length, take, drop, map, get_or, inl, inr, sym, ap, subst, ◌∙◌, arith, append_assoc}
+use Rattle.std.specs.List.{suffix_len, flat_map}
 use Rattle.std.proofs.lemmas.Bool.{cases_eq}
 use Rattle.std.proofs.lemmas.List.{take_more, take_rest, take_min, drop_min, map_more, flat_map_more}
 use Rattle.std.proofs.lemmas.List.Sums.{suffix_len_is, position_or_len_is}

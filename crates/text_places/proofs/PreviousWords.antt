@@ -1,5 +1,5 @@
 -- The first place at which a test holds of it and of the word before it, one token on.
-use Rattle.std.proofs.Common.{◌≡◌, ℕ, ◌+◌, ◌-◌, ◌<◌, ◌≤◌, Bool, true, false, List, [], ◌∷◌, length, take, drop, Option, Some, None, refl, sym, ap, ◌∙◌, arith}
+use Rattle.std.proofs.Common.{◌≡◌, ℕ, ◌+◌, ◌-◌, ◌<◌, ◌≤◌, Bool, true, false, List, [], ◌∷◌, length, drop, Option, Some, None, refl, sym, ap, ◌∙◌, arith}
 use Rattle.std.proofs.lemmas.List.{length-drop, drop-drop, drop_all, take_rest}
 use Rattle.vlog_tree.specs.declared.token.Token.{Token}
 use Rattle.text_places.specs.Tokens.{word_at}

@@ -3,8 +3,9 @@ use Rattle.std.specs.Prelude.{ℕ, ◌&&◌, ◌||◌, Bool, not, if◌then◌el
 use Rattle.std.specs.Option.{option_map}
 use Rattle.std.specs.List.{before_first}
 use Rattle.std.specs.Str.{bytes_eq}
+use Rattle.vlog_words.specs.Words.{is_among}
 use Rattle.vlog_tree.specs.declared.token.Token.{Token}
-use Rattle.text_places.specs.Tokens.{word_of, stands, first_where, begins_with_both, is_word}
+use Rattle.text_places.specs.Tokens.{word_of, word_at, stands, first_where, begins_with_both, is_word}
 
 -- the first place at which a test holds of the word before it and of what stands there
 abbrev pub first_behind : (List ℕ → List Token → Bool) → List ℕ → List Token → Option (List Token)
@@ -31,3 +32,13 @@ is_use name before here = stands here 0 name && not (bytes_eq before (codes ".")
 
 abbrev pub used_in : List Token → List ℕ → Option (List Token)
 used_in body name = first_behind (is_use name) [] body
+
+-- ---- declarations
+
+-- behind a word that says more of a declaration's kind
+abbrev pub behind_kind : List Token → List Token
+behind_kind here = if is_among (codes "wire" ∷ codes "reg" ∷ codes "signed" ∷ []) (word_at here 0) then drop 1 here else here
+
+-- the range, or the name where there is none: behind the words that begin a declaration
+abbrev pub range_of : List Token → List Token
+range_of item = behind_kind (behind_kind (drop 1 item))

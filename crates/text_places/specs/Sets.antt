@@ -1,6 +1,6 @@
 -- Where the names of a set are declared and used.
 use Rattle.std.specs.Prelude.{ℕ, ◌&&◌, Bool, false, nat_lt, if◌then◌else◌, List, [], ◌∷◌, Option, Some, None, drop, codes}
-use Rattle.std.specs.Option.{option_map, option_map_or, option_or}
+use Rattle.std.specs.Option.{option_map, option_map_or, option_and_then, option_or}
 use Rattle.std.specs.List.{before_first}
 use Rattle.vlog_words.specs.Words.{is_among}
 use Rattle.vlog_tree.specs.declared.token.Token.{Token}
@@ -41,3 +41,20 @@ window_by None None = None
 -- the number behind `window`, else the greatest one behind `length`
 abbrev pub window_of : List Token → Option ℕ
 window_of property = window_by (first_where (begins (codes "window")) property) (first_where (begins (codes "length")) property)
+
+-- ---- lists of successors
+
+-- the second place of a name in the list that begins here, up to its `;`
+abbrev pub again_in : List ℕ → List Token → Option (List Token)
+again_in name here =
+    if begins (codes "next") here
+    then option_and_then (λ once. first_where (begins name) (drop 1 once)) (first_where (begins name) (before_first (is_word (codes ";")) here))
+    else None
+
+-- what the first place gives that gives something
+abbrev pub first_given : (List Token → Option (List Token)) → List Token → Option (List Token)
+first_given given [] = None
+first_given given (t ∷ ts) = option_or (given (t ∷ ts)) (first_given given ts)
+
+abbrev pub next_again : List Token → List ℕ → Option (List Token)
+next_again set name = first_given (again_in name) set

@@ -4,6 +4,8 @@ ghost use Rattle.std.specs.Option.{option_copied};
 ghost use Rattle.text_places.specs.Tokens.{word_at};
 ghost use Rattle.text_places.specs.Modules.{
   module_in,
+  behind_kind,
+  range_of,
   is_reg,
   is_parameter,
   given_in,
@@ -107,6 +109,18 @@ pub fn named_in<'a>(tokens: &'a [Token], top: &[u8], path: &'a [u8]) -> Option<N
     Some(named)
 }
 
+/// The place behind `wire`, `reg` or `signed`, or the same one where none of them stands.
+fn behind_kind(place: &[Token]) -> &[Token]
+    ensures { result.now ≡ behind_kind place.now }
+{
+    let word = word_at(place, 0);
+    if is(word, b"wire") || is(word, b"reg") || is(word, b"signed") {
+        behind(place, 1)
+    } else {
+        place
+    }
+}
+
 /// A declaration of a name: from the word that begins it on, and from the name on.
 #[derive(Clone, Copy)]
 pub struct Declared<'a> {
@@ -137,15 +151,10 @@ impl<'a> Declared<'a> {
     }
 
     /// Where the range stands, or the name where there is none.
-    pub fn range(&self) -> &'a [Token] {
-        let mut rest = behind(self.item, 1);
-        for _ in 0..2 {
-            let word = word_at(rest, 0);
-            if is(word, b"wire") || is(word, b"reg") || is(word, b"signed") {
-                rest = behind(rest, 1);
-            }
-        }
-        rest
+    pub fn range(&self) -> &'a [Token]
+        ensures { result.now ≡ range_of self.now.item.now }
+    {
+        behind_kind(behind_kind(behind(self.item, 1)))
     }
 }
 

@@ -7,6 +7,8 @@ ghost use Rattle.text_places.specs.Sets.{
   declares,
   width_of_item,
   property_in,
+  again_in,
+  next_again,
   begins_above,
   window_of,
 };
@@ -156,17 +158,25 @@ pub fn clause_before<'a>(set: &'a [Token], byte: usize) -> &'a [u8] {
     clause
 }
 
+/// The second place of a name in the list of successors that begins at a place.
+fn again_in<'a>(list: &'a [Token], name: &[u8]) -> Option<&'a [Token]>
+    ensures { option_copied result ≡ again_in name.now list.now }
+{
+    if !stands(list, 0, b"next") {
+        return None;
+    }
+    let once = first(up_to(list, b";"), name)?;
+    first(behind(once, 1), name)
+}
+
 /// The second place of a name in one list of successors.
-pub fn next_again<'a>(set: &'a [Token], name: &[u8]) -> Option<&'a [Token]> {
+pub fn next_again<'a>(set: &'a [Token], name: &[u8]) -> Option<&'a [Token]>
+    ensures { option_copied result ≡ next_again set.now name.now }
+{
     for at in 0..set.len() {
-        let here = &set[at..];
-        if stands(here, 0, b"next") {
-            let list = up_to(here, b";");
-            if let Some(one) = first(list, name) {
-                if let Some(again) = first(behind(one, 1), name) {
-                    return Some(again);
-                }
-            }
+        let again = again_in(&set[at..], name);
+        if again.is_some() {
+            return again;
         }
     }
     None

@@ -1,7 +1,8 @@
 // Tokens, and what stands at and behind them. A place in a text is the list of its tokens from there on.
-ghost use Rattle.std.specs.Prelude.{◌≡◌, ◌++◌, IfOk, drop, slice_get};
+ghost use Rattle.std.specs.Prelude.{◌≡◌, ◌++◌, IfOk, codes, drop, slice_get};
 ghost use Rattle.std.specs.Option.{option_copied, option_map};
 ghost use Rattle.std.specs.List.{before_first};
+ghost use Rattle.std.specs.Str.{IsUtf8};
 ghost use Rattle.text_places.specs.Tokens.{
   AreTokensOf,
   word_of,
@@ -217,11 +218,20 @@ pub fn width_at(range: &[Token]) -> Option<u64>
 }
 
 /// The name as text for a sentence.
-pub fn shown(name: &[u8]) -> &str {
-    str::from_utf8(name).unwrap_or("?")
+pub fn shown(name: &[u8]) -> &str
+    ensures text { IsUtf8 name.now → result.now ≡ name.now }
+    ensures other { ¬ (IsUtf8 name.now) → result.now ≡ codes "?" }
+{
+    match str::from_utf8(name) {
+        Ok(text) => text,
+        Err(_) => "?",
+    }
 }
 
 /// The name as text for a sentence.
-pub fn text_of(name: &Text) -> &str {
+pub fn text_of(name: &Text) -> &str
+    ensures text { IsUtf8 name.now → result.now ≡ name.now }
+    ensures other { ¬ (IsUtf8 name.now) → result.now ≡ codes "?" }
+{
     shown(name.bytes())
 }
