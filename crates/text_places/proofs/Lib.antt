@@ -5,4 +5,5 @@ pub mod Firsts
 pub mod PreviousWords
 pub mod Copies
 pub mod FirstGiven
+pub mod Clauses
 pub mod Cuts

@@ -1,10 +1,10 @@
 -- Where the names of a set are declared and used.
-use Rattle.std.specs.Prelude.{ℕ, ◌&&◌, Bool, false, nat_lt, if◌then◌else◌, List, [], ◌∷◌, Option, Some, None, drop, codes}
+use Rattle.std.specs.Prelude.{ℕ, ◌&&◌, Bool, false, nat_lt, if◌then◌else◌, List, [], ◌∷◌, Option, Some, None, drop, codes, fold}
 use Rattle.std.specs.Option.{option_map, option_map_or, option_and_then, option_or}
 use Rattle.std.specs.List.{before_first}
 use Rattle.vlog_words.specs.Words.{is_among}
 use Rattle.vlog_tree.specs.declared.token.Token.{Token}
-use Rattle.text_places.specs.Tokens.{word_at, number_at, stands, first_where, begins, begins_with_both, is_word, width_at}
+use Rattle.text_places.specs.Tokens.{word_of, begins_from, word_at, number_at, stands, first_where, begins, begins_with_both, is_word, width_at}
 
 -- the word behind the first `block`
 abbrev pub block_of : List Token → List ℕ
@@ -58,3 +58,13 @@ first_given given (t ∷ ts) = option_or (given (t ∷ ts)) (first_given given t
 
 abbrev pub next_again : List Token → List ℕ → Option (List Token)
 next_again set name = first_given (again_in name) set
+
+-- ---- clauses
+
+-- a token that begins a clause on properties or outputs, or ends a clause, leaves its own word
+abbrev pub clause_behind : List ℕ → Token → List ℕ
+clause_behind clause t = if is_among (codes "next" ∷ codes "cover" ∷ codes ";" ∷ []) (word_of t) then word_of t else clause
+
+-- what goes on at a byte
+abbrev pub clause_before : List Token → ℕ → List ℕ
+clause_before set byte = fold clause_behind [] (before_first (begins_from byte) set)

@@ -1,5 +1,5 @@
 -- The names of what a set's positions stand for: no bytes where nothing stands.
-use Rattle.std.specs.Prelude.{ℕ, ◌-◌, ◌==◌, if◌then◌else◌, List, [], codes, slice_get}
+use Rattle.std.specs.Prelude.{ℕ, ◌-◌, ◌==◌, ◌++◌, if◌then◌else◌, List, [], codes, slice_get}
 use Rattle.std.specs.Option.{option_map_or}
 use Rattle.set_tree.specs.declared.set.Name.{Name}
 use Rattle.set_tree.specs.declared.set.Property.{Property}
@@ -18,6 +18,10 @@ name_of_name n = n.name
 -- position 0 is the reset property's, which is called `reset`
 abbrev pub property_name : Set → ℕ → List ℕ
 property_name set at = if at == 0 then codes "reset" else option_map_or name_of_property (slice_get set.operations (at - 1)) []
+
+-- how a sentence names the property
+abbrev pub title_of : Set → ℕ → List ℕ
+title_of set at = (if at == 0 then codes "property " else codes "operation ") ++ property_name set at
 
 abbrev pub invariant_name : Set → ℕ → List ℕ
 invariant_name set at = option_map_or name_of_rule (slice_get set.invariants at) []

@@ -7,6 +7,8 @@ ghost use Rattle.text_places.specs.Sets.{
   declares,
   width_of_item,
   property_in,
+  clause_behind,
+  clause_before,
   again_in,
   next_again,
   begins_above,
@@ -15,8 +17,8 @@ ghost use Rattle.text_places.specs.Sets.{
 
 use crate::modules::Pick;
 use crate::tokens::{
-    behind, behind_word, byte_at, first, number_at, spells, stands, up_to, width_at, word_at,
-    word_of,
+    around, behind, behind_word, byte_at, first, number_at, spells, stands, up_to, width_at,
+    word_at, word_of,
 };
 use vlog_tree::Token;
 use vlog_words::is;
@@ -143,17 +145,26 @@ pub fn count_of_covers(property: &[Token], output: &[u8]) -> usize {
     property.len()
 }
 
+/// The word of the clause that goes on behind a token.
+fn clause_behind<'a>(clause: &'a [u8], token: &'a Token) -> &'a [u8]
+    ensures { result.now ≡ clause_behind clause.now token.now }
+{
+    let word = word_of(token);
+    if is(word, b"next") || is(word, b"cover") || is(word, b";") {
+        word
+    } else {
+        clause
+    }
+}
+
 /// The word of the clause that goes on at a place, where it names properties or outputs: `next` or `cover`.
-pub fn clause_before<'a>(set: &'a [Token], byte: usize) -> &'a [u8] {
+pub fn clause_before<'a>(set: &'a [Token], byte: usize) -> &'a [u8]
+    ensures { result.now ≡ clause_before set.now byte }
+{
     let mut clause: &[u8] = b"";
-    for token in set {
-        if token.at >= byte {
-            return clause;
-        }
-        let word = word_of(token);
-        if is(word, b"next") || is(word, b"cover") || is(word, b";") {
-            clause = word;
-        }
+    let (before, _) = around(set, byte);
+    for token in before {
+        clause = clause_behind(clause, token);
     }
     clause
 }

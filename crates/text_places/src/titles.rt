@@ -1,7 +1,8 @@
 // What a set's positions stand for, and how sentences name them.
-ghost use Rattle.std.specs.Prelude.{◌≡◌, MatchOption};
+ghost use Rattle.std.specs.Prelude.{◌≡◌, IfOk, MatchOption, string_bytes};
+ghost use Rattle.std.specs.Str.{IsUtf8};
 ghost use Rattle.set_tree.specs.Parts.{IsPosition, property_at};
-ghost use Rattle.text_places.specs.Titles.{property_name, invariant_name, declared_name};
+ghost use Rattle.text_places.specs.Titles.{property_name, title_of, invariant_name, declared_name};
 
 use crate::tokens::shown;
 use set_tree::{Property, Set};
@@ -51,7 +52,9 @@ pub fn declared_name(set: &Set, at: u32) -> &[u8]
 }
 
 /// The property at a position, as a sentence names it.
-pub fn titled(alloc: Global, set: &Set, at: u32) -> Result<String, AllocError> {
+pub fn titled(alloc: Global, set: &Set, at: u32) -> Result<String, AllocError>
+    ensures { IsUtf8 (property_name set.now at) → IfOk result (λ title. string_bytes title ≡ title_of set.now at) }
+{
     let name = shown(property_name(set, at));
     if at == 0 {
         return format!(in alloc; "property {name}");
