@@ -6,4 +6,5 @@ pub mod PreviousWords
 pub mod Copies
 pub mod FirstGiven
 pub mod Clauses
+pub mod Dots
 pub mod Cuts

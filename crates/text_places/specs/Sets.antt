@@ -4,6 +4,7 @@ use Rattle.std.specs.Option.{option_map, option_map_or, option_and_then, option_
 use Rattle.std.specs.List.{before_first}
 use Rattle.vlog_words.specs.Words.{is_among}
 use Rattle.vlog_tree.specs.declared.token.Token.{Token}
+use Rattle.text_places.specs.Paths.{spells}
 use Rattle.text_places.specs.Tokens.{word_of, begins_from, word_at, number_at, stands, first_where, begins, begins_with_both, is_word, width_at}
 
 -- the word behind the first `block`
@@ -68,3 +69,9 @@ clause_behind clause t = if is_among (codes "next" ∷ codes "cover" ∷ codes "
 -- what goes on at a byte
 abbrev pub clause_before : List Token → ℕ → List ℕ
 clause_before set byte = fold clause_behind [] (before_first (begins_from byte) set)
+
+-- ---- covers
+
+-- a cover of an output stands here
+abbrev pub covers : List ℕ → List Token → Bool
+covers output here = stands here 0 (codes "cover") && spells output (drop 1 here)

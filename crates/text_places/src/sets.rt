@@ -9,6 +9,7 @@ ghost use Rattle.text_places.specs.Sets.{
   property_in,
   clause_behind,
   clause_before,
+  covers,
   again_in,
   next_again,
   begins_above,
@@ -122,11 +123,20 @@ pub fn property_in<'a>(set: &'a [Token], name: &[u8]) -> Option<&'a [Token]>
     Some(up_to(place, b"operation"))
 }
 
+/// Whether a cover of an output stands at a place.
+fn covers(here: &[Token], output: &[u8]) -> bool
+    ensures { result ≡ covers output.now here.now }
+{
+    stands(here, 0, b"cover") && spells(behind(here, 1), output)
+}
+
 /// The place of the cover of an output in a property.
-pub fn cover_in<'a>(property: &'a [Token], output: &[u8]) -> Option<&'a [Token]> {
+pub fn cover_in<'a>(property: &'a [Token], output: &[u8]) -> Option<&'a [Token]>
+    ensures { option_copied result ≡ first_where (covers output.now) property.now }
+{
     for at in 0..property.len() {
         let here = &property[at..];
-        if stands(here, 0, b"cover") && spells(behind(here, 1), output) {
+        if covers(here, output) {
             return Some(here);
         }
     }

@@ -1,8 +1,9 @@
 // Tokens, and what stands at and behind them. A place in a text is the list of its tokens from there on.
-ghost use Rattle.std.specs.Prelude.{◌≡◌, ◌++◌, IfOk, codes, drop, slice_get};
+ghost use Rattle.std.specs.Prelude.{◌≡◌, ◌++◌, ◌<◌, IfOk, IfSome, codes, drop, length, position, slice_get};
 ghost use Rattle.std.specs.Option.{option_copied, option_map};
 ghost use Rattle.std.specs.List.{before_first};
 ghost use Rattle.std.specs.Str.{IsUtf8};
+ghost use Rattle.text_places.specs.Paths.{is_dot, spells};
 ghost use Rattle.text_places.specs.Tokens.{
   AreTokensOf,
   word_of,
@@ -163,18 +164,28 @@ pub fn last_behind_word<'a>(tokens: &'a [Token], before: &[u8], word: &[u8]) -> 
     last
 }
 
+/// Where the first dot of a path stands.
+fn first_dot(path: &[u8]) -> Option<usize>
+    ensures exact { result ≡ position is_dot path.now }
+    ensures within { IfSome result (λ dot. dot < length path.now) }
+{
+    path.iter().position(|byte| *byte == b'.')
+}
+
 /// Whether a hierarchical name stands at a place, and no longer one.
-pub fn spells(tokens: &[Token], path: &[u8]) -> bool {
-    let mut rest = tokens;
-    let mut goes_on = true;
-    for part in path.split(|byte| *byte == b'.') {
-        if !goes_on || !stands(rest, 0, part) {
+pub fn spells(tokens: &[Token], path: &[u8]) -> bool
+    ensures { result ≡ spells path.now tokens.now }
+{
+    let mut here = tokens;
+    let mut rest = path;
+    while let Some(dot) = first_dot(rest) {
+        if !stand_both(here, &rest[..dot], b".") {
             return false;
         }
-        goes_on = stands(rest, 1, b".");
-        rest = behind(rest, 2);
+        here = behind(here, 2);
+        rest = &rest[dot + 1..];
     }
-    !goes_on
+    stands(here, 0, rest) && !stands(here, 1, b".")
 }
 
 /// The bounds of a range of plain numbers.
