@@ -16,6 +16,15 @@ use vlog_tree::{CaseKind, Expr, Labels};
 use vlog_value::low_bits;
 use word_dag::{Dag, Op};
 
+/// What the labels of a case statement of some kind are compared with: its case expression, at the length and the sign at which they are
+/// compared.
+#[derive(Clone, Copy)]
+pub struct Subject {
+    pub kind: CaseKind,
+    pub wire: Wire,
+    pub signed: bool,
+}
+
 // The bits of a label that aren't compared.
 fn ignored(kind: CaseKind, label: &Expr) -> u64
     ensures { result ≡ ignored kind label.now }
@@ -71,25 +80,24 @@ fn same_but(dag: &mut Dag, a: Wire, b: Wire, bits: u64) -> Result<u64, AllocErro
     Ok(number)
 }
 
-// Whether a label matches the case expression, at the length and the sign at which they are compared.
+// Whether a label matches the case expression.
 #[tactic(auto, using(crate::proofs::Sides::placed_taken, elab_node::proofs::Kept::keeps_then, elab_node::proofs::Kept::made_node, elab_node::proofs::Kept::node_kept))]
 fn label_node(
     dag: &mut Dag,
-    kind: CaseKind,
+    subject: Subject,
     label: &Expr,
-    subject: Wire,
-    signed: bool,
     leaves: &Leaves,
 ) -> Result<u64, AllocError>
     requires ready { AreReady leaves.now dag.old }
-    requires subject { IsWire dag.old subject }
-    requires label { IsPlaced (declared leaves.now) label.now subject.width signed }
+    requires subject { IsWire dag.old subject.wire }
+    requires label { IsPlaced (declared leaves.now) label.now subject.wire.width subject.signed }
     ensures keeps { Keeps dag.old dag.new }
-    ensures makes { IfOk result (λ r. Makes dag.new r 1 (λ e. bit (is_match kind (valued leaves.now (words e dag.old)) subject.width signed (number_at e dag.old subject.node) label.now))) }
+    ensures makes { IfOk result (λ r. Makes dag.new r 1 (λ e. bit (is_match subject.kind (valued leaves.now (words e dag.old)) subject.wire.width subject.signed (number_at e dag.old subject.wire.node) label.now))) }
 {
-    let node = node_of(dag, label, subject.width, signed, leaves)?;
-    let width = subject.width;
-    let number = same_but(dag, subject, Wire { node, width }, ignored(kind, label))?;
+    let width = subject.wire.width;
+    let node = node_of(dag, label, width, subject.signed, leaves)?;
+    let unlike = ignored(subject.kind, label);
+    let number = same_but(dag, subject.wire, Wire { node, width }, unlike)?;
     Ok(number)
 }
 
@@ -115,21 +123,19 @@ fn either(dag: &mut Dag, a: u64, b: u64) -> Result<u64, AllocError>
 #[tactic(auto, using(elab_node::proofs::Kept::keeps_then, elab_node::proofs::Kept::keeps_same, elab_node::proofs::Kept::made_node, elab_node::proofs::Kept::node_kept, elab_node::proofs::Kept::ready_kept))]
 pub fn any_node(
     dag: &mut Dag,
-    kind: CaseKind,
+    subject: Subject,
     labels: &[Expr],
-    subject: Wire,
-    signed: bool,
     leaves: &Leaves,
 ) -> Result<u64, AllocError>
     requires ready { AreReady leaves.now dag.old }
-    requires subject { IsWire dag.old subject }
-    requires labels { ArePlaced (declared leaves.now) labels.now subject.width signed }
+    requires subject { IsWire dag.old subject.wire }
+    requires labels { ArePlaced (declared leaves.now) labels.now subject.wire.width subject.signed }
     ensures keeps { Keeps dag.old dag.new }
-    ensures makes { IfOk result (λ r. Makes dag.new r 1 (λ e. bit (list_any (is_match kind (valued leaves.now (words e dag.old)) subject.width signed (number_at e dag.old subject.node)) labels.now))) }
+    ensures makes { IfOk result (λ r. Makes dag.new r 1 (λ e. bit (list_any (is_match subject.kind (valued leaves.now (words e dag.old)) subject.wire.width subject.signed (number_at e dag.old subject.wire.node)) labels.now))) }
 {
     let mut any = constant(dag, 1, 0)?;
     for label in labels {
-        let one = label_node(dag, kind, label, subject, signed, leaves)?;
+        let one = label_node(dag, subject, label, leaves)?;
         any = either(dag, any, one)?;
     }
     Ok(any)

@@ -9,11 +9,19 @@ ghost use Rattle.elab_node.specs.Nodes.{Makes, number_at, words, IsWire};
 ghost use Rattle.elab_block.specs.Ready.{ArePlaced};
 ghost use Rattle.elab_block.specs.Cases.{is_chosen, each_labels, AreMatches};
 
-use crate::cases::any_node;
+use crate::cases::{Subject, any_node};
 use elab_node::{Leaves, Wire, constant, node_of, shape};
 use std::alloc::{AllocError, Global};
 use vlog_tree::{CaseItem, CaseKind, Expr, Labels};
 use word_dag::Dag;
+
+/// A case statement: its kind, its case expression and its items.
+#[derive(Clone, Copy)]
+pub struct Case<'a> {
+    pub kind: CaseKind,
+    pub subject: &'a Expr,
+    pub items: &'a [CaseItem],
+}
 
 // The longest length so far and that of some labels, and whether all are signed.
 fn with_labels(here: (u8, bool), labels: &[Expr], leaves: &Leaves) -> Result<(u8, bool), AllocError>
@@ -30,18 +38,14 @@ fn with_labels(here: (u8, bool), labels: &[Expr], leaves: &Leaves) -> Result<(u8
 }
 
 // The length and the sign at which a case expression and the labels are compared.
-fn compared_at(
-    subject: &Expr,
-    items: &[CaseItem],
-    leaves: &Leaves,
-) -> Result<(u8, bool), AllocError>
-    requires subject { IsFormed (declared leaves.now) subject.now }
-    requires labels { each_formed (declared leaves.now) (each_labels items.now) }
-    ensures width { IfOk result (λ s. s.0 ≡ case_width (declared leaves.now) subject.now (each_labels items.now)) }
-    ensures sign { IfOk result (λ s. s.1 ≡ case_sign (declared leaves.now) subject.now (each_labels items.now)) }
+fn compared_at(case: Case<'_>, leaves: &Leaves) -> Result<(u8, bool), AllocError>
+    requires subject { IsFormed (declared leaves.now) case.subject.now }
+    requires labels { each_formed (declared leaves.now) (each_labels case.items.now) }
+    ensures width { IfOk result (λ s. s.0 ≡ case_width (declared leaves.now) case.entry.subject.now (each_labels case.entry.items.now)) }
+    ensures sign { IfOk result (λ s. s.1 ≡ case_sign (declared leaves.now) case.entry.subject.now (each_labels case.entry.items.now)) }
 {
-    let mut longest = shape(subject, leaves)?;
-    for item in items {
+    let mut longest = shape(case.subject, leaves)?;
+    for item in case.items {
         let more = with_labels(longest, exprs_in(&item.labels), leaves)?;
         longest = more;
     }
@@ -61,21 +65,19 @@ fn exprs_in(labels: &Labels) -> &[Expr]
 // Whether a label of an item matches. No label of `default` does.
 fn item_node(
     dag: &mut Dag,
-    kind: CaseKind,
+    subject: Subject,
     labels: &Labels,
-    subject: Wire,
-    signed: bool,
     leaves: &Leaves,
 ) -> Result<u64, AllocError>
     requires ready { AreReady leaves.now dag.old }
-    requires subject { IsWire dag.old subject }
-    requires labels { ArePlaced (declared leaves.now) (exprs_in labels.now) subject.width signed }
+    requires subject { IsWire dag.old subject.wire }
+    requires labels { ArePlaced (declared leaves.now) (exprs_in labels.now) subject.wire.width subject.signed }
     ensures keeps { Keeps dag.old dag.new }
-    ensures makes { IfOk result (λ r. Makes dag.new r 1 (λ e. bit (is_chosen kind (valued leaves.now (words e dag.old)) subject.width signed (number_at e dag.old subject.node) labels.now))) }
+    ensures makes { IfOk result (λ r. Makes dag.new r 1 (λ e. bit (is_chosen subject.kind (valued leaves.now (words e dag.old)) subject.wire.width subject.signed (number_at e dag.old subject.wire.node) labels.now))) }
 {
     match labels {
         Labels::Exprs(labels) => {
-            let number = any_node(dag, kind, labels.as_slice(), subject, signed, leaves)?;
+            let number = any_node(dag, subject, labels.as_slice(), leaves)?;
             Ok(number)
         }
         Labels::Default => {
@@ -86,28 +88,25 @@ fn item_node(
 }
 
 /// For each item a bit that is 1 where one of its labels matches the case expression, all of them read from these leaves.
-pub fn item_tests(
-    alloc: Global,
-    dag: &mut Dag,
-    kind: CaseKind,
-    subject: &Expr,
-    items: &[CaseItem],
-    leaves: &Leaves,
-) -> Result<Vec<u64>, AllocError>
+pub fn item_tests(dag: &mut Dag, case: Case<'_>, leaves: &Leaves) -> Result<Vec<u64>, AllocError>
     requires ready { AreReady leaves.now dag.old }
-    requires placed { ArePlaced (declared leaves.now) (subject.now ∷ each_labels items.now) (case_width (declared leaves.now) subject.now (each_labels items.now)) (case_sign (declared leaves.now) subject.now (each_labels items.now)) }
+    requires placed { ArePlaced (declared leaves.now) (case.subject.now ∷ each_labels case.items.now) (case_width (declared leaves.now) case.subject.now (each_labels case.items.now)) (case_sign (declared leaves.now) case.subject.now (each_labels case.items.now)) }
     ensures keeps { Keeps dag.old dag.new }
-    ensures matches { IfOk result (λ r. AreMatches kind leaves.now subject.now (case_width (declared leaves.now) subject.now (each_labels items.now)) (case_sign (declared leaves.now) subject.now (each_labels items.now)) dag.old items.now r.items dag.new) }
+    ensures matches { IfOk result (λ r. AreMatches case.entry.kind leaves.now case.entry.subject.now (case_width (declared leaves.now) case.entry.subject.now (each_labels case.entry.items.now)) (case_sign (declared leaves.now) case.entry.subject.now (each_labels case.entry.items.now)) dag.old case.entry.items.now r.items dag.new) }
 {
-    let place = compared_at(subject, items, leaves)?;
-    let node = node_of(dag, subject, place.0, place.1, leaves)?;
-    let wire = Wire {
-        node,
-        width: place.0,
+    let place = compared_at(case, leaves)?;
+    let node = node_of(dag, case.subject, place.0, place.1, leaves)?;
+    let subject = Subject {
+        kind: case.kind,
+        wire: Wire {
+            node,
+            width: place.0,
+        },
+        signed: place.1,
     };
-    let mut tests = Vec::new(alloc);
-    for item in items {
-        let test = item_node(dag, kind, &item.labels, wire, place.1, leaves)?;
+    let mut tests = Vec::new(leaves.allocator());
+    for item in case.items {
+        let test = item_node(dag, subject, &item.labels, leaves)?;
         tests.push(test)?;
     }
     Ok(tests)

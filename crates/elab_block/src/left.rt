@@ -136,18 +136,25 @@ fn selected(dag: &mut Dag, name: &Text, index: &Expr, leaves: &Leaves) -> Result
     })
 }
 
+// The two expressions of a part-select: the first and the last bit, or where the bits begin and how many they are.
+#[derive(Clone, Copy)]
+struct Bounds<'a> {
+    a: &'a Expr,
+    b: &'a Expr,
+}
+
 // The bits of `[a:b]`.
-fn fixed(name: &Text, a: &Expr, b: &Expr, leaves: &Leaves) -> Result<Target, AllocError>
+fn fixed(name: &Text, bounds: Bounds<'_>, leaves: &Leaves) -> Result<Target, AllocError>
     requires name { Stands (declared leaves.now) (read name.now) }
-    requires high { IsSingle (declared leaves.now) a.now }
-    requires low { IsSingle (declared leaves.now) b.now }
-    requires constant { IsPartConstant nothing w.Fixed a.now b.now }
-    requires count { IsLength (part_width w.Fixed (own_integer (operand_of (declared leaves.now) a.now)) (own_integer (operand_of (declared leaves.now) b.now))) }
-    ensures { IfOk result (λ t. (ns : List Node) → IsPart leaves.now ns t (l.Part name.now w.Fixed a.now b.now)) }
+    requires high { IsSingle (declared leaves.now) bounds.a.now }
+    requires low { IsSingle (declared leaves.now) bounds.b.now }
+    requires constant { IsPartConstant nothing w.Fixed bounds.a.now bounds.b.now }
+    requires count { IsLength (part_width w.Fixed (own_integer (operand_of (declared leaves.now) bounds.a.now)) (own_integer (operand_of (declared leaves.now) bounds.b.now))) }
+    ensures { IfOk result (λ t. (ns : List Node) → IsPart leaves.now ns t (l.Part name.now w.Fixed bounds.entry.a.now bounds.entry.b.now)) }
 {
     let leaf = leaf_number(name, leaves);
-    let high = constant_of(a, leaves)?;
-    let low = constant_of(b, leaves)?;
+    let high = constant_of(bounds.a, leaves)?;
+    let low = constant_of(bounds.b, leaves)?;
     Ok(Target {
         leaf,
         spot: Spot::Fixed(less(low, leaves.leaf(leaf).low)),
@@ -159,24 +166,23 @@ fn fixed(name: &Text, a: &Expr, b: &Expr, leaves: &Leaves) -> Result<Target, All
 fn upward(
     dag: &mut Dag,
     name: &Text,
-    a: &Expr,
-    b: &Expr,
+    bounds: Bounds<'_>,
     leaves: &Leaves,
 ) -> Result<Target, AllocError>
     requires ready { AreReady leaves.now dag.old }
     requires name { Stands (declared leaves.now) (read name.now) }
-    requires base { IsSingle (declared leaves.now) a.now }
-    requires width { IsSingle (declared leaves.now) b.now }
-    requires constant { IsPartConstant nothing w.Up a.now b.now }
-    requires count { IsLength (part_width w.Up (own_integer (operand_of (declared leaves.now) a.now)) (own_integer (operand_of (declared leaves.now) b.now))) }
+    requires base { IsSingle (declared leaves.now) bounds.a.now }
+    requires width { IsSingle (declared leaves.now) bounds.b.now }
+    requires constant { IsPartConstant nothing w.Up bounds.a.now bounds.b.now }
+    requires count { IsLength (part_width w.Up (own_integer (operand_of (declared leaves.now) bounds.a.now)) (own_integer (operand_of (declared leaves.now) bounds.b.now))) }
     ensures keeps { Keeps dag.old dag.new }
     ensures ready { AreReady leaves.now dag.new }
-    ensures part { IfOk result (λ t. IsPart leaves.now dag.new t (l.Part name.now w.Up a.now b.now)) }
+    ensures part { IfOk result (λ t. IsPart leaves.now dag.new t (l.Part name.now w.Up bounds.entry.a.now bounds.entry.b.now)) }
 {
     let leaf = leaf_number(name, leaves);
-    let number = constant_of(b, leaves)?;
+    let number = constant_of(bounds.b, leaves)?;
     let count = counted(number);
-    let index = index_of(dag, a, leaves)?;
+    let index = index_of(dag, bounds.a, leaves)?;
     let from = plus(leaves.leaf(leaf).low, 0);
     Ok(Target {
         leaf,
@@ -189,24 +195,23 @@ fn upward(
 fn downward(
     dag: &mut Dag,
     name: &Text,
-    a: &Expr,
-    b: &Expr,
+    bounds: Bounds<'_>,
     leaves: &Leaves,
 ) -> Result<Target, AllocError>
     requires ready { AreReady leaves.now dag.old }
     requires name { Stands (declared leaves.now) (read name.now) }
-    requires base { IsSingle (declared leaves.now) a.now }
-    requires width { IsSingle (declared leaves.now) b.now }
-    requires constant { IsPartConstant nothing w.Down a.now b.now }
-    requires count { IsLength (part_width w.Down (own_integer (operand_of (declared leaves.now) a.now)) (own_integer (operand_of (declared leaves.now) b.now))) }
+    requires base { IsSingle (declared leaves.now) bounds.a.now }
+    requires width { IsSingle (declared leaves.now) bounds.b.now }
+    requires constant { IsPartConstant nothing w.Down bounds.a.now bounds.b.now }
+    requires count { IsLength (part_width w.Down (own_integer (operand_of (declared leaves.now) bounds.a.now)) (own_integer (operand_of (declared leaves.now) bounds.b.now))) }
     ensures keeps { Keeps dag.old dag.new }
     ensures ready { AreReady leaves.now dag.new }
-    ensures part { IfOk result (λ t. IsPart leaves.now dag.new t (l.Part name.now w.Down a.now b.now)) }
+    ensures part { IfOk result (λ t. IsPart leaves.now dag.new t (l.Part name.now w.Down bounds.entry.a.now bounds.entry.b.now)) }
 {
     let leaf = leaf_number(name, leaves);
-    let number = constant_of(b, leaves)?;
+    let number = constant_of(bounds.b, leaves)?;
     let count = counted(number);
-    let index = index_of(dag, a, leaves)?;
+    let index = index_of(dag, bounds.a, leaves)?;
     let from = plus(leaves.leaf(leaf).low, count - 1);
     Ok(Target {
         leaf,
@@ -220,23 +225,22 @@ fn part(
     dag: &mut Dag,
     name: &Text,
     span: Span,
-    a: &Expr,
-    b: &Expr,
+    bounds: Bounds<'_>,
     leaves: &Leaves,
 ) -> Result<Target, AllocError>
     requires ready { AreReady leaves.now dag.old }
-    requires part { IsReadyLeft (declared leaves.now) (l.Part name.now span a.now b.now) }
+    requires part { IsReadyLeft (declared leaves.now) (l.Part name.now span bounds.a.now bounds.b.now) }
     ensures keeps { Keeps dag.old dag.new }
     ensures ready { AreReady leaves.now dag.new }
-    ensures part { IfOk result (λ t. IsPart leaves.now dag.new t (l.Part name.now span a.now b.now)) }
+    ensures part { IfOk result (λ t. IsPart leaves.now dag.new t (l.Part name.now span bounds.entry.a.now bounds.entry.b.now)) }
 {
     match span {
         Span::Fixed => {
-            let target = fixed(name, a, b, leaves)?;
+            let target = fixed(name, bounds, leaves)?;
             Ok(target)
         }
-        Span::Up => upward(dag, name, a, b, leaves),
-        Span::Down => downward(dag, name, a, b, leaves),
+        Span::Up => upward(dag, name, bounds, leaves),
+        Span::Down => downward(dag, name, bounds, leaves),
     }
 }
 
@@ -295,7 +299,7 @@ pub fn targets_of(
             Ok(targets)
         }
         Lval::Part(name, span, a, b) => {
-            let target = part(dag, name, *span, a, b, leaves)?;
+            let target = part(dag, name, *span, Bounds { a, b }, leaves)?;
             let targets = only(alloc, target)?;
             Ok(targets)
         }

@@ -12,12 +12,12 @@ ghost use Rattle.elab_block.specs.Ready.{IsSingle, IsReadyStore, ArePlaced};
 ghost use Rattle.elab_block.specs.Runs.{seen_by, is_at_once, AreSet, Runs, Tests, AreBits, AreTests};
 ghost use Rattle.elab_block.specs.Cases.{each_labels, case_test};
 
-use crate::items::item_tests;
+use crate::items::{Case, item_tests};
 use crate::left::targets_of;
 use crate::targets::{Target, give};
 use elab_node::{Leaves, Wire, assigned_node, holds_node};
 use std::alloc::{AllocError, Global};
-use vlog_tree::{CaseItem, CaseKind, Expr, Lval};
+use vlog_tree::{Expr, Lval};
 use word_dag::Dag;
 
 // The leaves that expressions are read from.
@@ -94,22 +94,19 @@ pub fn condition_node(
 /// For each item of a case statement a bit that is 1 where one of its labels matches.
 #[tactic(auto, using(crate::proofs::Storing::set_kept))]
 pub fn case_tests(
-    alloc: Global,
     dag: &mut Dag,
-    kind: CaseKind,
-    subject: &Expr,
-    items: &[CaseItem],
+    case: Case<'_>,
     reads: Option<&Leaves>,
     state: &Leaves,
 ) -> Result<Vec<u64>, AllocError>
     requires set { AreSet (option_copied reads) state.now dag.old }
-    requires placed { ArePlaced (declared state.now) (subject.now ∷ each_labels items.now) (case_width (declared state.now) subject.now (each_labels items.now)) (case_sign (declared state.now) subject.now (each_labels items.now)) }
+    requires placed { ArePlaced (declared state.now) (case.subject.now ∷ each_labels case.items.now) (case_width (declared state.now) case.subject.now (each_labels case.items.now)) (case_sign (declared state.now) case.subject.now (each_labels case.items.now)) }
     ensures keeps { Keeps dag.old dag.new }
     ensures set { AreSet (option_copied reads.entry) state.now dag.new }
-    ensures bits { IfOk result (λ r. AreBits items.now r.items dag.new) }
-    ensures tests { IfOk result (λ r. AreTests (option_copied reads.entry) (λ gs. case_test (is_at_once (option_copied reads.entry)) (flat gs) kind subject.now items.now) state.now dag.old dag.new items.now r.items) }
+    ensures bits { IfOk result (λ r. AreBits case.entry.items.now r.items dag.new) }
+    ensures tests { IfOk result (λ r. AreTests (option_copied reads.entry) (λ gs. case_test (is_at_once (option_copied reads.entry)) (flat gs) case.entry.kind case.entry.subject.now case.entry.items.now) state.now dag.old dag.new case.entry.items.now r.items) }
 {
     let leaves = seen(dag, reads, state);
-    let tests = item_tests(alloc, dag, kind, subject, items, leaves)?;
+    let tests = item_tests(dag, case, leaves)?;
     Ok(tests)
 }

@@ -10,7 +10,7 @@ ghost use Rattle.elab_block.specs.Standing.{AreApart};
 ghost use Rattle.elab_block.specs.Targets.{IsSpot, IsTarget, AreTargets, bits_in, bit_at, Puts, PutsFrom, Gives};
 
 use crate::bits::written;
-use crate::indexed::{Change, indexed};
+use crate::indexed::{Change, Write, indexed};
 use elab_node::{Leaves, Own, Wire, length_of, slice};
 use std::alloc::AllocError;
 use vlog_value::integer;
@@ -47,23 +47,23 @@ fn constant_word(dag: &Dag, a: Wire) -> Option<Word>
 }
 
 // A word after bits are written in it at an index. A constant one names a single place.
-fn changed_at(dag: &mut Dag, change: Change, index: Own, from: i128) -> Result<u64, AllocError>
-    requires old { IsWire dag.old change.old }
-    requires bits { IsWire dag.old change.bits }
-    requires index { IsWire dag.old index.wire }
+fn changed_at(dag: &mut Dag, write: Write, from: i128) -> Result<u64, AllocError>
+    requires old { IsWire dag.old write.change.old }
+    requires bits { IsWire dag.old write.change.bits }
+    requires index { IsWire dag.old write.index.wire }
     requires low { negsuc (2 ^ 80) ≤ℤ from }
     requires high { from <ℤ pos (2 ^ 80) }
     ensures keeps { Keeps dag.old dag.new }
-    ensures makes { IfOk result (λ r. Makes dag.new r change.old.width (λ e. write_bits change.old.width (integer index.signed index.wire.width (number_at e dag.old index.wire.node) -ℤ from) change.bits.width (number_at e dag.old change.bits.node) (number_at e dag.old change.old.node))) }
+    ensures makes { IfOk result (λ r. Makes dag.new r write.change.old.width (λ e. write_bits write.change.old.width (integer write.index.signed write.index.wire.width (number_at e dag.old write.index.wire.node) -ℤ from) write.change.bits.width (number_at e dag.old write.change.bits.node) (number_at e dag.old write.change.old.node))) }
 {
-    match constant_word(dag, index.wire) {
+    match constant_word(dag, write.index.wire) {
         Some(word) => {
-            let at = integer(word, index.signed) - from;
-            let number = written(dag, change.old, change.bits, at)?;
+            let at = integer(word, write.index.signed) - from;
+            let number = written(dag, write.change.old, write.change.bits, at)?;
             Ok(number)
         }
         None => {
-            let number = indexed(dag, change, index, from)?;
+            let number = indexed(dag, write, from)?;
             Ok(number)
         }
     }
@@ -83,7 +83,7 @@ fn changed(dag: &mut Dag, change: Change, spot: Spot) -> Result<u64, AllocError>
             Ok(number)
         }
         Spot::Indexed(index, from) => {
-            let number = changed_at(dag, change, index, from)?;
+            let number = changed_at(dag, Write { change, index }, from)?;
             Ok(number)
         }
     }

@@ -9,7 +9,7 @@ abbrev pub invariant-run_row-loop-stmt : goal.invariant-run_row-loop-stmt
 invariant-run_row-loop-stmt l = Running (option_copied l.reads) l.stmts (drop l.stmt-index l.stmts) l.fn.state l.fn.dag l.state l.dag
 
 abbrev pub invariant-run_items-loop-left : goal.invariant-run_items-loop-left
-invariant-run_items-loop-left l = Picking (option_copied l.reads) l.items l.tests l.before l.fn.state l.fn.dag l.state l.dag l.left
+invariant-run_items-loop-left l = Picking (option_copied l.reads) l.items l.forks.tests.now l.forks.before.now l.fn.state l.fn.dag l.state l.dag l.left
 
 abbrev pub decreases-run_items-loop-left : goal.decreases-run_items-loop-left
 decreases-run_items-loop-left l = l.left

@@ -11,5 +11,5 @@ use Rattle.elab_block.proofs.cases.any_node.Given as goal
 abbrev pub invariant-loop-label : goal.invariant-loop-label
 invariant-loop-label l = record {
   keeps : Keeps l.fn.dag l.dag;
-  any : Makes l.dag l.any 1 (λ e. bit (list_any (is_match l.fn.kind (valued l.leaves (words e l.fn.dag)) l.fn.subject.width l.fn.signed (number_at e l.fn.dag l.fn.subject.node)) (take l.label-index l.labels)));
+  any : Makes l.dag l.any 1 (λ e. bit (list_any (is_match l.fn.subject.kind (valued l.leaves (words e l.fn.dag)) l.fn.subject.wire.width l.fn.subject.signed (number_at e l.fn.dag l.fn.subject.wire.node)) (take l.label-index l.labels)));
 }

@@ -14,14 +14,14 @@ use Rattle.elab_block.proofs.indexed.indexed.Goals as goal
 pub loop-step-init : goal.loop-step-init
 loop-step-init c =
     let d = c.args.dag.now in
-    let x = c.args.index.wire in
-    let o = c.args.change.old in
-    let b = c.args.change.bits in
+    let x = c.args.write.index.wire in
+    let o = c.args.write.change.old in
+    let b = c.args.write.change.bits in
     record {
       keeps = keeps_same d;
       number = made_same d o.node o.width _ _ (made_here d o.node o.width c.length_of-size.ensures.fit c.requires.old)
           (λ e.
-          let i = integer c.args.index.signed x.width (number_at e d x.node) -ℤ to_z w128 (of_z w128 c.args.from) in
+          let i = integer c.args.write.index.signed x.width (number_at e d x.node) -ℤ to_z w128 (of_z w128 c.args.from) in
           tried_none (λ i. write_bits o.width i b.width (number_at e d b.node) (number_at e d o.node)) (number_at e d o.node) i b.width c.length_of-count.ensures.long.0
           (past_below c.bits_are_written.ensures.below i o.width b.width (number_at e d b.node) (number_at e d o.node)));
     }
@@ -32,13 +32,13 @@ returns-in_err-number-clause-keeps c = keeps_then c.args.dag.now c.loop-step.dag
 pub loop-step-preserved : goal.loop-step-preserved
 loop-step-preserved c =
     let d = c.args.dag.now in
-    let x = c.args.index.wire in
-    let o = c.args.change.old in
-    let b = c.args.change.bits in
+    let x = c.args.write.index.wire in
+    let o = c.args.write.change.old in
+    let b = c.args.write.change.bits in
     let now = c.loop-step.dag in
     let k = c.loop-step.invariant.keeps in
     let f : ℤ = to_z w128 (of_z w128 c.args.from) in
-    let s = c.args.index.signed in
+    let s = c.args.write.index.signed in
     let at : ℤ = pos c.loop-step.step -ℤ pos (b.width - 1) in
     let next : pos (c.loop-step.step + 1) -ℤ pos (b.width - 1) ≡ at +ℤ pos 1 = omega (arith, ints) in
     record {
@@ -56,14 +56,14 @@ loop-step-preserved c =
 pub returns-clause-makes : goal.returns-clause-makes
 returns-clause-makes c =
     let d = c.args.dag.now in
-    let x = c.args.index.wire in
-    let o = c.args.change.old in
-    let b = c.args.change.bits in
+    let x = c.args.write.index.wire in
+    let o = c.args.write.change.old in
+    let b = c.args.write.change.bits in
     let z : to_z w128 (of_z w128 c.args.from) ≡ c.args.from = omega (arith, ints) in
     let end : pos c.loop-step.step -ℤ pos (b.width - 1) ≡ pos o.width = omega (arith, ints, c.loop-step-test.false, c.loop-step.auto.step-end, c.length_of-size.ensures.same, c.length_of-count.ensures.same, c.length_of-count.ensures.long.0) in
     made_same c.loop-step.dag c.loop-step.number o.width _ _ c.loop-step.invariant.number
     (λ e.
     let g = λ (i : ℤ). write_bits o.width i b.width (number_at e d b.node) (number_at e d o.node) in
-    let j = integer c.args.index.signed x.width (number_at e d x.node) in
+    let j = integer c.args.write.index.signed x.width (number_at e d x.node) in
     (λ r. tried g (number_at e d o.node) (j -ℤ z r) (end r))
     ∙ tried_all g (number_at e d o.node) (j -ℤ c.args.from) o.width (past_above c.bits_are_written.ensures.others (j -ℤ c.args.from) o.width b.width (number_at e d b.node) (number_at e d o.node)))

@@ -10,6 +10,6 @@ use Rattle.elab_block.proofs.indexed.indexed.Given as goal
 abbrev pub invariant-loop-step : goal.invariant-loop-step
 invariant-loop-step l = record {
   keeps : Keeps l.fn.dag l.dag;
-  number : Makes l.dag l.number l.change.old.width (λ e. tried (λ i. write_bits l.change.old.width i l.change.bits.width (number_at e l.fn.dag l.change.bits.node) (number_at e l.fn.dag l.change.old.node))
-      (number_at e l.fn.dag l.change.old.node) (integer l.index.signed l.index.wire.width (number_at e l.fn.dag l.index.wire.node) -ℤ l.from) (pos l.step -ℤ pos (l.change.bits.width - 1)));
+  number : Makes l.dag l.number l.write.change.old.width (λ e. tried (λ i. write_bits l.write.change.old.width i l.write.change.bits.width (number_at e l.fn.dag l.write.change.bits.node) (number_at e l.fn.dag l.write.change.old.node))
+      (number_at e l.fn.dag l.write.change.old.node) (integer l.write.index.signed l.write.index.wire.width (number_at e l.fn.dag l.write.index.wire.node) -ℤ l.from) (pos l.step -ℤ pos (l.write.change.bits.width - 1)));
 }

@@ -7,4 +7,4 @@ use Rattle.elab_block.proofs.items.compared_at.Given as goal
 
 abbrev pub invariant-loop-item : goal.invariant-loop-item
 invariant-loop-item l =
-    Longest (declared l.leaves) l.longest.0 l.longest.1 (each_labels (drop l.item-index l.items)) (case_width (declared l.leaves) l.subject (each_labels l.items)) (case_sign (declared l.leaves) l.subject (each_labels l.items))
+    Longest (declared l.leaves) l.longest.0 l.longest.1 (each_labels (drop l.item-index l.case.items.now)) (case_width (declared l.leaves) l.case.subject.now (each_labels l.case.items.now)) (case_sign (declared l.leaves) l.case.subject.now (each_labels l.case.items.now))

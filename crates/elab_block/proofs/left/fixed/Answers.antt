@@ -24,6 +24,6 @@ returns c ns =
     let value = f.value ∙ ap (λ k. k -ℤ pos l.low) yl in
     let small = f.small in
     let z : to_z w128 (of_z w128 c.less.result) ≡ c.less.result = omega (arith, ints, value, small, lo, hi) in
-    fixed_part es c.args.name.now i (leaf_read es c.args.name.now i l c.leaf.ensures c.leaf_number-leaf.ensures) ns _ c.args.a.now c.args.b.now c.in_ok-high.high c.in_ok-low.low c.less.result
-    c.requires.constant.0 c.requires.constant.1 high.value low.value (fixed_length es c.args.a.now c.args.b.now c.in_ok-high.high c.in_ok-low.low high.value low.value c.requires.count) lo hi small value
+    fixed_part es c.args.name.now i (leaf_read es c.args.name.now i l c.leaf.ensures c.leaf_number-leaf.ensures) ns _ c.args.bounds.a.now c.args.bounds.b.now c.in_ok-high.high c.in_ok-low.low c.less.result
+    c.requires.constant.0 c.requires.constant.1 high.value low.value (fixed_length es c.args.bounds.a.now c.args.bounds.b.now c.in_ok-high.high c.in_ok-low.low high.value low.value c.requires.count) lo hi small value
     (λ r. record { leaf = i; spot = s.Fixed (z r); count = (c.between.ensures ∙ (λ q. part_width w.Fixed (yh q) (yl q))) r })

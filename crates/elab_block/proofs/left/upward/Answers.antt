@@ -19,6 +19,6 @@ returns-clause-part c =
     let y : to_z w128 (of_z w128 n) ≡ n = omega (arith, ints, lo, hi) in
     let count = c.counted-count.ensures ∙ ap natural y in
     let z : to_z w128 (of_z w128 c.plus-from.result) ≡ c.plus-from.result = omega (arith, ints, f.value, f.small, f.few) in
-    up_part es c.args.name.now i (leaf_read es c.args.name.now i l c.leaf.ensures c.leaf_number-leaf.ensures) c.index_of.new.dag _ c.args.a.now c.args.b.now c.in_ok-index.index n c.plus-from.result
+    up_part es c.args.name.now i (leaf_read es c.args.name.now i l c.leaf.ensures c.leaf_number-leaf.ensures) c.index_of.new.dag _ c.args.bounds.a.now c.args.bounds.b.now c.in_ok-index.index n c.plus-from.result
     c.requires.constant c.in_ok-number.ensures.value (subst (λ k. IsLength (natural k)) (sym c.in_ok-number.ensures.value) c.requires.count) c.in_ok-index.ensures.index f.small f.value
     (λ r. record { leaf = i; spot = s.Indexed c.in_ok-index.index (z r); count = count r })

@@ -9,18 +9,18 @@ use Rattle.elab_block.proofs.stores.case_tests.Goals as goal
 
 pub item_tests-requires-clause-placed : goal.item_tests-requires-clause-placed
 item_tests-requires-clause-placed c =
-    let xs = each_labels c.args.items.now in
-    let a = c.args.subject.now in
+    let xs = each_labels c.args.case.items.now in
+    let a = c.args.case.subject.now in
     subst (λ v. ArePlaced v (a ∷ xs) (case_width v a xs) (case_sign v a xs)) (sym c.seen-leaves.ensures.same) c.requires.placed
 
 pub returns-clause-bits : goal.returns-clause-bits
-returns-clause-bits c = matches_bits c.args.kind c.seen-leaves.result.now c.args.subject.now _ _ c.args.dag.now c.item_tests.new.dag c.args.items.now c.in_ok-tests.tests.items c.in_ok-tests.ensures.matches
+returns-clause-bits c = matches_bits c.args.case.kind c.seen-leaves.result.now c.args.case.subject.now _ _ c.args.dag.now c.item_tests.new.dag c.args.case.items.now c.in_ok-tests.tests.items c.in_ok-tests.ensures.matches
 
 pub returns-clause-tests : goal.returns-clause-tests
 returns-clause-tests c =
-    let xs = each_labels c.args.items.now in
-    let a = c.args.subject.now in
-    matches_tests (option_copied c.args.reads) c.args.kind a c.args.items.now c.args.state.now c.seen-leaves.result.now c.args.dag.now c.item_tests.new.dag c.args.items.now c.in_ok-tests.tests.items c.requires.set c.seen-leaves.ensures.value
+    let xs = each_labels c.args.case.items.now in
+    let a = c.args.case.subject.now in
+    matches_tests (option_copied c.args.reads) c.args.case.kind a c.args.case.items.now c.args.state.now c.seen-leaves.result.now c.args.dag.now c.item_tests.new.dag c.args.case.items.now c.in_ok-tests.tests.items c.requires.set c.seen-leaves.ensures.value
     (subst (λ v. ArePlaced v (a ∷ xs) (case_width v a xs) (case_sign v a xs)) (sym c.seen-leaves.ensures.same) c.requires.placed) c.in_ok-tests.ensures.matches
 
 pub returns-in_err-tests-clause-set : goal.returns-in_err-tests-clause-set

@@ -23,5 +23,5 @@ returns-in_ok-number-in-Some-clause-makes c =
     let value = i.value in
     let low = i.low in
     let high = i.high in
-    written_at c.args.dag.now c.written.new.dag c.in_ok-number-in-Some.number c.args.change.old.width c.args.change.bits.width c.args.change.bits.node c.args.change.old.node c.args.index c.in-Some.word _ c.args.from
+    written_at c.args.dag.now c.written.new.dag c.in_ok-number-in-Some.number c.args.write.change.old.width c.args.write.change.bits.width c.args.write.change.bits.node c.args.write.change.old.node c.args.write.index c.in-Some.word _ c.args.from
     c.in-Some.ensures c.in_ok-number-in-Some.ensures.makes (omega (arith, ints, value, low, high))
