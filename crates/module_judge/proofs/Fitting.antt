@@ -1,5 +1,5 @@
 -- Values that have the lengths of their signals, by the test and by the definition.
-use Rattle.std.proofs.Common.{◌≡◌, ℕ, suc, ◌<◌, ◌^◌, ◌&&◌, Bool, true, false, nat_lt, List, [], ◌∷◌, length, refl, ap, ⊎_elim}
+use Rattle.std.proofs.Common.{◌≡◌, ℕ, suc, ◌^◌, ◌&&◌, Bool, true, false, nat_lt, List, [], ◌∷◌, length, refl, ap}
 use Rattle.std.proofs.lemmas.Bool.{ltb-true, lt-ltb}
 use Rattle.vlog_runs.specs.declared.flat.Signal.{Signal}
 use Rattle.module_judge.specs.Values.{AreValues, all_fit}

@@ -1,7 +1,6 @@
 -- Rows one after another.
 use Rattle.std.proofs.Common.{◌≡◌, ℕ, zero, suc, ◌+◌, ◌<◌, ◌≤◌, ◌⊎◌, inl, inr, ⊎_elim, List, [], ◌∷◌, length, get_or, arith, refl, sym, ap, ◌∙◌, subst}
 use Rattle.vlog_runs.specs.declared.flat.Signal.{Signal}
-use Rattle.vlog_runs.specs.Places.{Cycle}
 use Rattle.module_judge.specs.Values.{held, cycle_at}
 
 get_any : (rows : List (List ℕ)) (i : ℕ) (d e : List ℕ) → i < length rows → get_or rows i d ≡ get_or rows i e

@@ -128,48 +128,47 @@ fn is_input(ports: &[TopPort], name: &[u8]) -> bool
     false
 }
 
-// Whether a signal is a register, an input, or has only bits that something drives.
-fn only_driven(
-    alloc: Global,
-    flat: &Flat,
-    nets: &[Part<'_>],
-    clocked: &[Part<'_>],
-    signal: &Signal,
-    value: u64,
-) -> Result<bool, AllocError>
-    requires narrow { signal.now.width ≤ 64 }
-    requires ready { ArePartsReady (map part_meant nets.now) }
-    ensures { IfOk result (λ b. b ≡ only_driven flat.now.ports (map part_meant nets.now) (map part_meant clocked.now) signal.now value) }
-{
-    let name = signal.name.bytes();
-    if names(clocked, name) || is_input(flat.ports.as_slice(), name) {
-        return Ok(true);
-    }
-    let bits = bits_in(alloc, nets, signal)?;
-    Ok(value & bits == value)
+/// What drives the bits of a module's signals.
+#[derive(Drop)]
+struct Drivers<'a> {
+    flat: &'a Flat,
+    /// The parts that continuous assignments and combinational blocks drive.
+    nets: &'a [Part<'a>],
+    /// Those that clocked blocks drive.
+    clocked: &'a [Part<'a>],
 }
 
-// Whether each is.
-fn each_driven(
-    alloc: Global,
-    flat: &Flat,
-    nets: &[Part<'_>],
-    clocked: &[Part<'_>],
-    values: &[u64],
-) -> Result<bool, AllocError>
-    requires narrow { All (λ g. g.width ≤ 64) flat.now.signals }
-    requires ready { ArePartsReady (map part_meant nets.now) }
-    requires each { length values.now ≡ length flat.now.signals }
-    ensures { IfOk result (λ b. b ≡ each_driven flat.now.ports (map part_meant nets.now) (map part_meant clocked.now) flat.now.signals values.now) }
-{
-    let signals = flat.signals.as_slice();
-    for i in 0..signals.len() {
-        let driven = only_driven(alloc, flat, nets, clocked, &signals[i], values[i])?;
-        if !driven {
-            return Ok(false);
+impl Drivers<'_> {
+    // Whether a signal is a register, an input, or has only bits that something drives.
+    fn only_driven(&self, alloc: Global, signal: &Signal, value: u64) -> Result<bool, AllocError>
+        requires narrow { signal.now.width ≤ 64 }
+        requires ready { ArePartsReady (map part_meant self.now.nets.now) }
+        ensures { IfOk result (λ b. b ≡ only_driven self.now.flat.now.ports (map part_meant self.now.nets.now) (map part_meant self.now.clocked.now) signal.now value) }
+    {
+        let name = signal.name.bytes();
+        if names(self.clocked, name) || is_input(self.flat.ports.as_slice(), name) {
+            return Ok(true);
         }
+        let bits = bits_in(alloc, self.nets, signal)?;
+        Ok(value & bits == value)
     }
-    Ok(true)
+
+    // Whether each is.
+    fn each_driven(&self, alloc: Global, values: &[u64]) -> Result<bool, AllocError>
+        requires narrow { All (λ g. g.width ≤ 64) self.now.flat.now.signals }
+        requires ready { ArePartsReady (map part_meant self.now.nets.now) }
+        requires each { length values.now ≡ length self.now.flat.now.signals }
+        ensures { IfOk result (λ b. b ≡ each_driven self.now.flat.now.ports (map part_meant self.now.nets.now) (map part_meant self.now.clocked.now) self.now.flat.now.signals values.now) }
+    {
+        let signals = self.flat.signals.as_slice();
+        for i in 0..signals.len() {
+            let driven = self.only_driven(alloc, &signals[i], values[i])?;
+            if !driven {
+                return Ok(false);
+            }
+        }
+        Ok(true)
+    }
 }
 
 // Whether values meet each test of a cycle.
@@ -183,7 +182,12 @@ fn meets_cycle(alloc: Global, flat: &Flat, values: &[u64]) -> Result<bool, Alloc
     let blocks = all_blocks_hold(alloc, flat, values, &masks)?;
     let nets = net_parts(alloc, flat)?;
     let clocked = clocked_parts(alloc, flat)?;
-    let driven = each_driven(alloc, flat, &nets, &clocked, values)?;
+    let drivers = Drivers {
+        flat,
+        nets: &nets,
+        clocked: &clocked,
+    };
+    let driven = drivers.each_driven(alloc, values)?;
     Ok(assigns && (blocks && driven))
 }
 

@@ -9,7 +9,7 @@ ghost use Rattle.elab_node.specs.Leaves.{AreReady};
 ghost use Rattle.elab_node.specs.Nodes.{Makes, IsNode, number_at};
 ghost use Rattle.module_judge.specs.Numbers.{nought, same_within, leaves_same, AreBelow};
 
-use elab_node::Leaves;
+use elab_node::{Leaf, Leaves};
 use std::alloc::{AllocError, Global};
 use word_core::Word;
 use word_dag::{Dag, Node, Op, Table, extract, value_at};
@@ -80,21 +80,21 @@ fn equal(dag: &mut Dag, _width: u8, a: u64, b: u64) -> Result<u64, AllocError>
     Ok(number)
 }
 
-// Whether a word has the bits of a number under a mask, as one bit.
+// Whether a leaf has the bits of a number under a mask, as one bit.
 #[tactic(auto, using(elab_node::proofs::Kept::keeps_then, elab_node::proofs::Kept::made_node, elab_node::proofs::Kept::node_kept))]
-fn question(dag: &mut Dag, node: u64, width: u8, mask: u64, value: u64) -> Result<u64, AllocError>
-    requires node { IsNode dag.old node width }
-    requires some { 1 ≤ width }
-    requires most { width ≤ 64 }
-    requires mask { mask < 2 ^ width }
-    requires value { value < 2 ^ width }
+fn question(dag: &mut Dag, leaf: &Leaf, mask: u64, value: u64) -> Result<u64, AllocError>
+    requires node { IsNode dag.old leaf.now.node leaf.now.width }
+    requires some { 1 ≤ leaf.now.width }
+    requires most { leaf.now.width ≤ 64 }
+    requires mask { mask < 2 ^ leaf.now.width }
+    requires value { value < 2 ^ leaf.now.width }
     ensures keeps { Keeps dag.old dag.new }
-    ensures makes { IfOk result (λ r. Makes dag.new r 1 (λ e. bit (same_within mask (number_at e dag.old node) value))) }
+    ensures makes { IfOk result (λ r. Makes dag.new r 1 (λ e. bit (same_within mask (number_at e dag.old leaf.now.node) value))) }
 {
-    let cover = constant(dag, width, mask)?;
-    let bits = common(dag, width, node, cover)?;
-    let wanted = constant(dag, width, value & mask)?;
-    let number = equal(dag, width, bits, wanted)?;
+    let cover = constant(dag, leaf.width, mask)?;
+    let bits = common(dag, leaf.width, leaf.node, cover)?;
+    let wanted = constant(dag, leaf.width, value & mask)?;
+    let number = equal(dag, leaf.width, bits, wanted)?;
     Ok(number)
 }
 
@@ -108,24 +108,23 @@ fn is_one(alloc: Global, dag: &Dag, root: u64) -> Result<bool, AllocError>
     Ok(value_at(&ob, &[], &mut table).value() == 1)
 }
 
-// Whether a word has the bits of a number under a mask.
+// Whether a leaf has the bits of a number under a mask.
 fn same_within(
     alloc: Global,
     dag: &mut Dag,
-    node: u64,
-    width: u8,
+    leaf: &Leaf,
     mask: u64,
     value: u64,
 ) -> Result<bool, AllocError>
-    requires node { IsNode dag.old node width }
-    requires some { 1 ≤ width }
-    requires most { width ≤ 64 }
-    requires mask { mask < 2 ^ width }
-    requires value { value < 2 ^ width }
+    requires node { IsNode dag.old leaf.now.node leaf.now.width }
+    requires some { 1 ≤ leaf.now.width }
+    requires most { leaf.now.width ≤ 64 }
+    requires mask { mask < 2 ^ leaf.now.width }
+    requires value { value < 2 ^ leaf.now.width }
     ensures keeps { Keeps dag.old dag.new }
-    ensures same { IfOk result (λ b. b ≡ same_within mask (number_at nought dag.old node) value) }
+    ensures same { IfOk result (λ b. b ≡ same_within mask (number_at nought dag.old leaf.now.node) value) }
 {
-    let root = question(dag, node, width, mask, value)?;
+    let root = question(dag, leaf, mask, value)?;
     let same = is_one(alloc, dag, root)?;
     Ok(same)
 }
@@ -147,7 +146,7 @@ pub fn leaves_same(
 {
     for i in 0..leaves.len() {
         let leaf = leaves.leaf(i);
-        let same = same_within(alloc, dag, leaf.node, leaf.width, masks[i], values[i])?;
+        let same = same_within(alloc, dag, leaf, masks[i], values[i])?;
         if !same {
             return Ok(false);
         }

@@ -1,5 +1,4 @@
-use Rattle.std.proofs.Common.{◌≡◌, ℕ, ◌+◌, ◌<◌, ◌≤◌, true, false, List, length, refl, sym, ◌∙◌, subst, arith}
-use Rattle.vlog_runs.specs.Places.{Cycle}
+use Rattle.std.proofs.Common.{◌≡◌, ℕ, ◌<◌, ◌≤◌, true, false, length, refl, sym, ◌∙◌, subst, arith}
 use Rattle.vlog_runs.specs.Cycles.{IsCycle}
 use Rattle.module_judge.specs.Values.{AreValues, cycle_at}
 use Rattle.module_judge.proofs.Running.{row_is, one_more}

@@ -1,5 +1,4 @@
-use Rattle.std.proofs.Common.{◌≡◌, ℕ, ◌+◌, ◌-◌, ◌<◌, ◌≤◌, true, false, List, length, refl, sym, ap, ◌∙◌, subst, arith}
-use Rattle.vlog_runs.specs.Places.{Cycle}
+use Rattle.std.proofs.Common.{◌≡◌, ℕ, ◌+◌, ◌-◌, ◌<◌, ◌≤◌, true, false, length, refl, sym, ap, ◌∙◌, subst, arith}
 use Rattle.vlog_runs.specs.Cycles.{Follows}
 use Rattle.module_judge.specs.Values.{cycle_at, held}
 use Rattle.module_judge.proofs.Running.{row_is, step_more}

@@ -1,4 +1,4 @@
-use Rattle.std.proofs.Common.{◌≡◌, ◌≤◌, true, List, sym, ap, ◌∙◌, subst}
+use Rattle.std.proofs.Common.{◌≤◌, sym, ap, ◌∙◌}
 use Rattle.vlog_runs.specs.declared.flat.Signal.{Signal}
 use Rattle.module_judge.specs.Values.{all_fit}
 use Rattle.module_judge.proofs.Holding.{all_of}
