@@ -104,7 +104,7 @@ fn other_role(alloc: Global, sources: &Sources<'_>, name: &Text) -> Result<Findi
     let sentence = format!(in alloc;
         "`{text}` isn't the block's reset: an input of one bit, and at the level of an asynchronous one"
     )?;
-    Ok(Finding::of_set(place.and_then(byte_at), sentence))
+    Ok(Finding::of_set(place.and_then(|place| byte_at(place)), sentence))
 }
 
 /// A fault between a set and a design.

@@ -12,7 +12,7 @@ use text_places::{
 
 /// No module has the name of the set's block.
 fn no_top(alloc: Global, sources: &Sources<'_>) -> Result<Finding, AllocError> {
-    let byte = behind_word(sources.set, b"block", sources.top).and_then(byte_at);
+    let byte = behind_word(sources.set, b"block", sources.top).and_then(|place| byte_at(place));
     let top = shown(sources.top);
     let sentence = format!(in alloc;
         "the modules' text has no module `{top}`: `block` names the module that the set is about"

@@ -46,7 +46,7 @@ fn unknown_port(
 /// A name that a module uses.
 fn unknown_name(alloc: Global, named: &Named<'_>, name: &str) -> Result<Finding, AllocError> {
     let of = shown(named.module_name());
-    let byte = used_in(named.body, named.last).and_then(byte_at);
+    let byte = used_in(named.body, named.last).and_then(|place| byte_at(place));
     if declared_in(named.body, named.last, Pick::First).is_some() {
         let sentence = format!(in alloc;
             "`{name}` is a parameter of the module `{of}`: only signals are assigned or waited for"
@@ -138,7 +138,7 @@ pub fn port_finding(
 /// A name that stands in the list of a module's ports without a direction, or has a direction and doesn't stand there.
 fn header_finding(alloc: Global, named: &Named<'_>, name: &str) -> Result<Finding, AllocError> {
     let of = shown(named.module_name());
-    let byte = used_in(named.body, named.last).and_then(byte_at);
+    let byte = used_in(named.body, named.last).and_then(|place| byte_at(place));
     let sentence = format!(in alloc;
         "`{name}` isn't both listed in the header of `{of}` and declared `input` or `output`"
     )?;

@@ -142,7 +142,7 @@ fn named_again<'a>(set: &'a [Token], name: &[u8]) -> Option<&'a [Token]> {
         let last = last_behind_word(set, word, name);
         several = several
             || (found.is_some() && last.is_some())
-            || one.and_then(byte_at) != last.and_then(byte_at);
+            || one.and_then(|place| byte_at(place)) != last.and_then(|place| byte_at(place));
         found = last.or(found);
     }
     if several || is(name, b"reset") {
@@ -165,7 +165,7 @@ fn repeated_name(alloc: Global, set: &[Token], name: &Text) -> Result<Finding, A
         )?;
         return Ok(Finding::of_set(byte_at(place), sentence));
     }
-    let byte = next_again(set, name.bytes()).and_then(byte_at);
+    let byte = next_again(set, name.bytes()).and_then(|place| byte_at(place));
     let sentence = format!(in alloc;
         "`{text}` stands twice in a list of successors: leave one out"
     )?;
