@@ -5,7 +5,6 @@ use replay::{Shown, Trace};
 use set_tree::{Line, Rows, Set};
 use std::alloc::{AllocError, Global};
 use std::test::Fail;
-use text_places::shown;
 use trace_notes::{SetFile, trace_note};
 
 const SET: &str = "block top; clock clk; reset rst high 1;
@@ -228,9 +227,7 @@ fn said(alloc: Global, row: &Row) -> Result<Text, AllocError> {
 fn says_what_is_violated(rt: HostRuntime) -> Result<(), Fail> {
     for row in &ROWS {
         let note = said(rt.alloc(), row)?;
-        let said = shown(note.bytes());
-        let says = row.says;
-        assert!(rt; said == says, "{said} in place of {says}");
+        assert!(rt; note.bytes() == row.says.as_bytes());
     }
     Ok(())
 }
