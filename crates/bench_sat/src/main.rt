@@ -8,10 +8,10 @@ mod lrat;
 mod request;
 
 use cdcl::End;
+use cdcl_presolve::solve;
 use clause_check::{Cnf, Marks, accept, holds};
 use dimacs::read_formula;
 use lrat::{write_steps, write_values};
-use presolve::solve;
 use request::Request;
 use std::{env, io};
 

@@ -1,8 +1,10 @@
-//! A solver that answers with evidence.
+//! A solver that answers with evidence. Two steps of derivations are worked: one that tells propagation something new, and
+//! one that doesn't.
 #![tactic(auto)]
 
 mod conflict;
 mod copies;
+mod examples;
 mod laws;
 mod learn;
 mod lists;
@@ -16,5 +18,6 @@ mod solver;
 mod trail;
 mod watches;
 
+pub use examples::examples_stand;
 pub use laws::supersets_are_not_new;
 pub use solver::{End, solve};

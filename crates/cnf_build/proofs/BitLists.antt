@@ -4,9 +4,9 @@ use Rattle.std.specs.List.{All}
 use Rattle.std.proofs.lemmas.List.{length-replicate}
 use Rattle.clause_check.specs.declared.literal.Lit.{Lit}
 use Rattle.clause_check.specs.Clauses.{IsInRange}
-use Rattle.bit_circuits.specs.declared.gates.Gate.TheVariants as Gates
-use Rattle.bit_circuits.specs.Gates.{Below, clauses_from}
-use Rattle.bit_circuits.proofs.InRange.{AllBelow, AllBelow-append, clauses_below, in_range}
+use Rattle.cnf_build.specs.declared.gates.Gate.TheVariants as Gates
+use Rattle.cnf_build.specs.Gates.{Below, clauses_from}
+use Rattle.cnf_build.proofs.InRange.{AllBelow, AllBelow-append, clauses_below, in_range}
 use Rattle.word_dag.specs.declared.node.Node.{Node}
 use Rattle.word_dag.specs.declared.node.Node.TheVariants.{Free, Const, Two, Not, Slice, Zext, Sext, Mux}
 use Rattle.word_dag.specs.Nodes.{FitFrom}

@@ -2,11 +2,11 @@
 use Rattle.std.proofs.Common.{◌≡◌, ℕ, suc, ◌+◌, ◌-◌, ◌/◌, ◌%◌, ◌<◌, ◌≤◌, List, [], ◌∷◌, ◌++◌, length, refl, sym, ap, ◌∙◌, arith, append_assoc, length-append}
 use Rattle.std.specs.Prelude.{replicate, ◌==◌, if◌then◌else◌}
 use Rattle.clause_check.specs.declared.literal.Lit.{Lit}
-use Rattle.bit_circuits.specs.Literals.{plus}
-use Rattle.bit_circuits.specs.declared.gates.Gate.{Gate}
-use Rattle.bit_circuits.specs.declared.gates.Gate.TheVariants as Gates
-use Rattle.bit_circuits.specs.Circuits.{row, row_lits, const_lits, true_lit, false_lit}
-use Rattle.bit_circuits.specs.Building.{Makes}
+use Rattle.cnf_build.specs.Literals.{plus}
+use Rattle.cnf_build.specs.declared.gates.Gate.{Gate}
+use Rattle.cnf_build.specs.declared.gates.Gate.TheVariants as Gates
+use Rattle.cnf_build.specs.Circuits.{row, row_lits, const_lits, true_lit, false_lit}
+use Rattle.cnf_build.specs.Building.{Makes}
 
 append_nil : {A : Type 0} (xs : List A) → xs ++ [] ≡ xs
 append_nil [] = refl

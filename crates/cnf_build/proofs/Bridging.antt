@@ -6,8 +6,8 @@ use Rattle.std.proofs.lemmas.Option.{get_or_from_slice_get}
 use Rattle.clause_check.specs.declared.literal.Lit.{Lit}
 use Rattle.clause_check.specs.Clauses.{IsInRange}
 use Rattle.clause_check.specs.Derivations.{Satisfies}
-use Rattle.bit_circuits.specs.Literals.{holds, some_holds, all_hold}
-use Rattle.bit_circuits.specs.Circuits.{bit}
+use Rattle.cnf_build.specs.Literals.{holds, some_holds, all_hold}
+use Rattle.cnf_build.specs.Circuits.{bit}
 use Rattle.cnf_build.specs.Meaning.{read_word, read_words}
 use Rattle.cnf_build.specs.Built.{IsBits, at}
 

@@ -1,7 +1,7 @@
 -- An assignment that meets the clauses is carried to values, and values to an assignment.
 use Rattle.std.proofs.Common.{◌%◌, ◌^◌, Some, zero-add, ◌≡◌, ℕ, Bool, List, [], refl, sym, ap, ◌∙◌, subst, arith, ◌++◌, ◌∷◌, length, take, suc, zero, ◌+◌, ◌<◌, get_or}
 use Rattle.clause_check.specs.declared.literal.Lit.{Lit}
-use Rattle.bit_circuits.proofs.Exists.{run_exists}
+use Rattle.cnf_build.proofs.Exists.{run_exists}
 use Rattle.word_dag.specs.declared.node.Node.{Node}
 use Rattle.word_dag.specs.declared.node.Node.TheVariants.{Free, Const, Two, Not, Slice, Zext, Sext, Mux}
 use Rattle.word_dag.specs.Given.{AllFit, free_count}

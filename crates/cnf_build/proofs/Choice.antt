@@ -6,12 +6,12 @@ use Rattle.std.proofs.lemmas.Nat.{pow_pos, shr-shr}
 use Rattle.std.proofs.lemmas.Bool.Decides.{nat_tests}
 use Rattle.std.proofs.lemmas.List.{length-replicate}
 use Rattle.clause_check.specs.declared.literal.Lit.{Lit}
-use Rattle.bit_circuits.specs.declared.gates.Gate.{Gate}
-use Rattle.bit_circuits.specs.declared.gates.Gate.TheVariants as Gates
-use Rattle.bit_circuits.specs.Gates.{Follows}
-use Rattle.bit_circuits.specs.Circuits.{bit}
-use Rattle.bit_circuits.proofs.Numbers.{twice}
-use Rattle.bit_circuits.proofs.Comparisons.{double_mod}
+use Rattle.cnf_build.specs.declared.gates.Gate.{Gate}
+use Rattle.cnf_build.specs.declared.gates.Gate.TheVariants as Gates
+use Rattle.cnf_build.specs.Gates.{Follows}
+use Rattle.cnf_build.specs.Circuits.{bit}
+use Rattle.cnf_build.proofs.Numbers.{twice}
+use Rattle.cnf_build.proofs.Comparisons.{double_mod}
 use Rattle.word_dag.specs.declared.node.Node.{Node}
 use Rattle.word_dag.specs.declared.node.Node.TheVariants.{Free, Const, Two, Not, Slice, Zext, Sext, Mux}
 use Rattle.cnf_build.specs.Lower.{node_made, lower, vars}

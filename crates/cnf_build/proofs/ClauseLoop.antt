@@ -2,9 +2,9 @@
 use Rattle.std.proofs.Common.{◌≡◌, ℕ, zero, suc, ◌+◌, ◌<◌, ◌≤◌, List, [], ◌∷◌, ◌++◌, length, drop, get_or, refl, sym, ap, ◌∙◌, arith, add-one, append_assoc}
 use Rattle.std.proofs.Math.Seq.{drop-cons}
 use Rattle.clause_check.specs.declared.literal.Lit.{Lit}
-use Rattle.bit_circuits.specs.Literals.{tidied}
-use Rattle.bit_circuits.specs.declared.gates.Gate.{Gate}
-use Rattle.bit_circuits.specs.Gates.{raw_clauses, clauses_from}
+use Rattle.cnf_build.specs.Literals.{tidied}
+use Rattle.cnf_build.specs.declared.gates.Gate.{Gate}
+use Rattle.cnf_build.specs.Gates.{raw_clauses, clauses_from}
 use Rattle.cnf_build.proofs.Joined.{append_nil}
 
 pub record ClauseLoop (clauses : List (List Lit)) (gates : List Gate) (i : ℕ) : Type 0 where

@@ -3,9 +3,9 @@ use Rattle.std.proofs.Common.{◌≡◌, ℕ, zero, suc, ◌+◌, ◌<◌, ◌�
 use Rattle.std.specs.Prelude.{map, slice_index}
 use Rattle.std.proofs.Math.Seq.{drop-cons}
 use Rattle.clause_check.specs.declared.literal.Lit.{Lit}
-use Rattle.bit_circuits.specs.declared.gates.Gate.{Gate}
-use Rattle.bit_circuits.specs.declared.gates.Gate.TheVariants as Gates
-use Rattle.bit_circuits.specs.Building.{Makes}
+use Rattle.cnf_build.specs.declared.gates.Gate.{Gate}
+use Rattle.cnf_build.specs.declared.gates.Gate.TheVariants as Gates
+use Rattle.cnf_build.specs.Building.{Makes}
 use Rattle.word_dag.specs.declared.node.Op.{Op}
 use Rattle.word_dag.specs.declared.node.Op.TheVariants.{Add, Sub, Mul, And, Or, Xor, Shl, Shr, Sar, Ult, Slt, Eq, Concat}
 use Rattle.word_dag.specs.declared.node.Node.{Node}

@@ -4,14 +4,14 @@ use Rattle.std.specs.Prelude.{map, replicate, slice_index, if◌then◌else◌, 
 use Rattle.std.proofs.Math.Nat.{mod-eq_of_lt}
 use Rattle.std.proofs.lemmas.List.{length-replicate}
 use Rattle.clause_check.specs.declared.literal.Lit.{Lit}
-use Rattle.bit_circuits.specs.Literals.{holds}
-use Rattle.bit_circuits.specs.declared.gates.Gate.TheVariants as Gates
-use Rattle.bit_circuits.specs.Gates.{Runs}
-use Rattle.bit_circuits.specs.Circuits.{bit, number, false_lit, row_lits, zip_gates, top_of}
-use Rattle.bit_circuits.proofs.Numbers.{number-negated}
-use Rattle.bit_circuits.proofs.Rows.{length-row_lits, length-zip_gates, mux_picks}
-use Rattle.bit_circuits.proofs.Comparisons.{length-negated}
-use Rattle.bit_circuits.proofs.Wires.{number-const_lits, length-const_lits, number-slice, number-zext, number-sext}
+use Rattle.cnf_build.specs.Literals.{holds}
+use Rattle.cnf_build.specs.declared.gates.Gate.TheVariants as Gates
+use Rattle.cnf_build.specs.Gates.{Runs}
+use Rattle.cnf_build.specs.Circuits.{bit, number, false_lit, row_lits, zip_gates, top_of}
+use Rattle.cnf_build.proofs.Numbers.{number-negated}
+use Rattle.cnf_build.proofs.Rows.{length-row_lits, length-zip_gates, mux_picks}
+use Rattle.cnf_build.proofs.Comparisons.{length-negated}
+use Rattle.cnf_build.proofs.Wires.{number-const_lits, length-const_lits, number-slice, number-zext, number-sext}
 use Rattle.word_core.specs.Words.{zext_of, sext_of, not_of, slice_of}
 use Rattle.word_dag.specs.declared.node.Op.{Op}
 use Rattle.word_dag.specs.declared.node.Op.TheVariants.{Add, Sub, Mul, And, Or, Xor, Shl, Shr, Sar, Ult, Slt, Eq, Concat}

@@ -6,17 +6,17 @@ use Rattle.std.proofs.lemmas.Nat.{pow-add, pow_pos, shr_high}
 use Rattle.std.proofs.lemmas.List.{length-replicate}
 use Rattle.clause_check.specs.declared.literal.Lit.{Lit}
 use Rattle.clause_check.specs.Clauses.{negated}
-use Rattle.bit_circuits.specs.Literals.{holds}
-use Rattle.bit_circuits.specs.declared.gates.Gate.TheVariants as Gates
-use Rattle.bit_circuits.specs.Gates.{Runs}
-use Rattle.bit_circuits.specs.Circuits.{bit, number, true_lit, false_lit, row_lits, zip_gates, nor_gate, moved_up, moved_down, top_of, top_turned}
-use Rattle.bit_circuits.proofs.Numbers.{number-append, number-lt, number-negated, number-none}
-use Rattle.bit_circuits.proofs.Rows.{length-row_lits, length-zip_gates, and_ands, or_ors, xor_xors}
-use Rattle.bit_circuits.proofs.Equals.{equal_compares}
-use Rattle.bit_circuits.proofs.Adders.{length-adder}
-use Rattle.bit_circuits.proofs.Moves.{length-moved_up, length-moved_down}
-use Rattle.bit_circuits.proofs.Products.{product_multiplies, length-product, shifter_up, shifter_down, shifter_down_ones, length-shifter}
-use Rattle.bit_circuits.proofs.Comparisons.{adds_mod, subtracts, borrows, length-subtractor, length-top_turned, number-top_turned, number-top_of, length-negated}
+use Rattle.cnf_build.specs.Literals.{holds}
+use Rattle.cnf_build.specs.declared.gates.Gate.TheVariants as Gates
+use Rattle.cnf_build.specs.Gates.{Runs}
+use Rattle.cnf_build.specs.Circuits.{bit, number, true_lit, false_lit, row_lits, zip_gates, nor_gate, moved_up, moved_down, top_of, top_turned}
+use Rattle.cnf_build.proofs.Numbers.{number-append, number-lt, number-negated, number-none}
+use Rattle.cnf_build.proofs.Rows.{length-row_lits, length-zip_gates, and_ands, or_ors, xor_xors}
+use Rattle.cnf_build.proofs.Equals.{equal_compares}
+use Rattle.cnf_build.proofs.Adders.{length-adder}
+use Rattle.cnf_build.proofs.Moves.{length-moved_up, length-moved_down}
+use Rattle.cnf_build.proofs.Products.{product_multiplies, length-product, shifter_up, shifter_down, shifter_down_ones, length-shifter}
+use Rattle.cnf_build.proofs.Comparisons.{adds_mod, subtracts, borrows, length-subtractor, length-top_turned, number-top_turned, number-top_of, length-negated}
 use Rattle.word_core.specs.Words.{Bits, flag}
 use Rattle.word_dag.specs.declared.node.Op.{Op}
 use Rattle.word_dag.specs.declared.node.Op.TheVariants.{Add, Sub, Mul, And, Or, Xor, Shl, Shr, Sar, Ult, Slt, Eq, Concat}

@@ -3,12 +3,12 @@ use Rattle.std.proofs.Common.{◌≡◌, ℕ, zero, suc, ◌+◌, ◌^◌, ◌<�
 use Rattle.std.specs.Prelude.{map, slice_index, ◌&&◌, ◌||◌}
 use Rattle.std.proofs.Math.Nat.{mod-eq_of_lt}
 use Rattle.clause_check.specs.declared.literal.Lit.{Lit}
-use Rattle.bit_circuits.specs.Literals.{holds, all_hold}
-use Rattle.bit_circuits.specs.Gates.{Runs, clauses_from}
-use Rattle.bit_circuits.specs.Circuits.{bit, number}
-use Rattle.bit_circuits.proofs.Runs.{Runs-front, Runs-back}
-use Rattle.bit_circuits.proofs.Numbers.{twice, bit-lt}
-use Rattle.bit_circuits.proofs.Tseitin.{clauses_run, run_clauses, all_hold-append, and_split, and_join}
+use Rattle.cnf_build.specs.Literals.{holds, all_hold}
+use Rattle.cnf_build.specs.Gates.{Runs, clauses_from}
+use Rattle.cnf_build.specs.Circuits.{bit, number}
+use Rattle.cnf_build.proofs.Runs.{Runs-front, Runs-back}
+use Rattle.cnf_build.proofs.Numbers.{twice, bit-lt}
+use Rattle.cnf_build.proofs.Tseitin.{clauses_run, run_clauses, all_hold-append, and_split, and_join}
 use Rattle.word_dag.specs.declared.node.Node.{Node}
 use Rattle.word_dag.specs.declared.node.Node.TheVariants.{Free, Const, Two, Not, Slice, Zext, Sext, Mux}
 use Rattle.word_dag.specs.Nodes.{FitFrom, width_of, width_at, node_value, word_at, left_after, ob_values, root_value, IsOb}

@@ -3,10 +3,10 @@ use Rattle.std.proofs.Common.{◌≡◌, ℕ, zero, suc, ◌+◌, ◌-◌, ◌<�
 use Rattle.std.specs.Prelude.{map, replicate}
 use Rattle.clause_check.specs.declared.literal.Lit.{Lit}
 use Rattle.clause_check.specs.Clauses.{negated}
-use Rattle.bit_circuits.specs.declared.gates.Gate.TheVariants as Gates
-use Rattle.bit_circuits.specs.Gates.{IsNet, Below}
-use Rattle.bit_circuits.specs.Circuits.{true_lit, false_lit, row_lits, zip_gates, nor_gate, moved_up, moved_down, top_of, top_turned, const_lits}
-use Rattle.bit_circuits.proofs.Nets.{Below-more, Below-append, Below-take, Below-drop, Below-replicate, Below-negated, Below-const, Below-top, Below-turned, Below-row, Below-moved_up, Below-moved_down, IsNet-append, IsNet-frees, IsNet-zip, IsNet-mux, IsSound, adder_sound, equal_sound, product_sound, shifter_sound}
+use Rattle.cnf_build.specs.declared.gates.Gate.TheVariants as Gates
+use Rattle.cnf_build.specs.Gates.{IsNet, Below}
+use Rattle.cnf_build.specs.Circuits.{true_lit, false_lit, row_lits, zip_gates, nor_gate, moved_up, moved_down, top_of, top_turned, const_lits}
+use Rattle.cnf_build.proofs.Nets.{Below-more, Below-append, Below-take, Below-drop, Below-replicate, Below-negated, Below-const, Below-top, Below-turned, Below-row, Below-moved_up, Below-moved_down, IsNet-append, IsNet-frees, IsNet-zip, IsNet-mux, IsSound, adder_sound, equal_sound, product_sound, shifter_sound}
 use Rattle.word_dag.specs.declared.node.Op.{Op}
 use Rattle.word_dag.specs.declared.node.Op.TheVariants.{Add, Sub, Mul, And, Or, Xor, Shl, Shr, Sar, Ult, Slt, Eq, Concat}
 use Rattle.word_dag.specs.declared.node.Node.{Node}

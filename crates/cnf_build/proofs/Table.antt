@@ -2,7 +2,7 @@
 use Rattle.std.proofs.Common.{◌≡◌, ℕ, zero, suc, ◌<◌, ◌≤◌, List, [], ◌∷◌, ◌++◌, length, get_or, refl, ap, arith}
 use Rattle.std.specs.Prelude.{map, slice_index}
 use Rattle.clause_check.specs.declared.literal.Lit.{Lit}
-use Rattle.bit_circuits.specs.declared.gates.Gate.{Gate}
+use Rattle.cnf_build.specs.declared.gates.Gate.{Gate}
 use Rattle.cnf_build.specs.Lower.{lits_at}
 use Rattle.cnf_build.specs.Table.{AllShort}
 

@@ -2,8 +2,8 @@
 use Rattle.std.proofs.Common.{◌≡◌, suc, ◌-◌, ◌<◌, List, [], ◌∷◌, ◌++◌, length, take, get_or, refl, ap, ◌∙◌, arith}
 use Rattle.clause_check.specs.declared.literal.Lit.{Lit}
 use Rattle.clause_check.specs.Clauses.{negated}
-use Rattle.bit_circuits.proofs.Comparisons.{length-top_turned}
-use Rattle.bit_circuits.specs.Circuits.{top_of, top_turned, false_lit}
+use Rattle.cnf_build.proofs.Comparisons.{length-top_turned}
+use Rattle.cnf_build.specs.Circuits.{top_of, top_turned, false_lit}
 
 last_of : (l : Lit) (xs : List Lit) (d : Lit) → get_or (l ∷ xs) (length xs) d ≡ top_of (l ∷ xs)
 last_of l [] d = refl

@@ -1,6 +1,6 @@
 -- Two obligations and their clauses.
 use Rattle.std.specs.Prelude.{◌≡◌, List, [], ◌∷◌, pos}
-use Rattle.bit_circuits.specs.Literals.{plus, minus}
+use Rattle.cnf_build.specs.Literals.{plus, minus}
 use Rattle.word_dag.specs.declared.node.Op.TheVariants.{And}
 use Rattle.word_dag.specs.declared.node.Node.{Node}
 use Rattle.word_dag.specs.declared.node.Node.TheVariants.{Free, Two, Not}

@@ -2,11 +2,11 @@
 use Rattle.std.specs.Prelude.{ℕ, zero, suc, ◌+◌, ◌-◌, List, [], ◌∷◌, ◌++◌, length, map, take, drop, replicate}
 use Rattle.clause_check.specs.declared.literal.Lit.{Lit}
 use Rattle.clause_check.specs.Clauses.{negated}
-use Rattle.bit_circuits.specs.declared.gates.Gate.{Gate}
-use Rattle.bit_circuits.specs.declared.gates.Gate.TheVariants.{True}
-use Rattle.bit_circuits.specs.declared.gates.Gate.TheVariants as Gates
-use Rattle.bit_circuits.specs.Gates.{clauses_from}
-use Rattle.bit_circuits.specs.Circuits.{Made, true_lit, false_lit, row, and_made, or_made, xor_made, mux_made, adder, subtractor, equal_from, moved_up, moved_down, product_from, shifter, const_lits, top_of, top_turned}
+use Rattle.cnf_build.specs.declared.gates.Gate.{Gate}
+use Rattle.cnf_build.specs.declared.gates.Gate.TheVariants.{True}
+use Rattle.cnf_build.specs.declared.gates.Gate.TheVariants as Gates
+use Rattle.cnf_build.specs.Gates.{clauses_from}
+use Rattle.cnf_build.specs.Circuits.{Made, true_lit, false_lit, row, and_made, or_made, xor_made, mux_made, adder, subtractor, equal_from, moved_up, moved_down, product_from, shifter, const_lits, top_of, top_turned}
 use Rattle.word_dag.specs.declared.node.Op.{Op}
 use Rattle.word_dag.specs.declared.node.Op.TheVariants.{Add, Sub, Mul, And, Or, Xor, Shl, Shr, Sar, Ult, Slt, Eq, Concat}
 use Rattle.word_dag.specs.declared.node.Node.{Node}

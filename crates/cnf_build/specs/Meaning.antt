@@ -1,8 +1,8 @@
 -- Clauses can be met exactly where the root can be 1.
 use Rattle.std.specs.Prelude.{◌≡◌, ℕ, ◌+◌, ◌*◌, ◌<◌, Bool, true, List, [], ◌∷◌, length}
 use Rattle.clause_check.specs.declared.literal.Lit.{Lit}
-use Rattle.bit_circuits.specs.Circuits.{bit, number}
-use Rattle.bit_circuits.specs.Gates.{Runs}
+use Rattle.cnf_build.specs.Circuits.{bit, number}
+use Rattle.cnf_build.specs.Gates.{Runs}
 use Rattle.word_dag.specs.declared.node.Node.{Node}
 use Rattle.word_dag.specs.Nodes.{root_value, FitsOp, op_value}
 use Rattle.word_core.specs.Words.{Bits}

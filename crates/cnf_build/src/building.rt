@@ -10,7 +10,7 @@ ghost use Rattle.clause_check.specs.Derivations.{Holds};
 use crate::bits::{Vars, add_bits, read};
 use crate::clauses::{add_clause, netlist_clauses};
 use crate::lowering::{Wires, low_bit, node_lits, operand};
-use bit_circuits::{Gate, add_gate};
+use crate::{Gate, add_gate};
 use clause_check::{Cnf, in_32_bits};
 use std::alloc::{AllocError, Global};
 use word_dag::{Node, Ob};

@@ -1,10 +1,10 @@
 //! The clauses of a netlist.
 ghost use Rattle.std.specs.Prelude.{◌≡◌, ◌++◌, IfOk, OnOk};
 ghost use Rattle.std.specs.Option.{option_to_list};
-ghost use Rattle.bit_circuits.specs.Literals.{tidy, tidied};
-ghost use Rattle.bit_circuits.specs.Gates.{raw_clauses, clauses_from};
+ghost use Rattle.cnf_build.specs.Literals.{tidy, tidied};
+ghost use Rattle.cnf_build.specs.Gates.{raw_clauses, clauses_from};
 
-use bit_circuits::{Gate, is_tidy, negative, positive, tidy_clause};
+use crate::{Gate, is_tidy, negative, positive, tidy_clause};
 use clause_check::{Clauses, Lit, in_32_bits};
 use std::alloc::{AllocError, Global};
 

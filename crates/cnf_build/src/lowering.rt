@@ -1,14 +1,14 @@
 //! The circuits of nodes.
 ghost use Rattle.std.specs.Prelude.{◌≡◌, ◌≤◌, ◌<◌, ◌+◌, ◌-◌, ◌++◌, ◌%◌, ◌==◌, if◌then◌else◌, length, take, drop, map, replicate, IfOk};
-ghost use Rattle.bit_circuits.specs.declared.gates.Gate.TheVariants.{Free};
-ghost use Rattle.bit_circuits.specs.Circuits.{row, const_lits, true_lit as true_spec, false_lit as false_spec};
-ghost use Rattle.bit_circuits.specs.Building.{Makes};
+ghost use Rattle.cnf_build.specs.declared.gates.Gate.TheVariants.{Free};
+ghost use Rattle.cnf_build.specs.Circuits.{row, const_lits, true_lit as true_spec, false_lit as false_spec};
+ghost use Rattle.cnf_build.specs.Building.{Makes};
 ghost use Rattle.word_dag.specs.Nodes.{FitsNode};
 ghost use Rattle.cnf_build.specs.Lower.{node_made, lits_at, low_of};
 ghost use Rattle.cnf_build.specs.Table.{AllShort};
 
 use crate::operations::{Operands, operation, top_bit};
-use bit_circuits::{Bitwise, Gate, add_gate, false_lit, gate_row, inverted, true_lit};
+use crate::{Bitwise, Gate, add_gate, false_lit, gate_row, inverted, true_lit};
 use clause_check::Lit;
 use std::alloc::{AllocError, Global};
 use std::marker::Model;

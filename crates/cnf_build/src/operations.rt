@@ -1,11 +1,11 @@
 //! The circuits of operations.
 ghost use Rattle.std.specs.Prelude.{◌≡◌, ◌≤◌, ◌++◌, ◌∷◌, [], length, IfOk};
-ghost use Rattle.bit_circuits.specs.Circuits.{top_of, top_turned, or_made};
-ghost use Rattle.bit_circuits.specs.Building.{Makes};
+ghost use Rattle.cnf_build.specs.Circuits.{top_of, top_turned, or_made};
+ghost use Rattle.cnf_build.specs.Building.{Makes};
 ghost use Rattle.word_dag.specs.Nodes.{FitsOp};
 ghost use Rattle.cnf_build.specs.Lower.{op_made};
 
-use bit_circuits::{
+use crate::{
     Bitwise, Direction, Gate, add, equal, false_lit, gate_row, inverted, multiply, shift, subtract,
 };
 use clause_check::Lit;

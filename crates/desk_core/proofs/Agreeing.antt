@@ -6,25 +6,25 @@ use Rattle.std.proofs.lemmas.List.Elements.{All-head, All-tail}
 use Rattle.vlog_tree.specs.declared.module.Module.{Module}
 use Rattle.vlog_tree.specs.declared.token.Token.{Token}
 use Rattle.vlog_tree.specs.Modules.{SpellsFile}
-use Rattle.vlog_lex.proofs.LawLemmas.{one_list}
-use Rattle.vlog_spell.proofs.Modules.{one_file}
+use Rattle.vlog_read_lex.proofs.LawLemmas.{one_list}
+use Rattle.vlog_read_spelling.proofs.Modules.{one_file}
 use Rattle.vlog_read.specs.Texts.{SpellsModules}
 use Rattle.set_tree.specs.declared.line.Line.{Line}
 use Rattle.set_tree.specs.declared.set.Set.{Set}
 use Rattle.set_read.specs.Read.{Spells}
-use Rattle.set_spell.proofs.Texts.{means_one_set}
-use Rattle.line_laws.specs.Names.{line_name}
-use Rattle.line_names.proofs.Known.{lines_have_names}
-use Rattle.line_designs.specs.Promises.{IsRefutable}
-use Rattle.binding.specs.Binding.{Pair}
-use Rattle.reports.specs.declared.book.Line.{Line as Told}
-use Rattle.reports.specs.declared.book.Verdict.{Verdict}
-use Rattle.reports.specs.declared.book.Verdict.TheVariants as v
-use Rattle.reports.specs.declared.which.Which.{Which}
-use Rattle.reports.specs.declared.which.Which.TheVariants as w
-use Rattle.reports.specs.Lines.{all_proved, is_proved}
-use Rattle.reports.specs.Reports.{last_line, line_text, report_text, verdict_word}
-use Rattle.asked_lines.specs.Decided.{AreAsked, IsLineOf, IsOnlyLine, Says}
+use Rattle.set_read_laws.proofs.Texts.{means_one_set}
+use Rattle.twin_tests_laws.specs.Names.{line_name}
+use Rattle.set_read_laws.proofs.Known.{lines_have_names}
+use Rattle.unroll_laws.specs.Promises.{IsRefutable}
+use Rattle.unroll_binding.specs.Binding.{Pair}
+use Rattle.desk_core_reports.specs.declared.book.Line.{Line as Told}
+use Rattle.desk_core_reports.specs.declared.book.Verdict.{Verdict}
+use Rattle.desk_core_reports.specs.declared.book.Verdict.TheVariants as v
+use Rattle.desk_core_reports.specs.declared.which.Which.{Which}
+use Rattle.desk_core_reports.specs.declared.which.Which.TheVariants as w
+use Rattle.desk_core_reports.specs.Lines.{all_proved, is_proved}
+use Rattle.desk_core_reports.specs.Reports.{last_line, line_text, report_text, verdict_word}
+use Rattle.desk_core_goals.specs.Decided.{AreAsked, IsLineOf, IsOnlyLine, Says}
 use Rattle.desk_core.specs.Agreed.{Agree, IsUnspent, ReportsAgree}
 
 one_modules : (bytes : List ℕ) (ms ns : List Module) → SpellsModules bytes ms → SpellsModules bytes ns → ms ≡ ns

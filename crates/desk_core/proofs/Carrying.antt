@@ -4,9 +4,9 @@ use Rattle.std.specs.Prelude.{Result, Ok, Err, IfOk, IfSome}
 use Rattle.outside.specs.Tables.{Tables}
 use Rattle.proof_store.specs.Stored.{Told}
 use Rattle.proof_store.specs.declared.fault.StoreFault.{StoreFault}
-use Rattle.reports.specs.declared.book.Book.{Book}
-use Rattle.desk_commands.specs.declared.command.Answer.{Answer}
-use Rattle.desk_commands.specs.declared.command.Command.{Command}
+use Rattle.desk_core_reports.specs.declared.book.Book.{Book}
+use Rattle.desk_core_commands.specs.declared.command.Answer.{Answer}
+use Rattle.desk_core_commands.specs.declared.command.Command.{Command}
 use Rattle.desk_core.specs.Quiet.{StepsQuietly}
 use Rattle.desk_core.specs.States.{IsDesk}
 use Rattle.desk_core.specs.Steps.{Leaves, Steps, desk}

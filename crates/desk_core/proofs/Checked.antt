@@ -6,13 +6,13 @@ use Rattle.outside.specs.Tables.{Tables, with_block}
 use Rattle.proof_store.specs.Counts.{NoneFalls}
 use Rattle.proof_store.specs.Stored.{Told}
 use Rattle.proof_store.specs.declared.fault.StoreFault.{StoreFault}
-use Rattle.reports.specs.declared.book.Book.{Book}
-use Rattle.reports.specs.declared.report.Report.{Report}
-use Rattle.reports.specs.declared.which.Which.TheVariants as w
-use Rattle.check_faults.specs.declared.fault.CheckFault.{CheckFault}
-use Rattle.asked_lines.specs.Settled.{AddsProofsOf, AreSettled}
-use Rattle.desk_commands.specs.declared.command.Answer.{Answer}
-use Rattle.desk_commands.specs.declared.command.Answer.TheVariants as a
+use Rattle.desk_core_reports.specs.declared.book.Book.{Book}
+use Rattle.desk_core_reports.specs.declared.report.Report.{Report}
+use Rattle.desk_core_reports.specs.declared.which.Which.TheVariants as w
+use Rattle.desk_core_faults.specs.declared.fault.CheckFault.{CheckFault}
+use Rattle.desk_core_goals.specs.Settled.{AddsProofsOf, AreSettled}
+use Rattle.desk_core_commands.specs.declared.command.Answer.{Answer}
+use Rattle.desk_core_commands.specs.declared.command.Answer.TheVariants as a
 use Rattle.desk_core.specs.Blocks.{reported}
 use Rattle.desk_core.specs.Checks.{AreObsOfTexts, IsReport, Refuses}
 use Rattle.desk_core.specs.Quiet.{IsRefusal, LeavesOfBlock, OfBlock}

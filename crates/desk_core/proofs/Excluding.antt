@@ -3,23 +3,23 @@ use Rattle.std.proofs.Common.{◌≡◌, ℕ, ◌<◌, ◌≤◌, List, false, r
 use Rattle.vlog_tree.specs.declared.module.Module.{Module}
 use Rattle.vlog_tree.specs.declared.token.Token.{Token}
 use Rattle.vlog_tree.specs.Modules.{SpellsFile, file_height}
-use Rattle.vlog_lex.specs.declared.error.ReadFault.{ReadFault}
-use Rattle.vlog_lex.specs.declared.error.ReadFault.TheVariants as r
-use Rattle.vlog_lex.specs.Tokens.{Lexes}
-use Rattle.vlog_lex.proofs.LawLemmas.{one_list, spells_or_faults}
+use Rattle.vlog_read_lex.specs.declared.error.ReadFault.{ReadFault}
+use Rattle.vlog_read_lex.specs.declared.error.ReadFault.TheVariants as r
+use Rattle.vlog_read_lex.specs.Tokens.{Lexes}
+use Rattle.vlog_read_lex.proofs.LawLemmas.{one_list, spells_or_faults}
 use Rattle.vlog_read.specs.Texts.{RefusesText}
 use Rattle.set_tree.specs.declared.set.Set.{Set}
-use Rattle.set_sound.proofs.Exact.{none_stands}
-use Rattle.set_sound.specs.Faults.{IsFirst}
+use Rattle.set_tree_structure.proofs.Exact.{none_stands}
+use Rattle.set_tree_structure.specs.Faults.{IsFirst}
 use Rattle.set_read.specs.declared.fault.SetFault.{SetFault}
 use Rattle.set_read.specs.declared.fault.SetFault.TheVariants as s
 use Rattle.set_read.specs.Read.{Refuses as RefusesSetText}
-use Rattle.set_spell.proofs.Texts.{means_one_set, spells_or_refused}
-use Rattle.check_faults.specs.declared.fault.CheckFault.{CheckFault}
-use Rattle.check_faults.specs.declared.fault.CheckFault.TheVariants as f
-use Rattle.check_faults.specs.declared.fault.ModuleFault.TheVariants as m
-use Rattle.check_faults.specs.declared.fault.SetStop.TheVariants as t
-use Rattle.check_stages.specs.Texts.{RefusesModules, RefusesSet, SpellsSomeModules, SpellsSomeSet}
+use Rattle.set_read_laws.proofs.Texts.{means_one_set, spells_or_refused}
+use Rattle.desk_core_faults.specs.declared.fault.CheckFault.{CheckFault}
+use Rattle.desk_core_faults.specs.declared.fault.CheckFault.TheVariants as f
+use Rattle.desk_core_faults.specs.declared.fault.ModuleFault.TheVariants as m
+use Rattle.desk_core_faults.specs.declared.fault.SetStop.TheVariants as t
+use Rattle.desk_core_stages.specs.Texts.{RefusesModules, RefusesSet, SpellsSomeModules, SpellsSomeSet}
 use Rattle.desk_core.specs.Steps.{IsRefusedBy, TellsFault}
 
 module _ (text : List ℕ) (spelt : SpellsSomeModules text) where

@@ -3,8 +3,8 @@ use Rattle.std.proofs.Common.{◌≡◌, ℕ, List, true, Option, Some, refl}
 use Rattle.outside.specs.declared.rows.Block.{Block}
 use Rattle.outside.specs.Tables.{Tables}
 use Rattle.proof_store.specs.Stored.{Told}
-use Rattle.reports.specs.declared.book.Book.{Book}
-use Rattle.desk_commands.specs.declared.command.Answer.TheVariants as a
+use Rattle.desk_core_reports.specs.declared.book.Book.{Book}
+use Rattle.desk_core_commands.specs.declared.command.Answer.TheVariants as a
 use Rattle.desk_core.specs.Blocks.{is_signed_off}
 use Rattle.desk_core.specs.Quiet.{IsNumbered, OfBlock}
 use Rattle.desk_core.specs.Steps.{SignsBlock, desk}

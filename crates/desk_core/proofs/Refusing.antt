@@ -2,11 +2,11 @@
 use Rattle.std.proofs.Common.{List, ℕ, Option, Some, None, refl, sym, subst}
 use Rattle.std.specs.Prelude.{Result, Ok, Err, IfOk}
 use Rattle.outside.specs.Tables.{Tables}
-use Rattle.check_faults.specs.declared.fault.CheckFault.{CheckFault}
+use Rattle.desk_core_faults.specs.declared.fault.CheckFault.{CheckFault}
 use Rattle.proof_store.specs.Stored.{Told}
 use Rattle.proof_store.specs.declared.fault.StoreFault.{StoreFault}
-use Rattle.desk_commands.specs.declared.command.Answer.{Answer}
-use Rattle.desk_commands.specs.declared.command.Answer.TheVariants as a
+use Rattle.desk_core_commands.specs.declared.command.Answer.{Answer}
+use Rattle.desk_core_commands.specs.declared.command.Answer.TheVariants as a
 use Rattle.desk_core.specs.Quiet.{IsRefusal, StepsQuietly}
 use Rattle.desk_core.specs.Steps.{Desk, IsRefusedBy, Stays, desk}
 

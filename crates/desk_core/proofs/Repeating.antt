@@ -11,7 +11,7 @@ use Rattle.std.proofs.lemmas.Slice.Eq.{bytes_eq-Decides}
 use Rattle.outside.specs.declared.rows.Block.{Block}
 use Rattle.outside.specs.declared.rows.Sign.{Sign}
 use Rattle.outside.specs.Tables.{ByBytes, Tables, sign_number, with_block, with_sign}
-use Rattle.desk_commands.specs.declared.command.Answer.TheVariants as a
+use Rattle.desk_core_commands.specs.declared.command.Answer.TheVariants as a
 use Rattle.desk_core.specs.Again.{EmptyIsDesk, ModuleIsStoredAgain, SetIsStoredAgain, SignedAgain}
 use Rattle.desk_core.specs.Blocks.{block_at, is_text, unreported, with_module, with_set}
 use Rattle.desk_core.specs.States.{IsSoundSign}

@@ -2,17 +2,17 @@
 use Rattle.std.proofs.Common.{ℕ, List, sym, ◌∙◌, Option, inl, inr, ⊎_elim}
 use Rattle.std.specs.Prelude.{Result, Ok, Err, IfOk, IfErr}
 use Rattle.outside.specs.Tables.{Tables}
-use Rattle.binding.specs.Binding.{Pair}
-use Rattle.check_faults.specs.declared.fault.CheckFault.{CheckFault}
-use Rattle.check_faults.specs.declared.fault.CheckFault.TheVariants as f
-use Rattle.check_stages.specs.Stages.{IsBoundOf, Refuses as StageRefuses}
-use Rattle.reports.specs.declared.book.Line.{Line as Told}
-use Rattle.reports.specs.declared.report.Report.{Report}
-use Rattle.reports.specs.declared.which.Which.{Which}
-use Rattle.asked_lines.specs.Decided.{AreDecided}
-use Rattle.asked_lines.specs.Settled.{AddsProofsOf, AreObsOf}
-use Rattle.line_designs.proofs.Existing.{bound_modules_run}
-use Rattle.asked_lines.proofs.Promising.{decided_of_modules, proved_lines_promise}
+use Rattle.unroll_binding.specs.Binding.{Pair}
+use Rattle.desk_core_faults.specs.declared.fault.CheckFault.{CheckFault}
+use Rattle.desk_core_faults.specs.declared.fault.CheckFault.TheVariants as f
+use Rattle.desk_core_stages.specs.Stages.{IsBoundOf, Refuses as StageRefuses}
+use Rattle.desk_core_reports.specs.declared.book.Line.{Line as Told}
+use Rattle.desk_core_reports.specs.declared.report.Report.{Report}
+use Rattle.desk_core_reports.specs.declared.which.Which.{Which}
+use Rattle.desk_core_goals.specs.Decided.{AreDecided}
+use Rattle.desk_core_goals.specs.Settled.{AddsProofsOf, AreObsOf}
+use Rattle.unroll_laws.proofs.Existing.{bound_modules_run}
+use Rattle.desk_core_goals.proofs.Promising.{decided_of_modules, proved_lines_promise}
 use Rattle.desk_core.specs.Checks.{AreObsOfTexts, IsReport, IsReportOf, RefusesAsked, Refuses}
 
 pub is_report : (text set_text : List ℕ) (b : Pair) (which : Which) (budget : ℕ) (ds : List Told) (r : Report) → IsBoundOf text set_text b → AreDecided budget b which ds

@@ -13,15 +13,15 @@ use Rattle.outside.specs.declared.rows.Sign.{Sign}
 use Rattle.outside.specs.Tables.{ByBytes, Tables, sign_number, with_block, with_sign}
 use Rattle.word_dag.specs.Nodes.{Parts}
 use Rattle.proof_store.specs.Stored.{AddsProofs}
-use Rattle.reports.specs.declared.book.Line.{Line}
-use Rattle.reports.specs.declared.report.Report.{Report}
-use Rattle.reports.specs.declared.which.Which.TheVariants as w
-use Rattle.reports.specs.Lines.{all_proved}
-use Rattle.reports.specs.Reports.{last_line, line_text, report_text}
-use Rattle.desk_commands.specs.declared.command.Answer.{Answer}
-use Rattle.desk_commands.specs.declared.command.Answer.TheVariants as a
-use Rattle.desk_commands.specs.declared.command.Command.{Command}
-use Rattle.desk_commands.specs.declared.command.Command.TheVariants as c
+use Rattle.desk_core_reports.specs.declared.book.Line.{Line}
+use Rattle.desk_core_reports.specs.declared.report.Report.{Report}
+use Rattle.desk_core_reports.specs.declared.which.Which.TheVariants as w
+use Rattle.desk_core_reports.specs.Lines.{all_proved}
+use Rattle.desk_core_reports.specs.Reports.{last_line, line_text, report_text}
+use Rattle.desk_core_commands.specs.declared.command.Answer.{Answer}
+use Rattle.desk_core_commands.specs.declared.command.Answer.TheVariants as a
+use Rattle.desk_core_commands.specs.declared.command.Command.{Command}
+use Rattle.desk_core_commands.specs.declared.command.Command.TheVariants as c
 use Rattle.desk_core.specs.Blocks.{block_at, is_signed_off, is_text, reported, unreported, with_module, with_set}
 use Rattle.desk_core.specs.Checks.{IsReport}
 use Rattle.desk_core.specs.States.{AreOnce, IsDesk, IsSoundBlock, IsSoundSign}

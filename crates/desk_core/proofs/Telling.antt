@@ -6,7 +6,7 @@ use Rattle.outside.specs.declared.rows.Block.{Block}
 use Rattle.outside.specs.Tables.{Tables}
 use Rattle.proof_store.specs.Stored.{Told}
 use Rattle.proof_store.specs.declared.fault.StoreFault.{StoreFault}
-use Rattle.desk_commands.specs.declared.command.Answer.{Answer}
+use Rattle.desk_core_commands.specs.declared.command.Answer.{Answer}
 use Rattle.desk_core.specs.Quiet.{OfBlock, StepsQuietly}
 use Rattle.desk_core.specs.Steps.{Desk, desk}
 

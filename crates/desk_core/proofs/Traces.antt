@@ -2,7 +2,7 @@
 use Rattle.std.proofs.Common.{◌≡◌, ℕ, suc, ◌+◌, ◌<◌, List, [], ◌∷◌, ◌++◌, length, get_or, take, sym, ap, ◌∙◌, append_assoc, append-nil, arith, length-take}
 use Rattle.std.proofs.lemmas.List.{take_more}
 use Rattle.outside.specs.declared.rows.TraceText.{TraceText}
-use Rattle.reports.specs.declared.book.Line.{Line}
+use Rattle.desk_core_reports.specs.declared.book.Line.{Line}
 use Rattle.desk_core.specs.Blocks.{trace_of, traces_from}
 
 traces_more : (n : ℕ) (xs : List Line) (x : Line) (k : ℕ) → k ≡ n + length xs → traces_from n (xs ++ x ∷ []) ≡ traces_from n xs ++ trace_of k x.name x.trace

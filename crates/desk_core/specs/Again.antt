@@ -2,8 +2,8 @@
 use Rattle.std.specs.Prelude.{◌≡◌, ℕ, List, []}
 use Rattle.std.specs.FinMap.{empty}
 use Rattle.outside.specs.Tables.{Tables}
-use Rattle.desk_commands.specs.declared.command.Answer.{Answer}
-use Rattle.desk_commands.specs.declared.command.Answer.TheVariants as a
+use Rattle.desk_core_commands.specs.declared.command.Answer.{Answer}
+use Rattle.desk_core_commands.specs.declared.command.Answer.TheVariants as a
 use Rattle.desk_core.specs.States.{IsDesk}
 use Rattle.desk_core.specs.Steps.{Desk, PutsModule, PutsSet, SignsBlock}
 

@@ -8,7 +8,7 @@ use Rattle.outside.specs.declared.rows.TraceText.{TraceText}
 use Rattle.outside.specs.Tables.{Tables, with_block}
 use Rattle.replay.specs.declared.shown.Shown.{Shown}
 use Rattle.replay.specs.Texts.{trace_text}
-use Rattle.reports.specs.declared.book.Line.{Line}
+use Rattle.desk_core_reports.specs.declared.book.Line.{Line}
 
 -- a block with these texts, of which nothing is reported
 abbrev pub unreported : Option (List ℕ) → Option (List ℕ) → Block

@@ -5,9 +5,9 @@ use Rattle.proof_store.specs.Provers.{asked_by, kept_by}
 use Rattle.proof_store.specs.Provers.{IsSame as IsSameProver}
 use Rattle.proof_store.specs.Stored.{Told}
 use Rattle.proof_store.specs.declared.settings.Settings.{Settings}
-use Rattle.reports.specs.declared.book.Book.{Book}
-use Rattle.desk_commands.specs.declared.command.Answer.{Answer}
-use Rattle.desk_commands.specs.declared.command.Command.{Command}
+use Rattle.desk_core_reports.specs.declared.book.Book.{Book}
+use Rattle.desk_core_commands.specs.declared.command.Answer.{Answer}
+use Rattle.desk_core_commands.specs.declared.command.Command.{Command}
 use Rattle.desk_core.specs.Steps.{Desk, Steps, desk}
 use Rattle.desk_core.specs.declared.checker.Checker.{Checker}
 

@@ -3,22 +3,22 @@ use Rattle.std.specs.Prelude.{◌≡◌, ℕ, true, List, map}
 use Rattle.std.specs.List.{AllZip}
 use Rattle.set_tree.specs.declared.line.Line.{Line}
 use Rattle.set_tree.specs.declared.set.Set.{Set}
-use Rattle.line_designs.specs.Existence.{HasRunsFromReset}
-use Rattle.line_designs.specs.Promises.{HoldsInRuns, SignsOff}
+use Rattle.unroll_laws.specs.Existence.{HasRunsFromReset}
+use Rattle.unroll_laws.specs.Promises.{HoldsInRuns, SignsOff}
 use Rattle.word_dag.specs.Nodes.{Parts}
-use Rattle.binding.specs.Binding.{Pair}
-use Rattle.check_faults.specs.declared.fault.CheckFault.{CheckFault}
-use Rattle.check_faults.specs.declared.fault.CheckFault.TheVariants as f
-use Rattle.check_stages.specs.Stages.{IsBoundOf, Refuses as StageRefuses}
-use Rattle.reports.specs.declared.book.Line.{Line as Told}
-use Rattle.reports.specs.declared.report.Report.{Report}
-use Rattle.reports.specs.declared.which.Which.{Which}
-use Rattle.reports.specs.Reports.{is_complete, report_text}
-use Rattle.asked_lines.specs.declared.fault.LineFault.{LineFault}
-use Rattle.asked_lines.specs.declared.fault.LineFault.TheVariants as l
-use Rattle.asked_lines.specs.Asked.{RefusesLines}
-use Rattle.asked_lines.specs.Settled.{AreObsOf}
-use Rattle.asked_lines.specs.Decided.{AreAsked, IsLineOf, ProvesDesignLines}
+use Rattle.unroll_binding.specs.Binding.{Pair}
+use Rattle.desk_core_faults.specs.declared.fault.CheckFault.{CheckFault}
+use Rattle.desk_core_faults.specs.declared.fault.CheckFault.TheVariants as f
+use Rattle.desk_core_stages.specs.Stages.{IsBoundOf, Refuses as StageRefuses}
+use Rattle.desk_core_reports.specs.declared.book.Line.{Line as Told}
+use Rattle.desk_core_reports.specs.declared.report.Report.{Report}
+use Rattle.desk_core_reports.specs.declared.which.Which.{Which}
+use Rattle.desk_core_reports.specs.Reports.{is_complete, report_text}
+use Rattle.desk_core_goals.specs.declared.fault.LineFault.{LineFault}
+use Rattle.desk_core_goals.specs.declared.fault.LineFault.TheVariants as l
+use Rattle.desk_core_goals.specs.Asked.{RefusesLines}
+use Rattle.desk_core_goals.specs.Settled.{AreObsOf}
+use Rattle.desk_core_goals.specs.Decided.{AreAsked, IsLineOf, ProvesDesignLines}
 
 -- The report of decided lines
 pub record IsReportOf (which : Which) (decided : List Told) (r : Report) : Type 0 where

@@ -3,13 +3,13 @@ use Rattle.std.specs.Prelude.{◌≡◌, ◌⊎◌, ℕ, ◌+◌, List, length, 
 use Rattle.std.specs.FinMap.{get}
 use Rattle.outside.specs.declared.rows.Block.{Block}
 use Rattle.outside.specs.Tables.{Tables, sign_number, with_sign}
-use Rattle.check_faults.specs.declared.fault.CheckFault.{CheckFault}
+use Rattle.desk_core_faults.specs.declared.fault.CheckFault.{CheckFault}
 use Rattle.proof_store.specs.Stored.{Told}
 use Rattle.proof_store.specs.declared.fault.StoreFault.{StoreFault}
-use Rattle.reports.specs.declared.book.Book.{Book}
-use Rattle.desk_commands.specs.declared.command.Answer.{Answer}
-use Rattle.desk_commands.specs.declared.command.Answer.TheVariants as a
-use Rattle.desk_commands.specs.declared.command.Command.TheVariants as c
+use Rattle.desk_core_reports.specs.declared.book.Book.{Book}
+use Rattle.desk_core_commands.specs.declared.command.Answer.{Answer}
+use Rattle.desk_core_commands.specs.declared.command.Answer.TheVariants as a
+use Rattle.desk_core_commands.specs.declared.command.Command.TheVariants as c
 use Rattle.desk_core.specs.Blocks.{trace_at}
 use Rattle.desk_core.specs.Steps.{Desk, IsBlockOf, Leaves, Stays, TellsFault, desk}
 

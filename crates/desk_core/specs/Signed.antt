@@ -1,10 +1,10 @@
 -- What a sign-off says of its two texts.
 use Rattle.std.specs.Prelude.{◌≡◌, ℕ, List, All, Some}
 use Rattle.outside.specs.Tables.{Tables, sign_number}
-use Rattle.line_designs.specs.Existence.{HasRunsFromReset}
-use Rattle.line_designs.specs.Promises.{SignsOff}
-use Rattle.binding.specs.Binding.{Pair}
-use Rattle.check_stages.specs.Stages.{IsBoundOf}
+use Rattle.unroll_laws.specs.Existence.{HasRunsFromReset}
+use Rattle.unroll_laws.specs.Promises.{SignsOff}
+use Rattle.unroll_binding.specs.Binding.{Pair}
+use Rattle.desk_core_stages.specs.Stages.{IsBoundOf}
 use Rattle.desk_core.specs.States.{IsDesk}
 
 -- the texts are of modules and of a set that fits their design; the modules have runs from reset, every constrained one satisfies the set, and the set is

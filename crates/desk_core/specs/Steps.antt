@@ -4,19 +4,19 @@ use Rattle.std.specs.FinMap.{get, keys}
 use Rattle.outside.specs.declared.rows.Block.{Block}
 use Rattle.outside.specs.Tables.{Tables, sign_number, with_block, with_sign}
 use Rattle.word_dag.specs.Nodes.{Parts}
-use Rattle.check_faults.specs.declared.fault.CheckFault.{CheckFault}
-use Rattle.check_faults.specs.declared.fault.CheckFault.TheVariants as f
-use Rattle.fault_texts.specs.Texts.{fault_line}
-use Rattle.check_stages.specs.Texts.{RefusesModules, RefusesSet, SpellsSomeModules, SpellsSomeSet}
+use Rattle.desk_core_faults.specs.declared.fault.CheckFault.{CheckFault}
+use Rattle.desk_core_faults.specs.declared.fault.CheckFault.TheVariants as f
+use Rattle.desk_core_faults.specs.Texts.{fault_line}
+use Rattle.desk_core_stages.specs.Texts.{RefusesModules, RefusesSet, SpellsSomeModules, SpellsSomeSet}
 use Rattle.proof_store.specs.Stored.{AddsProofs}
-use Rattle.reports.specs.declared.book.Book.{Book}
-use Rattle.reports.specs.declared.report.Report.{Report}
-use Rattle.reports.specs.declared.which.Which.TheVariants as w
-use Rattle.asked_lines.specs.Settled.{AreSettled}
-use Rattle.desk_commands.specs.declared.command.Answer.{Answer}
-use Rattle.desk_commands.specs.declared.command.Answer.TheVariants as a
-use Rattle.desk_commands.specs.declared.command.Command.{Command}
-use Rattle.desk_commands.specs.declared.command.Command.TheVariants as c
+use Rattle.desk_core_reports.specs.declared.book.Book.{Book}
+use Rattle.desk_core_reports.specs.declared.report.Report.{Report}
+use Rattle.desk_core_reports.specs.declared.which.Which.TheVariants as w
+use Rattle.desk_core_goals.specs.Settled.{AreSettled}
+use Rattle.desk_core_commands.specs.declared.command.Answer.{Answer}
+use Rattle.desk_core_commands.specs.declared.command.Answer.TheVariants as a
+use Rattle.desk_core_commands.specs.declared.command.Command.{Command}
+use Rattle.desk_core_commands.specs.declared.command.Command.TheVariants as c
 use Rattle.desk_core.specs.Blocks.{is_signed_off, reported, trace_at, with_module, with_set}
 use Rattle.desk_core.specs.Checks.{AreObsOfTexts, IsReport, Refuses}
 

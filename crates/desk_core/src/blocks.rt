@@ -5,10 +5,9 @@ ghost use Rattle.desk_core.specs.Blocks.{block_at, is_text, trace_at, unreported
 ghost use Rattle.desk_core.specs.Quiet.{IsRefusal, IsTraced, Reads, StepsQuietly};
 ghost use Rattle.desk_core.specs.Steps.{GetsReport, GetsTrace, PutsModule, PutsSet};
 
-use check_faults::CheckFault;
-use check_stages::{try_modules, try_set};
-use desk_commands::Answer;
-use fault_texts::fault_line;
+use desk_core_commands::Answer;
+use desk_core_faults::{CheckFault, fault_line};
+use desk_core_stages::{try_modules, try_set};
 use outside::{Block, Keeper, Text, TraceText, Traces};
 use proof_store::StoreFault;
 use std::alloc::{AllocError, Global};

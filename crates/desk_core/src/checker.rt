@@ -1,8 +1,8 @@
 // What commands are carried out by.
+use desk_core_reports::Book;
 use helper_box::Helper;
 use outside::{Gate, Keeper};
 use proof_store::Prover;
-use reports::Book;
 use std::thread::Threads;
 
 /// What checks and commands are carried out by: a prover, whose keeper holds the desk, and the book of what was last decided.

@@ -1,21 +1,21 @@
 // The check of two texts.
 ghost use Rattle.std.specs.Prelude.{◌≡◌, [], None, Err, IfOk, IfErr};
-ghost use Rattle.asked_lines.specs.Least.{HasLeast};
-ghost use Rattle.asked_lines.specs.Decided.{AreDecided};
-ghost use Rattle.asked_lines.specs.Settled.{AddsProofsOf, AreObsOf, AreSettled};
+ghost use Rattle.desk_core_goals.specs.Least.{HasLeast};
+ghost use Rattle.desk_core_goals.specs.Decided.{AreDecided};
+ghost use Rattle.desk_core_goals.specs.Settled.{AddsProofsOf, AreObsOf, AreSettled};
 ghost use Rattle.proof_store.specs.Provers.{Proceeds, asked_by, counts, kept_by};
 ghost use Rattle.desk_core.specs.Checkers.{IsSame};
 ghost use Rattle.desk_core.specs.Checks.{AreObsOfTexts, IsReport, IsReportOf, Refuses, RefusesAsked, check_fault_of};
 
 use crate::checker::Checker;
-use asked_lines::{LineFault, decide_lines};
-use binding::Bound;
-use check_faults::CheckFault;
-use check_stages::bound_of;
+use desk_core_faults::CheckFault;
+use desk_core_goals::{LineFault, decide_lines};
+use desk_core_reports::{Book, Report, Which, report_of};
+use desk_core_stages::bound_of;
 use helper_box::Helper;
 use outside::{Gate, Keeper};
-use reports::{Book, Report, Which, report_of};
 use std::thread::Threads;
+use unroll_binding::Bound;
 
 /// Why no lines were decided, as the fault of a check.
 pub fn check_fault_of(fault: LineFault) -> CheckFault

@@ -6,12 +6,12 @@ ghost use Rattle.desk_core.specs.Blocks.{reported, trace_of, traces_from};
 ghost use Rattle.desk_core.specs.Checkers.{IsSame};
 
 use crate::checker::Checker;
-use desk_commands::Answer;
+use desk_core_commands::Answer;
+use desk_core_reports::{Book, Line, Report};
 use helper_box::Helper;
 use outside::{Block, Gate, Keeper, Text, TraceText, Traces};
 use proof_store::StoreFault;
 use replay::trace_text;
-use reports::{Book, Line, Report};
 use std::alloc::{AllocError, Global};
 use std::thread::Threads;
 

@@ -4,7 +4,7 @@ ghost use Rattle.proof_store.specs.Provers.{Rises};
 ghost use Rattle.desk_core.specs.Quiet.{Reads, StepsQuietly};
 ghost use Rattle.desk_core.specs.Steps.{Lists, ListsSigns};
 
-use desk_commands::{Answer, Names, Signs};
+use desk_core_commands::{Answer, Names, Signs};
 use outside::Keeper;
 use proof_store::StoreFault;
 use std::alloc::Global;

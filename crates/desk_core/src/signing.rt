@@ -6,7 +6,7 @@ ghost use Rattle.desk_core.specs.Blocks.{is_signed_off};
 ghost use Rattle.desk_core.specs.Quiet.{IsNumbered, OfBlock, StepsQuietly};
 ghost use Rattle.desk_core.specs.Steps.{SignsBlock};
 
-use desk_commands::Answer;
+use desk_core_commands::Answer;
 use outside::{Block, Keeper};
 use proof_store::StoreFault;
 use std::alloc::Global;

@@ -1,10 +1,10 @@
 -- What a command comes to, by the clauses of the call that carries it out.
 use Rattle.std.proofs.Common.{◌≡◌, ◌≤◌, refl}
 use Rattle.std.specs.Prelude.{Result, Ok, Err, IfOk, IfSome, OnErr}
-use Rattle.desk_commands.specs.declared.command.Answer.{Answer}
-use Rattle.desk_commands.specs.declared.command.Command.{Command}
-use Rattle.desk_commands.specs.declared.fault.DeskFault.{DeskFault}
-use Rattle.desk_commands.specs.declared.fault.DeskFault.TheVariants as f
+use Rattle.desk_core_commands.specs.declared.command.Answer.{Answer}
+use Rattle.desk_core_commands.specs.declared.command.Command.{Command}
+use Rattle.desk_core_commands.specs.declared.fault.DeskFault.{DeskFault}
+use Rattle.desk_core_commands.specs.declared.fault.DeskFault.TheVariants as f
 use Rattle.desk_core.specs.States.{IsDesk}
 use Rattle.desk_core.specs.Steps.{IsLeft, Leaves}
 use Rattle.proof_store.specs.Counts.{NoneFalls}

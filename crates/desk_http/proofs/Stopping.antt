@@ -1,8 +1,8 @@
 -- Connections of which one couldn't be taken, and how many count.
 use Rattle.std.proofs.Common.{◌≡◌, ◌<◌, ◌≤◌, ◌+◌, ◌-◌, ◌^◌, ◌⊎◌, ℕ, subst, sym, arith, ap, ◌∙◌, inr, refl}
 use Rattle.std.specs.Prelude.{Bool, true, false, Result, Ok, Err, IfErr, IsErrAnd}
-use Rattle.http_connection.specs.declared.serve.Served.{Served}
-use Rattle.http_connection.specs.declared.serve.ServeFault.{ServeFault}
+use Rattle.desk_http_connection.specs.declared.serve.Served.{Served}
+use Rattle.desk_http_connection.specs.declared.serve.ServeFault.{ServeFault}
 use Rattle.proof_store.specs.Provers.{Limits}
 use Rattle.desk_http.specs.declared.serving.Quota.{Quota}
 use Rattle.desk_http.specs.Serving.{Fills, Line, ServesMany, ServesOne, State, StopsWithin, counted}

@@ -3,15 +3,15 @@ use Rattle.std.specs.Prelude.{◌≡◌, ◌⊎◌, ◌<◌, ◌≤◌, ◌-◌,
 use Rattle.outside.specs.Faults.{Rose}
 use Rattle.outside.specs.Port.{Wire}
 use Rattle.outside.specs.Tables.{Tables}
-use Rattle.desk_commands.specs.declared.command.Answer.{Answer}
-use Rattle.desk_commands.specs.declared.command.Command.{Command}
-use Rattle.desk_commands.specs.declared.fault.DeskFault.{DeskFault}
-use Rattle.desk_commands.specs.declared.fault.DeskFault.TheVariants as f
-use Rattle.http_connection.specs.declared.serve.Served.{Served}
-use Rattle.http_connection.specs.declared.serve.Served.TheVariants.{Replied, Cut, Broken}
-use Rattle.http_connection.specs.declared.serve.ServeFault.{ServeFault}
-use Rattle.http_connection.specs.Serve.{Serves}
-use Rattle.reports.specs.declared.book.Book.{Book}
+use Rattle.desk_core_commands.specs.declared.command.Answer.{Answer}
+use Rattle.desk_core_commands.specs.declared.command.Command.{Command}
+use Rattle.desk_core_commands.specs.declared.fault.DeskFault.{DeskFault}
+use Rattle.desk_core_commands.specs.declared.fault.DeskFault.TheVariants as f
+use Rattle.desk_http_connection.specs.declared.serve.Served.{Served}
+use Rattle.desk_http_connection.specs.declared.serve.Served.TheVariants.{Replied, Cut, Broken}
+use Rattle.desk_http_connection.specs.declared.serve.ServeFault.{ServeFault}
+use Rattle.desk_http_connection.specs.Serve.{Serves}
+use Rattle.desk_core_reports.specs.declared.book.Book.{Book}
 use Rattle.desk_core.specs.declared.checker.Checker.{Checker}
 use Rattle.desk_core.specs.States.{IsDesk}
 use Rattle.desk_core.specs.Steps.{IsLeft, Leaves, Steps, desk}

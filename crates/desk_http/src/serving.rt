@@ -6,8 +6,8 @@ ghost use Rattle.desk_core.specs.Checkers.{IsSame};
 ghost use Rattle.desk_http.specs.Serving.{Keeps, ServesOne, ServesQuota, StopsWithin, counted, line, state_of};
 
 use desk_core::Checker;
+use desk_http_connection::{Incoming, ServeFault, Served, receive, reply_to};
 use helper_box::Helper;
-use http_connection::{Incoming, ServeFault, Served, receive, reply_to};
 use outside::{Gate, Keeper, Port};
 use std::thread::Threads;
 

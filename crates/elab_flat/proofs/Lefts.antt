@@ -14,10 +14,10 @@ use Rattle.vlog_tree.specs.declared.stmt.Lval.{Lval}
 use Rattle.vlog_tree.specs.declared.stmt.Lval.TheVariants as l
 use Rattle.vlog_tree.specs.declared.token.Number.{Number}
 use Rattle.vlog_tree.specs.declared.valuation.Entry.{Entry}
-use Rattle.vlog_runs.specs.Places.{Name}
-use Rattle.vlog_runs.specs.Scopes.{left_of, row_left}
-use Rattle.flat_laws.specs.Moved.{moved, moved_left}
-use Rattle.flat_move.proofs.Lefts.{name_moved, select_moved, part_moved, concat_moved}
+use Rattle.vlog_tree_runs.specs.Places.{Name}
+use Rattle.vlog_tree_runs.specs.Scopes.{left_of, row_left}
+use Rattle.elab_flat_laws.specs.Moved.{moved, moved_left}
+use Rattle.elab_flat_move.proofs.Lefts.{name_moved, select_moved, part_moved, concat_moved}
 use denote.Hole.Carrier
 
 row_lefts : {m : _} (row : Row_of-Expr m) → row_left row ≡ map left_of (items-the_row-Expr m row)

@@ -4,3 +4,14 @@ pub mod Linking
 pub mod Ports
 pub mod Standing
 pub mod Whole
+pub mod Contents
+pub mod Made
+pub mod Params
+pub mod Reading
+pub mod Shallow
+pub mod CheckedStanding
+pub mod Usable
+pub mod Following
+pub mod Inputs
+pub mod Sound
+pub mod Flattening

@@ -4,16 +4,16 @@ use Rattle.std.specs.List.{flat_map}
 use Rattle.std.proofs.lemmas.List.{append_assoc, length-map, length-drop, length-take-le}
 use Rattle.vlog_tree.specs.declared.item.Assign.{Assign}
 use Rattle.vlog_tree.specs.declared.module.Module.{Module}
-use Rattle.vlog_runs.specs.Contents.{assigns_in, instances_in}
-use Rattle.vlog_runs.specs.Scopes.{Scope, place_of, child, connections, own_link, inner_links}
-use Rattle.flat_laws.specs.Flattened.{moved_link, flat_assigns}
-use Rattle.flat_laws.proofs.Lists.{map_append}
-use Rattle.flat_scopes.specs.declared.inner.Inner.{Inner as View}
-use Rattle.flat_scopes.specs.Borrowed.{inner_meant}
-use Rattle.flat_scopes.proofs.Finding.{cut}
-use Rattle.flat_instances.specs.declared.scope.Scope.{Scope as Instance}
-use Rattle.flat_instances.specs.Unfolding.{scope_meant}
-use Rattle.flat_checked.specs.Following.{inner_scopes, AreFollowed}
+use Rattle.vlog_tree_runs.specs.Contents.{assigns_in, instances_in}
+use Rattle.vlog_tree_runs.specs.Scopes.{Scope, place_of, child, connections, own_link, inner_links}
+use Rattle.elab_flat_laws.specs.Flattened.{moved_link, flat_assigns}
+use Rattle.elab_flat_laws.proofs.Lists.{map_append}
+use Rattle.elab_flat_scopes.specs.declared.inner.Inner.{Inner as View}
+use Rattle.elab_flat_scopes.specs.Borrowed.{inner_meant}
+use Rattle.elab_flat_scopes.proofs.Finding.{cut}
+use Rattle.elab_flat_instances.specs.declared.scope.Scope.{Scope as Instance}
+use Rattle.elab_flat_instances.specs.Unfolding.{scope_meant}
+use Rattle.elab_flat.specs.Following.{inner_scopes, AreFollowed}
 use Rattle.elab_flat.proofs.Making.{next_parts}
 
 -- a list whose images stand before others, cut there

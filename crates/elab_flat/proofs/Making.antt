@@ -1,8 +1,8 @@
 -- Lists that loops make.
 use Rattle.std.proofs.Common.{ℕ, suc, ◌≡◌, ◌+◌, ◌<◌, ◌≤◌, ◌⊎◌, inl, inr, ⊎_elim, List, [], ◌∷◌, ◌++◌, length, map, drop, drop_of_length-le, append-nil, get_or, add-one, sym, ap, subst, ◌∙◌}
-use Rattle.vlog_runs.specs.Places.{Among}
+use Rattle.vlog_tree_runs.specs.Places.{Among}
 use Rattle.std.proofs.lemmas.List.{append_assoc}
-use Rattle.flat_scopes.proofs.Finding.{cut}
+use Rattle.elab_flat_scopes.proofs.Finding.{cut}
 
 -- one more element of what is made of a list
 pub next_made : {X Y : Type 0} (g : List X → List Y) (f : X → Y) → ((x : X) (xs : List X) → g (x ∷ xs) ≡ f x ∷ g xs) → (xs : List X) (i : ℕ) (x : X) → i < length xs → x ≡ get_or xs i x →

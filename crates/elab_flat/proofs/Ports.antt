@@ -1,10 +1,10 @@
 -- The ports of a header, as its declarations have them.
 use Rattle.std.proofs.Common.{◌≡◌, Bool, List, map, filter, ap, ◌∙◌}
-use Rattle.vlog_runs.specs.Places.{Name}
-use Rattle.vlog_runs.specs.Contents.{Decl, declares, is_among}
-use Rattle.flat_scopes.specs.Finding.{decl_name}
-use Rattle.flat_scopes.proofs.Joining.{declared_among}
-use Rattle.flat_ready.specs.Handed.{top_port}
+use Rattle.vlog_tree_runs.specs.Places.{Name}
+use Rattle.vlog_tree_runs.specs.Contents.{Decl, declares, is_among}
+use Rattle.elab_flat_scopes.specs.Finding.{decl_name}
+use Rattle.elab_flat_scopes.proofs.Joining.{declared_among}
+use Rattle.elab_flat_faults.specs.Handed.{top_port}
 
 abbrev is_output : Decl → Bool
 is_output d = d.output

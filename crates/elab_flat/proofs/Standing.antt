@@ -1,17 +1,17 @@
 -- What stands at a scope or around it stands.
 use Rattle.std.proofs.Common.{List, inl, inr}
 use Rattle.vlog_tree.specs.declared.module.Module.{Module}
-use Rattle.vlog_runs.specs.Places.{Name, Among}
-use Rattle.vlog_runs.specs.Contents.{instances_in}
-use Rattle.vlog_runs.specs.Scopes.{Scope}
-use Rattle.flat_laws.proofs.Apart.{instance_found}
-use Rattle.flat_faults.specs.declared.fault.FlatFault.{FlatFault}
-use Rattle.flat_faults.specs.Stands.{Stands}
-use Rattle.flat_bounds.specs.Texts.{StandsAround}
-use Rattle.flat_instances.specs.Naming.{prefix_name}
-use Rattle.flat_instances.specs.Unfolding.{AreUnfolded}
-use Rattle.flat_instances.proofs.Standing.{in_scope}
-use Rattle.flat_checked.proofs.Sound.{at_one}
+use Rattle.vlog_tree_runs.specs.Places.{Name, Among}
+use Rattle.vlog_tree_runs.specs.Contents.{instances_in}
+use Rattle.vlog_tree_runs.specs.Scopes.{Scope}
+use Rattle.elab_flat_laws.proofs.Apart.{instance_found}
+use Rattle.elab_flat_faults.specs.declared.flattening.FlatFault.{FlatFault}
+use Rattle.elab_flat_faults.specs.FlatStands.{Stands}
+use Rattle.elab_flat_widths.specs.Texts.{StandsAround}
+use Rattle.elab_flat_instances.specs.Naming.{prefix_name}
+use Rattle.elab_flat_instances.specs.Unfolding.{AreUnfolded}
+use Rattle.elab_flat_instances.proofs.Standing.{in_scope}
+use Rattle.elab_flat.proofs.Sound.{at_one}
 
 module _ (ms : List Module) (top : Name) (ss : List Scope) (are : AreUnfolded ms top ss) where
   pub around_stands : (s : Scope) → Among ss s → (fault : FlatFault) → StandsAround ms (prefix_name top s.prefix) s fault → Stands ms top fault

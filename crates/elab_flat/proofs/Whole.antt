@@ -1,17 +1,17 @@
 -- The module without instances that the texts of checked scopes make.
 use Rattle.std.proofs.Common.{◌≡◌, List, [], Some, ap}
 use Rattle.vlog_tree.specs.declared.module.Module.{Module}
-use Rattle.vlog_runs.specs.declared.flat.Flat.{Flat}
-use Rattle.vlog_runs.specs.Places.{Name}
-use Rattle.vlog_runs.specs.Scopes.{Scope, module_at, top_scope}
-use Rattle.flat_laws.specs.Flattened.{KeepsRuns}
-use Rattle.flat_laws.proofs.Keeps.{keeps}
-use Rattle.flat_instances.specs.Unfolding.{AreUnfolded, scope_of_top}
-use Rattle.flat_ready.specs.Handed.{IsFlattened}
-use Rattle.flat_ready.specs.Plain.{ArePlainTexts}
-use Rattle.flat_checked.specs.Checked.{AreChecked}
-use Rattle.flat_checked.proofs.Inputs.{inputs_are}
-use Rattle.flat_checked.proofs.Usable.{can_flatten}
+use Rattle.vlog_tree_runs.specs.declared.flat.Flat.{Flat}
+use Rattle.vlog_tree_runs.specs.Places.{Name}
+use Rattle.vlog_tree_runs.specs.Scopes.{Scope, module_at, top_scope}
+use Rattle.elab_flat_laws.specs.Flattened.{KeepsRuns}
+use Rattle.elab_flat_laws.proofs.Keeps.{keeps}
+use Rattle.elab_flat_instances.specs.Unfolding.{AreUnfolded, scope_of_top}
+use Rattle.elab_flat_faults.specs.Handed.{IsFlattened}
+use Rattle.elab_flat_faults.specs.Plain.{ArePlainTexts}
+use Rattle.elab_flat.specs.Checked.{AreChecked}
+use Rattle.elab_flat.proofs.Inputs.{inputs_are}
+use Rattle.elab_flat.proofs.Usable.{can_flatten}
 use Rattle.elab_flat.specs.Joined.{IsJoined}
 
 module _ (ms : List Module) (top : Name) (f : Flat) where

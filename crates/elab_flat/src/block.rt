@@ -2,15 +2,15 @@
 
 ghost use Rattle.std.specs.Prelude.{◌≡◌, ◌++◌, IfOk, OnOk, map};
 ghost use Rattle.std.specs.List.{flat_map};
-ghost use Rattle.flat_laws.specs.Flattened.{flat_blocks};
-ghost use Rattle.flat_instances.specs.Unfolding.{scope_meant};
+ghost use Rattle.elab_flat_laws.specs.Flattened.{flat_blocks};
+ghost use Rattle.elab_flat_instances.specs.Unfolding.{scope_meant};
 
-use flat_instances::Scope;
-use flat_move::moved_block;
-use flat_scopes::blocks_in;
+use elab_flat_instances::Scope;
+use elab_flat_move::moved_block;
+use elab_flat_scopes::blocks_in;
 use sqlite_items::Items;
 use std::alloc::{AllocError, Global};
-use vlog_runs::Always;
+use vlog_tree_runs::Always;
 
 /// Adds the blocks of a scope, in the order of its module's text. Refused only for want of memory.
 fn add_blocks(all: &mut Items<Always>, alloc: Global, scope: &Scope<'_>) -> Result<(), AllocError>

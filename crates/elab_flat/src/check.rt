@@ -1,19 +1,19 @@
 // The rules on the texts of all scopes.
 
 ghost use Rattle.std.specs.Prelude.{IfErr, OnOk, map};
-ghost use Rattle.flat_faults.specs.Stands.{Refuses, Stands};
-ghost use Rattle.flat_bounds.specs.Scopes.{HasSoundParams};
-ghost use Rattle.flat_bounds.specs.Texts.{StandsAround};
-ghost use Rattle.flat_instances.specs.Naming.{prefix_name};
-ghost use Rattle.flat_instances.specs.Unfolding.{scope_meant, HasSoundInners, HasSoundTop, AreUnfolded};
-ghost use Rattle.flat_checked.specs.Checked.{IsChecked, AreChecked};
+ghost use Rattle.elab_flat_faults.specs.FlatStands.{Refuses, Stands};
+ghost use Rattle.elab_flat_widths.specs.Scopes.{HasSoundParams};
+ghost use Rattle.elab_flat_widths.specs.Texts.{StandsAround};
+ghost use Rattle.elab_flat_instances.specs.Naming.{prefix_name};
+ghost use Rattle.elab_flat_instances.specs.Unfolding.{scope_meant, HasSoundInners, HasSoundTop, AreUnfolded};
+ghost use Rattle.elab_flat.specs.Checked.{IsChecked, AreChecked};
 
 use crate::scope::scope_name;
-use flat_bounds::check_texts;
-use flat_faults::FlatFault;
-use flat_instances::Scope;
-use flat_names::check_names;
-use flat_scopes::Modules;
+use elab_flat_faults::FlatFault;
+use elab_flat_instances::Scope;
+use elab_flat_names::check_names;
+use elab_flat_scopes::Modules;
+use elab_flat_widths::check_texts;
 use std::alloc::Global;
 
 /// The text of a scope breaks no rule on names, ports, constants and lengths. A refusal's fault stands at the scope, or at an instance in it.

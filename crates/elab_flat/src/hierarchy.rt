@@ -2,19 +2,19 @@
 
 ghost use Rattle.std.specs.Prelude.{◌≡◌, List, Some, IfOk, IfErr, map};
 ghost use Rattle.vlog_tree.specs.declared.module.Module.{Module as Design};
-ghost use Rattle.vlog_runs.specs.Places.{Name};
-ghost use Rattle.vlog_runs.specs.Scopes.{module_at};
-ghost use Rattle.flat_faults.specs.declared.fault.FlatFault.{FlatFault as Fault};
-ghost use Rattle.flat_faults.specs.Declaring.{Repeats};
-ghost use Rattle.flat_faults.specs.Stands.{Stands, Refuses};
-ghost use Rattle.flat_laws.specs.Flattened.{KeepsRuns};
-ghost use Rattle.flat_scopes.specs.Finding.{module_name};
-ghost use Rattle.flat_instances.specs.Unfolding.{scope_meant, AreUnfolded, HasSoundTop, IsOfWhole};
-ghost use Rattle.flat_ready.specs.Handed.{HasTopPorts, HasClocks, IsFlattened};
-ghost use Rattle.flat_ready.specs.Plain.{ArePlainTexts};
-ghost use Rattle.flat_checked.specs.Following.{AreFollowed};
+ghost use Rattle.vlog_tree_runs.specs.Places.{Name};
+ghost use Rattle.vlog_tree_runs.specs.Scopes.{module_at};
+ghost use Rattle.elab_flat_faults.specs.declared.flattening.FlatFault.{FlatFault as Fault};
+ghost use Rattle.elab_flat_faults.specs.Declaring.{Repeats};
+ghost use Rattle.elab_flat_faults.specs.FlatStands.{Stands, Refuses};
+ghost use Rattle.elab_flat_laws.specs.Flattened.{KeepsRuns};
+ghost use Rattle.elab_flat_scopes.specs.Finding.{module_name};
+ghost use Rattle.elab_flat_instances.specs.Unfolding.{scope_meant, AreUnfolded, HasSoundTop, IsOfWhole};
+ghost use Rattle.elab_flat_faults.specs.Handed.{HasTopPorts, HasClocks, IsFlattened};
+ghost use Rattle.elab_flat_faults.specs.Plain.{ArePlainTexts};
+ghost use Rattle.elab_flat.specs.Following.{AreFollowed};
 ghost use Rattle.elab_flat.specs.Joined.{IsJoined};
-ghost use Rattle.flat_timing.specs.Passing.{StandsAmong};
+ghost use Rattle.elab_flat_clocks.specs.Passing.{StandsAmong};
 
 use crate::block::blocks_of;
 use crate::check::check_scopes;
@@ -22,14 +22,14 @@ use crate::link::assigns_of;
 use crate::module::named_twice;
 use crate::port::ports_of;
 use crate::signal::signals_of;
-use flat_faults::FlatFault;
-use flat_instances::{Scope, scopes_of};
-use flat_scopes::Modules;
-use flat_timing::{Clocks, clocks_of};
+use elab_flat_clocks::{Clocks, clocks_of};
+use elab_flat_faults::FlatFault;
+use elab_flat_instances::{Scope, scopes_of};
+use elab_flat_scopes::Modules;
 use outside::Text;
 use std::alloc::Global;
-use vlog_runs::Flat;
 use vlog_tree::Module;
+use vlog_tree_runs::Flat;
 
 /// The texts of the scopes joined, with the ports of the top and the clocks. A refusal's fault stands at one of the scopes.
 fn joined(

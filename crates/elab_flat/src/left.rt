@@ -2,10 +2,10 @@
 
 ghost use Rattle.std.specs.Prelude.{◌≡◌, IfOk, map};
 ghost use Rattle.vlog_tree.specs.declared.expr.Expr.{Expr as Form};
-ghost use Rattle.vlog_runs.specs.Scopes.{left_of};
-ghost use Rattle.flat_laws.specs.Moved.{moved_left};
+ghost use Rattle.vlog_tree_runs.specs.Scopes.{left_of};
+ghost use Rattle.elab_flat_laws.specs.Moved.{moved_left};
 
-use flat_move::Mover;
+use elab_flat_move::Mover;
 use sqlite_items::Items;
 use std::alloc::AllocError;
 use vlog_tree::{Expr, Lval};

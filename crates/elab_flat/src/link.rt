@@ -5,23 +5,23 @@ ghost use Rattle.std.specs.Prelude.{◌≡◌, ◌++◌, List, Some, IfOk, OnOk,
 ghost use Rattle.std.specs.List.{flat_map};
 ghost use Rattle.std.specs.Option.{option_to_list};
 ghost use Rattle.vlog_tree.specs.declared.module.Module.{Module as Design};
-ghost use Rattle.vlog_runs.specs.declared.flat.Signal.{Signal};
-ghost use Rattle.vlog_runs.specs.Contents.{assigns_in};
+ghost use Rattle.vlog_tree_runs.specs.declared.flat.Signal.{Signal};
+ghost use Rattle.vlog_tree_runs.specs.Contents.{assigns_in};
 ghost use Rattle.vlog_tree.specs.declared.expr.Expr.TheVariants as e;
-ghost use Rattle.vlog_runs.specs.Places.{read};
-ghost use Rattle.vlog_runs.specs.Scopes.{own_link, port_link, port_links, connections, inner_links, place_of, decl_at, child};
-ghost use Rattle.flat_laws.specs.Moved.{moved, moved_left};
-ghost use Rattle.flat_laws.specs.Flattened.{moved_link, flat_assigns};
-ghost use Rattle.flat_scopes.specs.Borrowed.{target_meant, assigned_meant, given_meant, decl_meant, inner_meant};
-ghost use Rattle.flat_instances.specs.Unfolding.{scope_meant};
-ghost use Rattle.flat_checked.specs.Following.{AreFollowed};
+ghost use Rattle.vlog_tree_runs.specs.Places.{read};
+ghost use Rattle.vlog_tree_runs.specs.Scopes.{own_link, port_link, port_links, connections, inner_links, place_of, decl_at, child};
+ghost use Rattle.elab_flat_laws.specs.Moved.{moved, moved_left};
+ghost use Rattle.elab_flat_laws.specs.Flattened.{moved_link, flat_assigns};
+ghost use Rattle.elab_flat_scopes.specs.Borrowed.{target_meant, assigned_meant, given_meant, decl_meant, inner_meant};
+ghost use Rattle.elab_flat_instances.specs.Unfolding.{scope_meant};
+ghost use Rattle.elab_flat.specs.Following.{AreFollowed};
 ghost use Rattle.elab_flat.specs.Scoped.{placed};
 
 use crate::left::left_of;
 use crate::scope::mover;
-use flat_instances::Scope;
-use flat_move::Mover;
-use flat_scopes::{
+use elab_flat_instances::Scope;
+use elab_flat_move::Mover;
+use elab_flat_scopes::{
     Assigned, Decl, Given, Inner, Signals, Target, assigns_in, given_to, instances_in, port_names,
 };
 use outside::Text;

@@ -2,9 +2,9 @@
 
 ghost use Rattle.std.specs.Prelude.{map, IfOk};
 ghost use Rattle.std.specs.Option.{option_copied};
-ghost use Rattle.flat_faults.specs.Declaring.{Repeats};
-ghost use Rattle.flat_scopes.specs.Finding.{module_name};
-ghost use Rattle.flat_names.specs.Searching.{Finds};
+ghost use Rattle.elab_flat_faults.specs.Declaring.{Repeats};
+ghost use Rattle.elab_flat_scopes.specs.Finding.{module_name};
+ghost use Rattle.elab_flat_names.specs.Searching.{Finds};
 
 use outside::Text;
 use std::alloc::{AllocError, Global};

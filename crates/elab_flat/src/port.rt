@@ -1,17 +1,17 @@
 // The ports of the top (IEEE 1364-2005, section 12.3).
 
 ghost use Rattle.std.specs.Prelude.{◌≡◌, IfOk, map, filter};
-ghost use Rattle.vlog_runs.specs.Contents.{decls_in, port_names};
-ghost use Rattle.flat_scopes.specs.Borrowed.{name_meant, decl_meant};
-ghost use Rattle.flat_scopes.specs.Finding.{decl_name};
-ghost use Rattle.flat_ready.specs.Handed.{top_port};
+ghost use Rattle.vlog_tree_runs.specs.Contents.{decls_in, port_names};
+ghost use Rattle.elab_flat_scopes.specs.Borrowed.{name_meant, decl_meant};
+ghost use Rattle.elab_flat_scopes.specs.Finding.{decl_name};
+ghost use Rattle.elab_flat_faults.specs.Handed.{top_port};
 
-use flat_scopes::{Decl, Names, decls_in, port_names};
+use elab_flat_scopes::{Decl, Names, decls_in, port_names};
 use outside::Text;
 use sqlite_items::Items;
 use std::alloc::{AllocError, Global};
-use vlog_runs::TopPort;
 use vlog_tree::Module;
+use vlog_tree_runs::TopPort;
 
 /// The names of the declarations of outputs.
 fn output_names<'a>(alloc: Global, decls: &[Decl<'a>]) -> Result<Vec<&'a Text>, AllocError>

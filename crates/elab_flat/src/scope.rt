@@ -1,10 +1,10 @@
 // The text of an instance on its way into the module without instances.
 
 ghost use Rattle.std.specs.Prelude.{◌≡◌, IfOk};
-ghost use Rattle.flat_instances.specs.Naming.{prefix_name};
+ghost use Rattle.elab_flat_instances.specs.Naming.{prefix_name};
 
-use flat_instances::Scope;
-use flat_move::Mover;
+use elab_flat_instances::Scope;
+use elab_flat_move::Mover;
 use outside::Text;
 use std::alloc::{AllocError, Global};
 

@@ -2,20 +2,20 @@
 
 ghost use Rattle.std.specs.Prelude.{◌≡◌, ◌++◌, IfOk, IfErr, OnOk, map};
 ghost use Rattle.std.specs.List.{flat_map};
-ghost use Rattle.flat_laws.specs.Flattened.{flat_signals};
-ghost use Rattle.flat_faults.specs.Stands.{Refuses};
-ghost use Rattle.flat_instances.specs.Unfolding.{scope_meant};
-ghost use Rattle.flat_names.specs.Rows.{StandsAlone};
-ghost use Rattle.flat_timing.specs.Passing.{StandsAmong};
+ghost use Rattle.elab_flat_laws.specs.Flattened.{flat_signals};
+ghost use Rattle.elab_flat_faults.specs.FlatStands.{Refuses};
+ghost use Rattle.elab_flat_instances.specs.Unfolding.{scope_meant};
+ghost use Rattle.elab_flat_names.specs.Rows.{StandsAlone};
+ghost use Rattle.elab_flat_clocks.specs.Passing.{StandsAmong};
 
-use flat_faults::FlatFault;
-use flat_instances::Scope;
-use flat_move::moved_signal;
-use flat_names::declared_signal;
-use flat_scopes::signals_in;
+use elab_flat_faults::FlatFault;
+use elab_flat_instances::Scope;
+use elab_flat_move::moved_signal;
+use elab_flat_names::declared_signal;
+use elab_flat_scopes::signals_in;
 use sqlite_items::Items;
 use std::alloc::Global;
-use vlog_runs::Signal;
+use vlog_tree_runs::Signal;
 
 /// Adds the signals of a scope, in the order of their first declarations. A refusal's fault is that of one whose ranges declare nothing.
 fn add_signals(all: &mut Items<Signal>, alloc: Global, scope: &Scope<'_>) -> Result<(), FlatFault>

@@ -1,38 +1,26 @@
--- What is asked of a module without instances that is made a design.
-use Rattle.std.specs.Prelude.{◌≡◌, List, map}
-use Rattle.vlog_tree.specs.declared.expr.Expr.{Expr}
-use Rattle.vlog_tree.specs.declared.item.Assign.{Assign}
-use Rattle.vlog_tree.specs.declared.valuation.Entry.{Entry}
-use Rattle.vlog_tree.specs.Valuation.{IsLength}
-use Rattle.vlog_runs.specs.declared.flat.Always.{Always}
-use Rattle.vlog_runs.specs.declared.flat.Flat.{Flat}
-use Rattle.vlog_runs.specs.declared.flat.Signal.{Signal}
-use Rattle.vlog_runs.specs.declared.flat.TopPort.{TopPort}
-use Rattle.vlog_runs.specs.Places.{Among, valuation}
-use Rattle.vlog_runs.specs.Cycles.{flat_place}
-use Rattle.flat_faults.specs.Texts.{numbers_in}
-use Rattle.elab_faults.specs.declared.fault.ElabFault.{ElabFault}
-use Rattle.elab_faults.specs.Paths.{IsConstant}
-use Rattle.elab_faults.specs.Stands.{Stands}
-use Rattle.elab_block.specs.Ready.{IsReadyStore, IsReadyStmt}
-use Rattle.elab_step.specs.Solving.{AreDistinct, ArePlain}
+-- What is asked of a module without instances, and which faults it may be refused by.
+use Rattle.std.specs.Prelude.{◌≡◌, ◌⊎◌}
+use Rattle.vlog_tree_runs.specs.declared.flat.Flat.{Flat}
+use Rattle.vlog_tree_runs.specs.Places.{Name}
+use Rattle.vlog_tree_runs.specs.Cycles.{IsInput, IsRegister}
+use Rattle.elab_flat_faults.specs.declared.elaborating.ElabFault.{ElabFault}
+use Rattle.elab_flat_faults.specs.declared.elaborating.ElabFault.TheVariants as f
+use Rattle.elab_flat_faults.specs.ElabStands.{Stands}
 
--- the names of a module, each with the value 0: this tells lengths, lowest bits and signs
-abbrev pub at_rest : Flat → List Entry
-at_rest f = valuation (flat_place f) (λ x. 0)
+-- an input of the top that a clocked block assigns has the wrong form of assignment for its declaration: an input is a net (IEEE 1364-2005,
+-- section 12.3.3). So it is also where each such assignment is out of range, and no bit has two drivers
+abbrev pub AssignsInput : Flat → ElabFault → Type 0
+AssignsInput m (f.Kind x) = IsInput m x × IsRegister m x
+AssignsInput m e = ⊥
 
--- each name is declared once, and no signal is a memory; every text can be taken where it stands; and the left sides of continuous
--- assignments are constant
-pub record CanElaborate (f : Flat) : Type 0 where
-  pub distinct : AreDistinct (map (λ (g : Signal). g.name) f.signals)
-  pub plain : ArePlain f.signals
-  pub wide : (g : Signal) → Among f.signals g → IsLength g.width
-  pub assigns : (a : Assign) → Among f.assigns a → IsReadyStore (at_rest f) a.left a.right
-  pub constant : (a : Assign) (n : Expr) → Among f.assigns a → Among (numbers_in a.left) n → IsConstant (flat_place f) n
-  pub blocks : (k : Always) → Among f.blocks k → IsReadyStmt (at_rest f) k.body
-  pub ports : (p : TopPort) → Among f.ports p → (g : Signal) × Among f.signals g × (g.name ≡ p.name)
-  pub once : AreDistinct (map (λ (p : TopPort). p.name) f.ports)
+-- a fault of a module
+abbrev pub IsFaultOf : Flat → ElabFault → Type 0
+IsFaultOf m e = Stands m e ⊎ AssignsInput m e
 
--- no fault stands
-abbrev pub IsFaultless : Flat → Type 0
-IsFaultless f = (e : ElabFault) → Stands f e → ⊥
+-- no fault stands but a loop
+abbrev pub IsCleanButLoops : Flat → Type 0
+IsCleanButLoops m = (e : ElabFault) → Stands m e → (x : Name) × (e ≡ f.Loop x)
+
+-- none is
+abbrev pub HasNoFault : Flat → Type 0
+HasNoFault m = (e : ElabFault) → IsFaultOf m e → ⊥

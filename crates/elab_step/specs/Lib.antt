@@ -1,5 +1,6 @@
-pub mod Solving
+pub mod Parts
+pub mod Sources
+pub mod Placing
+pub mod Ordering
 pub mod Asked
-pub mod Boards
-pub mod Laws
-pub mod Outcomes
+pub mod Groups

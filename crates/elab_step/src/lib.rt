@@ -1,13 +1,16 @@
-//! Modules without instances as functions of words.
+//! Modules without instances as designs.
 #![tactic(auto)]
 
-mod edge;
-mod law;
-mod nets;
-mod nodes;
-mod outcomes;
-mod solution;
-mod start;
+mod design;
+mod flags;
+mod graph;
+mod groups;
+mod inputs;
+mod judge;
+mod ordered;
+mod parts;
+mod places;
 
-pub use law::solved_designs_have_the_modules_runs;
-pub use solution::{Solution, solve};
+pub use graph::design_by_graph;
+pub use judge::elaborate;
+pub use ordered::design_in_order;

@@ -4,10 +4,10 @@ ghost use Rattle.job_pool.specs.Shown.{IsShown};
 
 use crate::task::Task;
 use cdcl::End;
+use cdcl_presolve::solve;
 use clause_check::Step;
 use cnf_build::build;
 use outside::Gate;
-use presolve::solve;
 use std::alloc::{AllocError, Global};
 use word_dag::Ob;
 

@@ -6,7 +6,7 @@ use Rattle.std.proofs.lemmas.List.Elements.{All-push, All-take, All-weaker, All-
 use Rattle.clause_check.specs.declared.formula.Cnf.{Cnf}
 use Rattle.clause_check.specs.Derivations.{IsRefutation, Satisfies, Holds}
 use Rattle.clause_check.proofs.Sound.{refuted}
-use Rattle.bit_circuits.specs.Literals.{plus}
+use Rattle.cnf_build.specs.Literals.{plus}
 use Rattle.word_dag.specs.Nodes.{Parts}
 use Rattle.cnf_build.specs.Lower.{ob_clauses, ob_bits}
 use Rattle.cnf_build.specs.Meaning.{read_words}

@@ -5,8 +5,8 @@ use Rattle.std.proofs.lemmas.Nat.Bits.{bit_at_lowest, bit_at-suc}
 use Rattle.std.proofs.lemmas.Option.{slice_get-get_or, get_or_from_slice_get}
 use Rattle.clause_check.specs.declared.literal.Lit.{Lit}
 use Rattle.clause_check.specs.Derivations.{Satisfies}
-use Rattle.bit_circuits.specs.Literals.{plus, minus}
-use Rattle.bit_circuits.specs.Circuits.{bit}
+use Rattle.cnf_build.specs.Literals.{plus, minus}
+use Rattle.cnf_build.specs.Circuits.{bit}
 use Rattle.word_dag.specs.declared.node.Node.{Node}
 use Rattle.word_dag.specs.declared.node.Node.TheVariants.{Free, Const, Two, Not, Slice, Zext, Sext, Mux}
 use Rattle.word_dag.specs.Given.{free_count}

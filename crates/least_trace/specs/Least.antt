@@ -4,7 +4,7 @@ use Rattle.clause_check.specs.declared.literal.Lit.{Lit}
 use Rattle.clause_check.specs.declared.formula.Cnf.{Cnf}
 use Rattle.clause_check.specs.declared.formula.Step.{Step}
 use Rattle.clause_check.specs.Derivations.{IsRefutation}
-use Rattle.bit_circuits.specs.Literals.{plus, minus}
+use Rattle.cnf_build.specs.Literals.{plus, minus}
 use Rattle.word_dag.specs.declared.node.Node.{Node}
 use Rattle.word_dag.specs.Nodes.{Parts}
 use Rattle.word_dag.specs.Given.{AllFit, free_count}

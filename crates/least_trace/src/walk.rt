@@ -2,14 +2,13 @@
 ghost use Rattle.std.specs.Prelude.{◌≡◌, ◌<◌, ◌≤◌, ◌+◌, ◌-◌, ◌^◌, ◌++◌, ◌∷◌, [], length, take, None, IfOk, OnOk};
 ghost use Rattle.word_dag.specs.Nodes.{Parts};
 ghost use Rattle.least_trace.specs.Walks.{IsWalk, IsNext};
-ghost use Rattle.bit_circuits.specs.Literals.{plus};
+ghost use Rattle.cnf_build.specs.Literals.{plus};
 
 use crate::bits::Bit;
 use crate::ends::Excluded;
-use bit_circuits::{negative, positive};
 use cdcl::{End, solve};
 use clause_check::{Cnf, Lit, Step};
-use cnf_build::Built;
+use cnf_build::{Built, negative, positive};
 use std::alloc::{AllocError, Global};
 
 /// Values at which the root is 1, of which the first bits are decided.

@@ -4,18 +4,18 @@ use Rattle.std.specs.Prelude.{IfErr, IfOk, IfSome, Result, Ok, Err}
 use Rattle.std.specs.List.{AllZip}
 use Rattle.outside.specs.Tables.{Tables}
 use Rattle.vlog_tree.specs.declared.module.Module.{Module}
-use Rattle.vlog_runs.specs.declared.flat.Flat.{Flat}
-use Rattle.flat_laws.specs.Flattened.{KeepsRuns}
+use Rattle.vlog_tree_runs.specs.declared.flat.Flat.{Flat}
+use Rattle.elab_flat_laws.specs.Flattened.{KeepsRuns}
 use Rattle.set_tree.specs.declared.set.Set.{Set}
 use Rattle.set_tree.specs.Formulas.{meaning_of}
 use Rattle.set_tree.specs.Runs.{trace_of}
-use Rattle.set_designs.specs.Designs.{CycleFrom, design_from}
+use Rattle.elab_step_design.specs.SetDesigns.{CycleFrom, design_from}
 use Rattle.word_dag.specs.Nodes.{Naming, Parts}
-use Rattle.word_design.specs.Designs.{HasRunsOf}
-use Rattle.word_design.specs.Laws.{DesignCycle, word_design}
-use Rattle.word_names.specs.Names.{naming_from}
-use Rattle.binding.specs.Binding.{Pair}
-use Rattle.line_designs.proofs.Carried.{map_append, size, steps_to_modules, to_modules, trace}
+use Rattle.elab_step_design.specs.Designs.{HasRunsOf}
+use Rattle.elab_step_design.specs.Laws.{DesignCycle, word_design}
+use Rattle.word_dag.specs.Names.{naming_from}
+use Rattle.unroll_binding.specs.Binding.{Pair}
+use Rattle.unroll_laws.proofs.Carried.{map_append, size, steps_to_modules, to_modules, trace}
 use Rattle.job_pool.specs.declared.evidence.Evidence.{Evidence}
 use Rattle.job_pool.specs.declared.evidence.Evidence.TheVariants as e
 use Rattle.proof_store.specs.Goals.{ob_of}
@@ -23,18 +23,18 @@ use Rattle.proof_store.specs.Stored.{AddsProofs, Told as TellsTables}
 use Rattle.proof_store.specs.declared.goal.Goal.{Goal}
 use Rattle.replay.specs.declared.shown.Shown.{Shown}
 use Rattle.replay.specs.Segments.{first_values}
-use Rattle.reports.specs.declared.book.Book.{Book}
-use Rattle.reports.specs.declared.book.Line.{Line as Told}
-use Rattle.reports.specs.declared.book.Verdict.{Verdict}
-use Rattle.reports.specs.declared.book.Verdict.TheVariants as v
-use Rattle.reports.specs.declared.report.Report.{Report}
-use Rattle.check_faults.specs.declared.fault.CheckFault.{CheckFault}
-use Rattle.check_faults.specs.declared.fault.CheckFault.TheVariants as f
-use Rattle.check_stages.specs.Stages.{IsBoundOf, Refuses as StageRefuses}
-use Rattle.asked_lines.specs.Decided.{Says}
-use Rattle.asked_lines.specs.Settled.{AddsProofsOf}
-use Rattle.asked_lines.specs.declared.fault.LineFault.{LineFault}
-use Rattle.asked_lines.specs.declared.fault.LineFault.TheVariants as l
+use Rattle.desk_core_reports.specs.declared.book.Book.{Book}
+use Rattle.desk_core_reports.specs.declared.book.Line.{Line as Told}
+use Rattle.desk_core_reports.specs.declared.book.Verdict.{Verdict}
+use Rattle.desk_core_reports.specs.declared.book.Verdict.TheVariants as v
+use Rattle.desk_core_reports.specs.declared.report.Report.{Report}
+use Rattle.desk_core_faults.specs.declared.fault.CheckFault.{CheckFault}
+use Rattle.desk_core_faults.specs.declared.fault.CheckFault.TheVariants as f
+use Rattle.desk_core_stages.specs.Stages.{IsBoundOf, Refuses as StageRefuses}
+use Rattle.desk_core_goals.specs.Decided.{Says}
+use Rattle.desk_core_goals.specs.Settled.{AddsProofsOf}
+use Rattle.desk_core_goals.specs.declared.fault.LineFault.{LineFault}
+use Rattle.desk_core_goals.specs.declared.fault.LineFault.TheVariants as l
 use Rattle.meet_lines.specs.declared.line.MeetLine.{MeetLine}
 use Rattle.meet_lines.specs.Decided.{AreDecided, AreObsOf, IsDecidedOn, IsLineOf, IsMetIn, IsTraceOf, ShowsModules}
 use Rattle.meet_lines.specs.Goals.{Asks, LacksLine}

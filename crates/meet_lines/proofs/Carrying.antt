@@ -1,17 +1,17 @@
 -- Cycles of a design that are carried into another one's, keeping what follows, reset and rows, carry what is met.
 use Rattle.std.proofs.Common.{◌≡◌, List, map, ap, ◌∙◌, refl}
 use Rattle.vlog_tree.specs.declared.module.Module.{Module}
-use Rattle.vlog_runs.specs.declared.flat.Flat.{Flat}
-use Rattle.vlog_runs.specs.Places.{Name}
-use Rattle.flat_laws.specs.Flattened.{KeepsRuns}
+use Rattle.vlog_tree_runs.specs.declared.flat.Flat.{Flat}
+use Rattle.vlog_tree_runs.specs.Places.{Name}
+use Rattle.elab_flat_laws.specs.Flattened.{KeepsRuns}
 use Rattle.set_tree.specs.declared.set.Set.{Set}
 use Rattle.set_tree.specs.Meaning.{Meaning}
 use Rattle.set_tree.specs.Parts.{assumed, largest_window, window_of}
 use Rattle.set_tree.specs.Runs.{Design}
-use Rattle.set_designs.specs.Designs.{CycleFrom, design_from}
-use Rattle.word_design.specs.Designs.{HasRunsOf, Parts}
-use Rattle.word_design.specs.Laws.{DesignCycle, word_design}
-use Rattle.line_designs.proofs.Carried.{reset_segment, segment, steps_to_modules, to_modules, trace}
+use Rattle.elab_step_design.specs.SetDesigns.{CycleFrom, design_from}
+use Rattle.elab_step_design.specs.Designs.{HasRunsOf, Parts}
+use Rattle.elab_step_design.specs.Laws.{DesignCycle, word_design}
+use Rattle.unroll_laws.proofs.Carried.{reset_segment, segment, steps_to_modules, to_modules, trace}
 use Rattle.meet_lines.specs.declared.line.MeetLine.{MeetLine}
 use Rattle.meet_lines.specs.declared.line.MeetLine.TheVariants.{Reset, Operation}
 use Rattle.meet_lines.specs.Laws.{MetLinesAreTheModules}

@@ -8,11 +8,11 @@ use Rattle.set_tree.specs.declared.set.Set.{Set}
 use Rattle.set_tree.specs.Formulas.{meaning_of}
 use Rattle.word_dag.specs.declared.ob.Named.{Named}
 use Rattle.word_dag.specs.Nodes.{Parts as ObParts}
-use Rattle.word_design.specs.Designs.{Parts}
-use Rattle.word_names.specs.Names.{HasOneWordEach}
-use Rattle.binding.specs.Binding.{Pair}
+use Rattle.elab_step_design.specs.Designs.{Parts}
+use Rattle.word_dag.specs.Names.{HasOneWordEach}
+use Rattle.unroll_binding.specs.Binding.{Pair}
 use Rattle.proof_store.specs.declared.goal.Goal.{Goal}
-use Rattle.asked_lines.specs.declared.fault.LineFault.TheVariants as f
+use Rattle.desk_core_goals.specs.declared.fault.LineFault.TheVariants as f
 use Rattle.meet_lines.specs.declared.line.MeetLine.{MeetLine}
 use Rattle.meet_lines.specs.Goals.{AreAsked, Asks, IsGoalOf, LacksLine, has_name}
 use Rattle.meet_lines.specs.Lines.{IsOf, SpeaksOf, meet_lines}

@@ -4,19 +4,19 @@ use Rattle.std.specs.List.{AllZip}
 use Rattle.std.proofs.lemmas.List.{length-take-le}
 use Rattle.set_tree.specs.declared.set.Set.{Set}
 use Rattle.set_tree.specs.Parts.{IsPosition, largest_window, window_of}
-use Rattle.completeness.proofs.Chain.{window-le}
+use Rattle.set_tree_completeness.proofs.Chain.{window-le}
 use Rattle.word_dag.specs.declared.node.Node.{Node}
 use Rattle.word_dag.specs.Adding.{Grows, Keeps}
-use Rattle.word_design.specs.Designs.{IsDesign, Parts}
-use Rattle.segment_laws.specs.Tests.{rows_from, segment_rows}
-use Rattle.elab_node.specs.Nodes.{AddsFrees}
+use Rattle.elab_step_design.specs.Designs.{IsDesign, Parts}
+use Rattle.unroll_laws.specs.Tests.{rows_from, segment_rows}
+use Rattle.elab_step_expr.specs.Nodes.{AddsFrees}
 use Rattle.twin_tests.specs.Building.{Shows}
 use Rattle.twin_tests.proofs.Standing.{shows_grown, shows_later}
 use Rattle.unroll.specs.Unrolled.{IsSourceWord}
 use Rattle.unroll.proofs.Rowing.{rows_all, rows_count, segment_at, zip_more}
 use Rattle.unroll.proofs.Sourcing.{source_widths}
-use Rattle.word_names.specs.Names.{HasOneWidthEach}
-use Rattle.word_names.proofs.Taken.{widths_are_kept}
+use Rattle.word_dag.specs.Names.{HasOneWidthEach}
+use Rattle.word_dag.proofs.Taken.{widths_are_kept}
 use Rattle.meet_lines.specs.declared.line.MeetLine.{MeetLine}
 use Rattle.meet_lines.specs.declared.segments.Segments.{Segments}
 use Rattle.meet_lines.specs.Goals.{IsGoalOf}

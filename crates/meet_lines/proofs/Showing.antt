@@ -7,14 +7,14 @@ use Rattle.set_tree.specs.Parts.{largest_window, window_of}
 use Rattle.word_core.specs.Words.{Bits}
 use Rattle.word_dag.specs.declared.node.Node.{Node}
 use Rattle.word_dag.specs.Nodes.{Naming, root_value}
-use Rattle.word_names.specs.Names.{HasOneWordEach, naming_from}
-use Rattle.word_names.proofs.Namings.{values_have_namings}
-use Rattle.word_design.specs.Designs.{IsDesign, Parts}
-use Rattle.word_design.specs.Laws.{DesignCycle, word_design}
-use Rattle.binding.specs.Binding.{Fits}
-use Rattle.line_laws.specs.Lines.{RootIs1}
-use Rattle.segment_laws.specs.Laws.{IsNamedRun}
-use Rattle.segment_laws.specs.Segments.{IsNamedBy}
+use Rattle.word_dag.specs.Names.{HasOneWordEach, naming_from}
+use Rattle.word_dag.proofs.NamingLaws.{values_have_namings}
+use Rattle.elab_step_design.specs.Designs.{IsDesign, Parts}
+use Rattle.elab_step_design.specs.Laws.{DesignCycle, word_design}
+use Rattle.unroll_binding.specs.Binding.{Fits}
+use Rattle.twin_tests_laws.specs.Lines.{RootIs1}
+use Rattle.unroll_laws.specs.Laws.{IsNamedRun}
+use Rattle.unroll_laws.specs.Segments.{IsNamedBy}
 use Rattle.replay.specs.declared.shown.Shown.{Shown}
 use Rattle.replay.specs.Segments.{ShowsNamed}
 use Rattle.replay.proofs.Showing.{cycles_count, rows_named, starts_named}

@@ -9,10 +9,10 @@ use Rattle.word_core.specs.Words.{Bits}
 use Rattle.word_dag.specs.Given.{free_values}
 use Rattle.word_dag.specs.Nodes.{Parts}
 use Rattle.word_dag.proofs.Namings.{root_at_naming}
-use Rattle.word_design.specs.Laws.{word_design}
-use Rattle.word_names.specs.Names.{HasOneWordEach, naming_from}
-use Rattle.word_names.proofs.Namings.{values_have_namings}
-use Rattle.binding.specs.Binding.{Pair}
+use Rattle.elab_step_design.specs.Laws.{word_design}
+use Rattle.word_dag.specs.Names.{HasOneWordEach, naming_from}
+use Rattle.word_dag.proofs.NamingLaws.{values_have_namings}
+use Rattle.unroll_binding.specs.Binding.{Pair}
 use Rattle.job_pool.specs.Ample.{IsVerdict}
 use Rattle.job_pool.specs.Shown.{IsShown}
 use Rattle.job_pool.specs.declared.evidence.Evidence.{Evidence}
@@ -21,12 +21,12 @@ use Rattle.job_pool.proofs.Sparing.{decides}
 use Rattle.proof_store.specs.Goals.{Ended, IsDecided, ended}
 use Rattle.proof_store.specs.declared.goal.Decided.{Decided}
 use Rattle.proof_store.specs.declared.goal.Goal.{Goal}
-use Rattle.reports.specs.declared.book.Line.{Line as Told}
-use Rattle.reports.specs.declared.book.Verdict.{Verdict}
-use Rattle.reports.specs.declared.book.Verdict.TheVariants as v
-use Rattle.reports.specs.Lines.{verdict_of}
-use Rattle.asked_lines.specs.Decided.{Says}
-use Rattle.asked_lines.specs.Settled.{ended_of}
+use Rattle.desk_core_reports.specs.declared.book.Line.{Line as Told}
+use Rattle.desk_core_reports.specs.declared.book.Verdict.{Verdict}
+use Rattle.desk_core_reports.specs.declared.book.Verdict.TheVariants as v
+use Rattle.desk_core_reports.specs.Lines.{verdict_of}
+use Rattle.desk_core_goals.specs.Decided.{Says}
+use Rattle.desk_core_goals.specs.Settled.{ended_of}
 use Rattle.meet_lines.specs.declared.line.MeetLine.{MeetLine}
 use Rattle.meet_lines.specs.Decided.{IsDecidedOn, IsGoalDecided, IsTraceOf, Tells}
 use Rattle.meet_lines.specs.Goals.{IsGoalOf}

@@ -8,16 +8,16 @@ use Rattle.set_tree.specs.Parts.{assumed, largest_window, window_of}
 use Rattle.set_tree.specs.Runs.{MeetsInvariants, trace_of}
 use Rattle.word_core.specs.Words.{Bits, flag}
 use Rattle.word_dag.specs.Nodes.{Naming}
-use Rattle.word_design.specs.Designs.{Parts, IsDesign}
-use Rattle.word_design.specs.Laws.{DesignCycle, word_design}
-use Rattle.binding.specs.Binding.{Fits}
-use Rattle.line_laws.specs.Tests.{meets_constraints}
-use Rattle.line_laws.proofs.Testing.{both_of, met_made, of_both}
-use Rattle.segment_laws.specs.Segments.{IsNamedBy}
-use Rattle.segment_laws.specs.Tests.{meets_invariants, segment_rows}
-use Rattle.segment_laws.proofs.Named.{are_named}
-use Rattle.segment_laws.proofs.Running.{rows_are_of_runs}
-use Rattle.segment_laws.proofs.Testing.{invariants_in, invariants_made, is_reset_segment, is_segment, named_reset_segment, named_segment, window_in}
+use Rattle.elab_step_design.specs.Designs.{Parts, IsDesign}
+use Rattle.elab_step_design.specs.Laws.{DesignCycle, word_design}
+use Rattle.unroll_binding.specs.Binding.{Fits}
+use Rattle.twin_tests_laws.specs.Tests.{meets_constraints}
+use Rattle.twin_tests_laws.proofs.Testing.{both_of, met_made, of_both}
+use Rattle.unroll_laws.specs.Segments.{IsNamedBy}
+use Rattle.unroll_laws.specs.Tests.{meets_invariants, segment_rows}
+use Rattle.unroll_laws.proofs.Named.{are_named}
+use Rattle.unroll_laws.proofs.Running.{rows_are_of_runs}
+use Rattle.unroll_laws.proofs.Testing.{invariants_in, invariants_made, is_reset_segment, is_segment, named_reset_segment, named_segment, window_in}
 use Rattle.meet_lines.specs.declared.line.MeetLine.{MeetLine}
 use Rattle.meet_lines.specs.declared.line.MeetLine.TheVariants.{Reset, Operation}
 use Rattle.meet_lines.specs.Laws.{MetLinesHaveValues, ObligationsDecide, TestIsExact, TestsAreOfLines, ValuesMeetLines}

@@ -2,15 +2,15 @@
 use Rattle.std.specs.Prelude.{◌≡◌, ◌≢◌, ◌++◌, ℕ, List, length, map, Option, Some, None, IfSome}
 use Rattle.std.specs.List.{AllZip}
 use Rattle.vlog_tree.specs.declared.module.Module.{Module}
-use Rattle.vlog_runs.specs.Places.{Name}
+use Rattle.vlog_tree_runs.specs.Places.{Name}
 use Rattle.set_tree.specs.declared.set.Set.{Set}
 use Rattle.set_tree.specs.Formulas.{meaning_of}
 use Rattle.set_tree.specs.Runs.{trace_of}
-use Rattle.set_designs.specs.Designs.{CycleFrom, design_from}
+use Rattle.elab_step_design.specs.SetDesigns.{CycleFrom, design_from}
 use Rattle.word_dag.specs.Nodes.{Parts}
-use Rattle.word_design.specs.Laws.{word_design}
-use Rattle.word_names.specs.Names.{HasOneWordEach, naming_from}
-use Rattle.binding.specs.Binding.{Pair}
+use Rattle.elab_step_design.specs.Laws.{word_design}
+use Rattle.word_dag.specs.Names.{HasOneWordEach, naming_from}
+use Rattle.unroll_binding.specs.Binding.{Pair}
 use Rattle.job_pool.specs.Ample.{IsAmple}
 use Rattle.job_pool.specs.Shown.{IsShown}
 use Rattle.job_pool.specs.declared.evidence.Evidence.{Evidence}
@@ -21,10 +21,10 @@ use Rattle.proof_store.specs.declared.goal.Goal.{Goal}
 use Rattle.replay.specs.declared.shown.Shown.{Shown}
 use Rattle.replay.specs.Segments.{first_values}
 use Rattle.replay.specs.Windows.{declared_names}
-use Rattle.reports.specs.declared.book.Line.{Line as Told}
-use Rattle.reports.specs.declared.book.Verdict.TheVariants as v
-use Rattle.reports.specs.Lines.{verdict_of}
-use Rattle.asked_lines.specs.Decided.{Says}
+use Rattle.desk_core_reports.specs.declared.book.Line.{Line as Told}
+use Rattle.desk_core_reports.specs.declared.book.Verdict.TheVariants as v
+use Rattle.desk_core_reports.specs.Lines.{verdict_of}
+use Rattle.desk_core_goals.specs.Decided.{Says}
 use Rattle.meet_lines.specs.declared.line.MeetLine.{MeetLine}
 use Rattle.meet_lines.specs.Goals.{AreAsked, Asks, IsGoalOf}
 use Rattle.meet_lines.specs.Lines.{AreMeetingCycles, IsMet, IsOf}

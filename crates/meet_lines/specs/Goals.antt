@@ -5,14 +5,14 @@ use Rattle.std.specs.Str.{bytes_eq}
 use Rattle.set_tree.specs.declared.set.Set.{Set}
 use Rattle.set_tree.specs.Formulas.{meaning_of}
 use Rattle.word_dag.specs.Nodes.{Naming}
-use Rattle.line_laws.specs.Lines.{RootIs1}
-use Rattle.word_design.specs.Designs.{Parts}
-use Rattle.word_design.specs.Laws.{word_design}
-use Rattle.word_names.specs.Names.{HasOneWordEach}
-use Rattle.binding.specs.Binding.{Pair}
+use Rattle.twin_tests_laws.specs.Lines.{RootIs1}
+use Rattle.elab_step_design.specs.Designs.{Parts}
+use Rattle.elab_step_design.specs.Laws.{word_design}
+use Rattle.word_dag.specs.Names.{HasOneWordEach}
+use Rattle.unroll_binding.specs.Binding.{Pair}
 use Rattle.proof_store.specs.declared.goal.Goal.{Goal}
-use Rattle.asked_lines.specs.declared.fault.LineFault.{LineFault}
-use Rattle.asked_lines.specs.declared.fault.LineFault.TheVariants as f
+use Rattle.desk_core_goals.specs.declared.fault.LineFault.{LineFault}
+use Rattle.desk_core_goals.specs.declared.fault.LineFault.TheVariants as f
 use Rattle.meet_lines.specs.declared.line.MeetLine.{MeetLine}
 use Rattle.meet_lines.specs.Lines.{IsMet, IsOf, SpeaksOf, meet_lines}
 use Rattle.meet_lines.specs.Named.{meet_name}

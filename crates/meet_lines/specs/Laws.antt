@@ -1,17 +1,17 @@
 -- The laws on the segments that values name, and on what can be met.
 use Rattle.std.specs.Prelude.{◌≡◌, ℕ, ◌↔◌, List, true}
 use Rattle.vlog_tree.specs.declared.module.Module.{Module}
-use Rattle.vlog_runs.specs.declared.flat.Flat.{Flat}
-use Rattle.vlog_runs.specs.Places.{Name}
-use Rattle.flat_laws.specs.Flattened.{KeepsRuns}
+use Rattle.vlog_tree_runs.specs.declared.flat.Flat.{Flat}
+use Rattle.vlog_tree_runs.specs.Places.{Name}
+use Rattle.elab_flat_laws.specs.Flattened.{KeepsRuns}
 use Rattle.set_tree.specs.declared.set.Set.{Set}
 use Rattle.set_tree.specs.Meaning.{Meaning}
-use Rattle.set_designs.specs.Designs.{design_from}
+use Rattle.elab_step_design.specs.SetDesigns.{design_from}
 use Rattle.word_dag.specs.declared.node.Node.{Node}
 use Rattle.word_dag.specs.Nodes.{Naming}
-use Rattle.word_design.specs.Designs.{HasRunsOf, Parts}
-use Rattle.word_design.specs.Laws.{word_design}
-use Rattle.line_laws.specs.Lines.{IsTestOf, RootIs1}
+use Rattle.elab_step_design.specs.Designs.{HasRunsOf, Parts}
+use Rattle.elab_step_design.specs.Laws.{word_design}
+use Rattle.twin_tests_laws.specs.Lines.{IsTestOf, RootIs1}
 use Rattle.meet_lines.specs.declared.line.MeetLine.{MeetLine}
 use Rattle.meet_lines.specs.Lines.{IsMet, IsOf, Meets}
 use Rattle.meet_lines.specs.Tests.{meet_test}

@@ -8,10 +8,10 @@ use Rattle.set_tree.specs.Report.{numbers_from}
 use Rattle.set_tree.specs.Runs.{Design, IsResetSegment, IsSegment, trace_of}
 use Rattle.word_dag.specs.declared.node.Node.{Node}
 use Rattle.word_dag.specs.Nodes.{Naming}
-use Rattle.line_laws.specs.Lines.{RootIs1}
-use Rattle.word_design.specs.Designs.{Parts}
-use Rattle.word_design.specs.Laws.{DesignCycle, word_design}
-use Rattle.segment_laws.specs.Segments.{IsNamedBy}
+use Rattle.twin_tests_laws.specs.Lines.{RootIs1}
+use Rattle.elab_step_design.specs.Designs.{Parts}
+use Rattle.elab_step_design.specs.Laws.{DesignCycle, word_design}
+use Rattle.unroll_laws.specs.Segments.{IsNamedBy}
 use Rattle.meet_lines.specs.declared.line.MeetLine.{MeetLine}
 use Rattle.meet_lines.specs.declared.line.MeetLine.TheVariants.{Reset, Operation}
 

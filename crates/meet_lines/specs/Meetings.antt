@@ -4,17 +4,17 @@ use Rattle.std.specs.List.{AllZip, flat_map, list_all}
 use Rattle.set_tree.specs.declared.set.Set.{Set}
 use Rattle.word_dag.specs.Nodes.{Parts}
 use Rattle.word_dag.specs.Text.{line}
-use Rattle.binding.specs.Binding.{Pair}
-use Rattle.check_faults.specs.declared.fault.CheckFault.{CheckFault}
-use Rattle.check_faults.specs.declared.fault.CheckFault.TheVariants as f
-use Rattle.check_stages.specs.Stages.{IsBoundOf, Refuses as StageRefuses}
+use Rattle.unroll_binding.specs.Binding.{Pair}
+use Rattle.desk_core_faults.specs.declared.fault.CheckFault.{CheckFault}
+use Rattle.desk_core_faults.specs.declared.fault.CheckFault.TheVariants as f
+use Rattle.desk_core_stages.specs.Stages.{IsBoundOf, Refuses as StageRefuses}
 use Rattle.replay.specs.declared.shown.Shown.{Shown}
 use Rattle.replay.specs.Texts.{shown_text}
-use Rattle.reports.specs.declared.book.Line.{Line as Told}
-use Rattle.reports.specs.declared.book.Verdict.{Verdict}
-use Rattle.reports.specs.declared.book.Verdict.TheVariants as v
-use Rattle.reports.specs.declared.report.Report.{Report}
-use Rattle.asked_lines.specs.declared.fault.LineFault.TheVariants as l
+use Rattle.desk_core_reports.specs.declared.book.Line.{Line as Told}
+use Rattle.desk_core_reports.specs.declared.book.Verdict.{Verdict}
+use Rattle.desk_core_reports.specs.declared.book.Verdict.TheVariants as v
+use Rattle.desk_core_reports.specs.declared.report.Report.{Report}
+use Rattle.desk_core_goals.specs.declared.fault.LineFault.TheVariants as l
 use Rattle.meet_lines.specs.declared.line.MeetLine.{MeetLine}
 use Rattle.meet_lines.specs.Decided.{AreDecided, AreObsOf, IsLineOf}
 use Rattle.meet_lines.specs.Goals.{AreAsked, RefusesLines}

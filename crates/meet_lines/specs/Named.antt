@@ -4,8 +4,8 @@ use Rattle.set_tree.specs.declared.set.Set.{Set}
 use Rattle.set_tree.specs.Formulas.{meaning_of}
 use Rattle.set_tree.specs.Parts.{property_at}
 use Rattle.word_dag.specs.declared.ob.Named.{Named}
-use Rattle.word_design.specs.Designs.{Parts}
-use Rattle.word_names.specs.Names.{HasOneWordEach}
+use Rattle.elab_step_design.specs.Designs.{Parts}
+use Rattle.word_dag.specs.Names.{HasOneWordEach}
 use Rattle.meet_lines.specs.declared.line.MeetLine.{MeetLine}
 use Rattle.meet_lines.specs.declared.line.MeetLine.TheVariants.{Reset, Operation}
 use Rattle.meet_lines.specs.Lines.{IsOf}

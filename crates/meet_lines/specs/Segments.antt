@@ -3,8 +3,8 @@ use Rattle.std.specs.Prelude.{List}
 use Rattle.set_tree.specs.declared.set.Set.{Set}
 use Rattle.set_tree.specs.Parts.{largest_window}
 use Rattle.word_dag.specs.declared.node.Node.{Node}
-use Rattle.word_design.specs.Designs.{Parts}
-use Rattle.segment_laws.specs.Tests.{segment_rows}
+use Rattle.elab_step_design.specs.Designs.{Parts}
+use Rattle.unroll_laws.specs.Tests.{segment_rows}
 use Rattle.twin_tests.specs.Building.{Shows}
 use Rattle.meet_lines.specs.declared.segments.Segments.{Segments}
 

@@ -5,9 +5,9 @@ use Rattle.set_tree.specs.Meaning.{Meaning}
 use Rattle.set_tree.specs.Parts.{largest_window, window_of}
 use Rattle.set_tree.specs.Runs.{trace_of}
 use Rattle.word_dag.specs.Nodes.{Naming}
-use Rattle.word_design.specs.Designs.{Parts}
-use Rattle.word_design.specs.Laws.{DesignCycle, word_design}
-use Rattle.segment_laws.specs.Segments.{IsNamedBy}
+use Rattle.elab_step_design.specs.Designs.{Parts}
+use Rattle.elab_step_design.specs.Laws.{DesignCycle, word_design}
+use Rattle.unroll_laws.specs.Segments.{IsNamedBy}
 use Rattle.replay.specs.declared.shown.Shown.{Shown}
 use Rattle.replay.specs.Segments.{first_values}
 use Rattle.replay.specs.Windows.{declared_names}

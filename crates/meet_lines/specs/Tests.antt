@@ -4,9 +4,9 @@ use Rattle.set_tree.specs.declared.set.Set.{Set}
 use Rattle.set_tree.specs.Meaning.{Row, Meaning}
 use Rattle.set_tree.specs.Parts.{assumed, largest_window, window_of}
 use Rattle.word_dag.specs.Nodes.{Naming}
-use Rattle.word_design.specs.Designs.{Parts}
-use Rattle.line_laws.specs.Tests.{meets_constraints}
-use Rattle.segment_laws.specs.Tests.{meets_invariants, segment_rows}
+use Rattle.elab_step_design.specs.Designs.{Parts}
+use Rattle.twin_tests_laws.specs.Tests.{meets_constraints}
+use Rattle.unroll_laws.specs.Tests.{meets_invariants, segment_rows}
 use Rattle.meet_lines.specs.declared.line.MeetLine.{MeetLine}
 use Rattle.meet_lines.specs.declared.line.MeetLine.TheVariants.{Reset, Operation}
 

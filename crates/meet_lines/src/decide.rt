@@ -1,7 +1,7 @@
 // The lines that are asked for, decided.
 ghost use Rattle.std.specs.Prelude.{◌≡◌, ℕ, Err, IfOk, IfErr, option_map};
 ghost use Rattle.std.specs.List.{All, AllZip};
-ghost use Rattle.asked_lines.specs.Settled.{AddsProofsOf, AreSettled};
+ghost use Rattle.desk_core_goals.specs.Settled.{AddsProofsOf, AreSettled};
 ghost use Rattle.job_pool.specs.Shown.{IsShown};
 ghost use Rattle.proof_store.specs.Provers.{IsSame, Proceeds, asked_by, counts, kept_by};
 ghost use Rattle.proof_store.specs.declared.goal.Goal.{Goal as Goals};
@@ -11,16 +11,16 @@ ghost use Rattle.meet_lines.specs.Goals.{IsGoalOf, RefusesLines};
 use crate::goals::asked_goals;
 use crate::line::{MeetLine, meet_name};
 use crate::trace::meet_trace;
-use asked_lines::LineFault;
-use binding::Bound;
+use desk_core_goals::LineFault;
+use desk_core_reports::{Book, Line, verdict_of};
 use helper_box::Helper;
 use job_pool::Evidence;
 use outside::{Gate, Keeper, Text};
 use proof_store::{Decided, Goal, Prover, Settled};
 use replay::Shown;
-use reports::{Book, Line, verdict_of};
 use std::alloc::{AllocError, Global};
 use std::thread::Threads;
+use unroll_binding::Bound;
 
 // What is shown of a goal: the segment that values name.
 fn trace_of(

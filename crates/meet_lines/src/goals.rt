@@ -1,24 +1,24 @@
 // The goals that are asked for.
 ghost use Rattle.std.specs.Prelude.{◌≡◌, ◌≤◌, IfErr, IfOk, Some, length, option_map};
 ghost use Rattle.std.specs.List.{AllZip};
-ghost use Rattle.binding.specs.Binding.{Fits};
+ghost use Rattle.unroll_binding.specs.Binding.{Fits};
 ghost use Rattle.meet_lines.specs.Goals.{Asks, IsGoalOf, LacksLine, has_name};
 ghost use Rattle.meet_lines.specs.Lines.{SpeaksOf, meet_lines};
 ghost use Rattle.meet_lines.specs.Segments.{AreSegments};
 ghost use Rattle.twin_tests.specs.Reading.{HasStructure};
 ghost use Rattle.word_dag.specs.Adding.{Keeps};
-ghost use Rattle.word_design.specs.Designs.{IsDesign, Parts};
-ghost use Rattle.word_names.specs.Names.{HasOneWidthEach};
+ghost use Rattle.elab_step_design.specs.Designs.{IsDesign, Parts};
+ghost use Rattle.word_dag.specs.Names.{HasOneWidthEach};
 
 use crate::line::{MeetLine, meet_lines_of, meet_name};
 use crate::node::line_node;
 use crate::segments::{Segments, segments_of};
-use asked_lines::{LineFault, only};
-use binding::Bound;
+use desk_core_goals::{LineFault, only};
 use outside::Text;
 use proof_store::Goal;
 use set_tree::Set;
 use std::alloc::{AllocError, Global};
+use unroll_binding::Bound;
 use word_dag::{Dag, extract};
 
 // The goal of a line.

@@ -1,8 +1,8 @@
 // The laws.
-ghost use Rattle.binding.specs.Binding.{Fits};
+ghost use Rattle.unroll_binding.specs.Binding.{Fits};
 ghost use Rattle.set_tree.specs.declared.set.Set.{Set};
 ghost use Rattle.set_tree.specs.Meaning.{Meaning};
-ghost use Rattle.word_design.specs.Designs.{IsDesign, Parts};
+ghost use Rattle.elab_step_design.specs.Designs.{IsDesign, Parts};
 ghost use Rattle.meet_lines.specs.declared.line.MeetLine.{MeetLine as Line};
 ghost use Rattle.meet_lines.specs.Laws.{MetLinesAreTheModules, MetLinesHaveValues, ObligationsDecide, TestIsExact, TestsAreOfLines, ValuesMeetLines};
 

@@ -4,8 +4,8 @@ ghost use Rattle.meet_lines.specs.Lines.{SpeaksOf, meet_lines};
 ghost use Rattle.meet_lines.specs.Named.{meet_name};
 
 use outside::Text;
-use set_sound::Sound;
 use set_tree::Set;
+use set_tree_structure::Sound;
 use std::alloc::{AllocError, Global};
 use twin_tests::property_of;
 

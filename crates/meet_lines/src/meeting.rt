@@ -1,19 +1,19 @@
 // What can be met in the modules of a text.
 ghost use Rattle.std.specs.Prelude.{◌≡◌, [], Err, IfOk, IfErr, option_map};
-ghost use Rattle.asked_lines.specs.Settled.{AddsProofsOf, AreSettled};
+ghost use Rattle.desk_core_goals.specs.Settled.{AddsProofsOf, AreSettled};
 ghost use Rattle.proof_store.specs.Provers.{IsSame as IsSameProver, Proceeds, asked_by, counts, kept_by};
 ghost use Rattle.desk_core.specs.Checkers.{IsSame};
 ghost use Rattle.meet_lines.specs.Meetings.{AreDecidedOf, AreObsOfTexts, IsMeetReport, Refuses};
 
 use crate::decide::decide_lines;
 use crate::report::report_of;
-use check_faults::CheckFault;
-use check_stages::bound_of;
 use desk_core::{Checker, check_fault_of};
+use desk_core_faults::CheckFault;
+use desk_core_reports::{Book, Report};
+use desk_core_stages::bound_of;
 use helper_box::Helper;
 use outside::{Gate, Keeper, Text};
 use proof_store::Prover;
-use reports::{Book, Report};
 use std::thread::Threads;
 
 // The lines of two texts that are asked for, decided.

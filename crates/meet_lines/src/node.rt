@@ -9,7 +9,7 @@ ghost use Rattle.twin_tests.specs.Building.{AreLeaves, HasWidth, Shows, Tests};
 ghost use Rattle.twin_tests.specs.Reading.{FollowsWithin, HasStructure};
 ghost use Rattle.word_dag.specs.Adding.{Keeps};
 ghost use Rattle.word_dag.specs.Nodes.{Naming};
-ghost use Rattle.word_design.specs.Designs.{Parts};
+ghost use Rattle.elab_step_design.specs.Designs.{Parts};
 
 use crate::line::MeetLine;
 use crate::segments::Segments;

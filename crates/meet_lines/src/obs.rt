@@ -6,9 +6,9 @@ ghost use Rattle.meet_lines.specs.Named.{IsNamedOf};
 
 use crate::goals::all_goals;
 use crate::line::meet_name;
-use binding::Bound;
 use proof_store::Goal;
 use std::alloc::{AllocError, Global};
+use unroll_binding::Bound;
 use word_dag::Named;
 
 /// The obligations of what can be met: for `reset`, and then for each operation in the order of the set, its name, and nodes whose root is 1

@@ -3,9 +3,9 @@ ghost use Rattle.std.specs.Prelude.{◌≡◌, ◌++◌, IfOk, OnOk, None, map, 
 ghost use Rattle.std.specs.List.{flat_map};
 ghost use Rattle.meet_lines.specs.Meetings.{all_met, is_complete, is_met, last_line, line_text, meet_text, meet_word, shown_line};
 
+use desk_core_reports::{Line, Report, Verdict};
 use outside::Text;
 use replay::shown_text;
-use reports::{Line, Report, Verdict};
 use std::alloc::{AllocError, Global};
 
 fn is_met(verdict: Verdict) -> bool

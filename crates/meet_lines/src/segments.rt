@@ -1,17 +1,17 @@
 // The segments of a design as nodes, as far as the largest window.
 ghost use Rattle.std.specs.Prelude.{◌≡◌, ◌≤◌, IfOk};
-ghost use Rattle.elab_node.specs.Nodes.{AddsFrees};
+ghost use Rattle.elab_step_expr.specs.Nodes.{AddsFrees};
 ghost use Rattle.meet_lines.specs.Segments.{AreSegments};
 ghost use Rattle.set_tree.specs.Parts.{largest_window};
 ghost use Rattle.twin_tests.specs.Reading.{HasStructure};
 ghost use Rattle.unroll.specs.Unrolled.{IsSourceWord};
 ghost use Rattle.word_dag.specs.Adding.{Grows};
 
-use binding::Bound;
 use set_tree::Set;
 use std::alloc::{AllocError, Global};
 use twin_tests::NodeRow;
 use unroll::{places_of, segment_nodes};
+use unroll_binding::Bound;
 use word_dag::Dag;
 
 /// The rows of a design's segments from cycle 0 on: behind reset cycles, and without them.

@@ -4,15 +4,15 @@ ghost use Rattle.meet_lines.specs.Lines.{IsOf, SpeaksOf};
 ghost use Rattle.meet_lines.specs.Shown.{ShowsMeeting, last_cycle, resets_of};
 ghost use Rattle.set_tree.specs.Formulas.{meaning_of};
 ghost use Rattle.word_dag.specs.Nodes.{root_value};
-ghost use Rattle.word_names.specs.Names.{HasOneWordEach, naming_from};
+ghost use Rattle.word_dag.specs.Names.{HasOneWordEach, naming_from};
 
 use crate::line::MeetLine;
 use crate::segments::largest_window;
-use binding::Bound;
 use replay::{Reach, Shown, shown_segment};
-use set_sound::Sound;
+use set_tree_structure::Sound;
 use std::alloc::{AllocError, Global};
 use twin_tests::property_of;
+use unroll_binding::Bound;
 use word_dag::Ob;
 
 // How far the segment of a line reaches.

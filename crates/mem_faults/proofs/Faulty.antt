@@ -2,12 +2,12 @@
 use Rattle.std.proofs.Common.{◌≡◌, ℕ, ◌<◌, ◌≤◌, true, List, ◌++◌, length, filter, arith, subst, sym, ap, ◌∙◌}
 use Rattle.std.specs.List.{flat_map}
 use Rattle.vlog_tree.specs.declared.stmt.Lval.{Lval}
-use Rattle.vlog_runs.specs.declared.flat.Always.{Always}
-use Rattle.vlog_runs.specs.declared.flat.Flat.{Flat}
-use Rattle.vlog_runs.specs.Places.{Name, Among}
+use Rattle.vlog_tree_runs.specs.declared.flat.Always.{Always}
+use Rattle.vlog_tree_runs.specs.declared.flat.Flat.{Flat}
+use Rattle.vlog_tree_runs.specs.Places.{Name, Among}
 use Rattle.mem_laws.specs.declared.fault.MemFault.{MemFault}
 use Rattle.mem_laws.specs.declared.fault.MemFault.TheVariants as m
-use Rattle.elab_drive.specs.Claims.{part_name}
+use Rattle.elab_flat_drivers.specs.Claims.{part_name}
 use Rattle.mem_laws.specs.Stands.{Stands, IsFaultless, IsWronglyKept}
 use Rattle.mem_laws.specs.Uses.{memory_uses}
 use Rattle.mem_faults.specs.Faults.{rank, IsFirstFault}

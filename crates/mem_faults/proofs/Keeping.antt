@@ -5,14 +5,14 @@ use Rattle.std.specs.List.{flat_map}
 use Rattle.std.proofs.lemmas.List.{map-append}
 use Rattle.vlog_tree.specs.declared.valuation.Entry.{Entry}
 use Rattle.vlog_tree.specs.Valuation.{IsLength}
-use Rattle.vlog_runs.specs.declared.flat.Always.{Always}
-use Rattle.vlog_runs.specs.declared.flat.Flat.{Flat}
-use Rattle.vlog_runs.specs.declared.flat.Signal.{Signal}
-use Rattle.vlog_runs.specs.Places.{Name, Among, entry_of, entries_of, words_from, holders}
-use Rattle.vlog_runs.specs.Contents.{is_among}
-use Rattle.vlog_runs.specs.Cycles.{flat_place}
-use Rattle.flat_faults.specs.Constants.{at_rest}
-use Rattle.flat_faults.specs.Declaring.{words_of}
+use Rattle.vlog_tree_runs.specs.declared.flat.Always.{Always}
+use Rattle.vlog_tree_runs.specs.declared.flat.Flat.{Flat}
+use Rattle.vlog_tree_runs.specs.declared.flat.Signal.{Signal}
+use Rattle.vlog_tree_runs.specs.Places.{Name, Among, entry_of, entries_of, words_from, holders}
+use Rattle.vlog_tree_runs.specs.Contents.{is_among}
+use Rattle.vlog_tree_runs.specs.Cycles.{flat_place}
+use Rattle.elab_flat_faults.specs.Constants.{at_rest}
+use Rattle.elab_flat_faults.specs.Declaring.{words_of}
 use Rattle.mem_laws.specs.Spread.{keeper}
 use Rattle.mem_faults.specs.Held.{word_signal, resting_word, resting, idle_of}
 use Rattle.mem_faults.proofs.Growing.{cut}

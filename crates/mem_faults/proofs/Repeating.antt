@@ -6,17 +6,17 @@ use Rattle.std.specs.Str.{bytes_eq}
 use Rattle.std.proofs.lemmas.Bool.{lt-ltb, le-ltb}
 use Rattle.std.proofs.lemmas.Slice.Eq.{bytes_eq-Decides}
 use Rattle.vlog_tree.specs.declared.valuation.Entry.{Entry}
-use Rattle.vlog_runs.specs.declared.flat.Flat.{Flat}
-use Rattle.vlog_runs.specs.declared.flat.Signal.{Signal}
-use Rattle.vlog_runs.specs.Places.{Name, Among, entry_of, entries_of, held_entry, words_from}
-use Rattle.vlog_runs.specs.Contents.{is_among}
-use Rattle.vlog_runs.specs.Cycles.{flat_place}
-use Rattle.flat_laws.specs.Uses.{names_of, known}
-use Rattle.flat_laws.proofs.Lists.{bool_cases, map_append, among_append, append_left, append_right, flat_among}
-use Rattle.flat_faults.specs.Constants.{at_rest}
-use Rattle.flat_faults.specs.Declaring.{Repeats, words_of}
-use Rattle.flat_scopes.specs.Finding.{place_from, place_in}
-use Rattle.elab_drive.proofs.Naming.{among_of, of_among}
+use Rattle.vlog_tree_runs.specs.declared.flat.Flat.{Flat}
+use Rattle.vlog_tree_runs.specs.declared.flat.Signal.{Signal}
+use Rattle.vlog_tree_runs.specs.Places.{Name, Among, entry_of, entries_of, held_entry, words_from}
+use Rattle.vlog_tree_runs.specs.Contents.{is_among}
+use Rattle.vlog_tree_runs.specs.Cycles.{flat_place}
+use Rattle.elab_flat_laws.specs.Uses.{names_of, known}
+use Rattle.elab_flat_laws.proofs.Lists.{bool_cases, map_append, among_append, append_left, append_right, flat_among}
+use Rattle.elab_flat_faults.specs.Constants.{at_rest}
+use Rattle.elab_flat_faults.specs.Declaring.{Repeats, words_of}
+use Rattle.elab_flat_scopes.specs.Finding.{place_from, place_in}
+use Rattle.elab_flat_drivers.proofs.Naming.{among_of, of_among}
 use Rattle.mem_faults.proofs.Growing.{cut}
 use Rattle.mem_faults.specs.Repeated.{entry_name, is_before, later_names}
 

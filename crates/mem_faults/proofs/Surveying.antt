@@ -3,14 +3,14 @@ use Rattle.std.proofs.Common.{◌≡◌, ℕ, zero, suc, ◌+◌, ◌<◌, ◌�
 use Rattle.std.specs.List.{flat_map, list_any}
 use Rattle.std.specs.Str.{bytes_eq}
 use Rattle.vlog_tree.specs.declared.stmt.Lval.{Lval}
-use Rattle.vlog_runs.specs.declared.flat.Signal.{Signal}
-use Rattle.vlog_runs.specs.Places.{Name, Among}
-use Rattle.vlog_runs.specs.Blocks.{left_names}
-use Rattle.vlog_runs.specs.Contents.{is_among}
-use Rattle.flat_laws.proofs.Lists.{among_append, append_left, append_right}
-use Rattle.elab_drive.specs.declared.parts.Part.{Part}
-use Rattle.elab_drive.specs.Parts.{part_meant}
-use Rattle.elab_drive.proofs.Naming.{among_of, of_among}
+use Rattle.vlog_tree_runs.specs.declared.flat.Signal.{Signal}
+use Rattle.vlog_tree_runs.specs.Places.{Name, Among}
+use Rattle.vlog_tree_runs.specs.Blocks.{left_names}
+use Rattle.vlog_tree_runs.specs.Contents.{is_among}
+use Rattle.elab_flat_laws.proofs.Lists.{among_append, append_left, append_right}
+use Rattle.elab_flat_drivers.specs.declared.parts.Part.{Part}
+use Rattle.elab_flat_drivers.specs.Parts.{part_meant}
+use Rattle.elab_flat_drivers.proofs.Naming.{among_of, of_among}
 use Rattle.mem_faults.specs.Used.{memory_names}
 use Rattle.mem_faults.proofs.Growing.{cut}
 use Rattle.mem_faults.proofs.Telling.{both_true, true_both, kept_one}

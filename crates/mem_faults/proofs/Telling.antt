@@ -7,21 +7,21 @@ use Rattle.vlog_tree.specs.declared.expr.Expr.{Expr}
 use Rattle.vlog_tree.specs.declared.item.Assign.{Assign}
 use Rattle.vlog_tree.specs.declared.stmt.Lval.{Lval}
 use Rattle.vlog_tree.specs.declared.stmt.Lval.TheVariants as l
-use Rattle.vlog_runs.specs.declared.flat.Always.{Always}
-use Rattle.vlog_runs.specs.declared.flat.Flat.{Flat}
-use Rattle.vlog_runs.specs.declared.flat.Signal.{Signal}
-use Rattle.vlog_runs.specs.Places.{Name, Among}
-use Rattle.vlog_runs.specs.Blocks.{lefts, left_names}
-use Rattle.vlog_runs.specs.Contents.{is_among}
-use Rattle.flat_laws.proofs.Lists.{among_append, append_left, append_right, among_flat, flat_among, map_among, among_map}
-use Rattle.flat_faults.specs.Texts.{names_in}
-use Rattle.elab_faults.specs.Drivers.{exprs_of}
-use Rattle.elab_faults.specs.Stands.{Names}
-use Rattle.elab_drive.specs.declared.names.Form.TheVariants as v
-use Rattle.elab_drive.specs.Claims.{part_name}
-use Rattle.elab_drive.specs.Names.{chosen_names}
-use Rattle.elab_drive.proofs.Kinding.{in_chosen, chosen_in, blocked_is, is_blocked}
-use Rattle.elab_drive.proofs.Naming.{among_of, of_among}
+use Rattle.vlog_tree_runs.specs.declared.flat.Always.{Always}
+use Rattle.vlog_tree_runs.specs.declared.flat.Flat.{Flat}
+use Rattle.vlog_tree_runs.specs.declared.flat.Signal.{Signal}
+use Rattle.vlog_tree_runs.specs.Places.{Name, Among}
+use Rattle.vlog_tree_runs.specs.Blocks.{lefts, left_names}
+use Rattle.vlog_tree_runs.specs.Contents.{is_among}
+use Rattle.elab_flat_laws.proofs.Lists.{among_append, append_left, append_right, among_flat, flat_among, map_among, among_map}
+use Rattle.elab_flat_faults.specs.Texts.{names_in}
+use Rattle.elab_flat_faults.specs.Drivers.{exprs_of}
+use Rattle.elab_flat_faults.specs.ElabStands.{Names}
+use Rattle.elab_flat_drivers.specs.declared.names.Form.TheVariants as v
+use Rattle.elab_flat_drivers.specs.Claims.{part_name}
+use Rattle.elab_flat_drivers.specs.Names.{chosen_names}
+use Rattle.elab_flat_drivers.proofs.Kinding.{in_chosen, chosen_in, blocked_is, is_blocked}
+use Rattle.elab_flat_drivers.proofs.Naming.{among_of, of_among}
 use Rattle.mem_laws.specs.Stands.{IsSigned, IsAssignedOtherwise, IsWronglyKept, HasNestedIndex}
 use Rattle.mem_laws.specs.Uses.{is_memory, whole_in, whole_lefts, listed, wholes, Indexed, indexed_in, indexed_lefts, lefts_of, memory_uses}
 use Rattle.mem_faults.specs.Kept.{signed_names, assign_names, assigned_names, other_names}

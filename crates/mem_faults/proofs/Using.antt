@@ -8,16 +8,16 @@ use Rattle.vlog_tree.specs.declared.stmt.Lval.{Lval, Row_of-Lval, end_of-Lval, m
 use Rattle.vlog_tree.specs.declared.stmt.Lval.TheVariants as l
 use Rattle.vlog_tree.specs.declared.stmt.Stmt.{Stmt, Row_of-Stmt, end_of-Stmt, more_of-Stmt, Row_of-CaseItem, end_of-CaseItem, more_of-CaseItem}
 use Rattle.vlog_tree.specs.declared.stmt.Stmt.TheVariants as s
-use Rattle.vlog_runs.specs.declared.flat.Always.{Always}
-use Rattle.vlog_runs.specs.declared.flat.Flat.{Flat}
-use Rattle.vlog_runs.specs.Places.{Among}
-use Rattle.flat_laws.proofs.Lists.{flat_append, map_append}
-use Rattle.vlog_runs.specs.Blocks.{lefts, row_lefts, case_lefts, exprs_in}
-use Rattle.flat_faults.specs.Texts.{numbers_in, row_numbers_in, alone_in, row_alone_in, case_alone_in, Compared, compared_in, row_compared_in, case_compared_in, all_labels_in, stores_in, row_stores_in, case_stores_in, assign_exprs, compared_exprs}
-use Rattle.elab_faults.specs.Drivers.{parts_of, row_parts_of, block_exprs, exprs_of}
-use Rattle.elab_drive.specs.Parts.{reads_of}
-use Rattle.elab_drive.specs.Pieces.{Action, Tests, Assigns, Schedules, actions, row_actions, case_actions}
-use Rattle.elab_drive.specs.Wanting.{part_reads, left_reads}
+use Rattle.vlog_tree_runs.specs.declared.flat.Always.{Always}
+use Rattle.vlog_tree_runs.specs.declared.flat.Flat.{Flat}
+use Rattle.vlog_tree_runs.specs.Places.{Among}
+use Rattle.elab_flat_laws.proofs.Lists.{flat_append, map_append}
+use Rattle.vlog_tree_runs.specs.Blocks.{lefts, row_lefts, case_lefts, exprs_in}
+use Rattle.elab_flat_faults.specs.Texts.{numbers_in, row_numbers_in, alone_in, row_alone_in, case_alone_in, Compared, compared_in, row_compared_in, case_compared_in, all_labels_in, stores_in, row_stores_in, case_stores_in, assign_exprs, compared_exprs}
+use Rattle.elab_flat_faults.specs.Drivers.{parts_of, row_parts_of, block_exprs, exprs_of}
+use Rattle.elab_flat_drivers.specs.Parts.{reads_of}
+use Rattle.elab_flat_drivers.specs.Pieces.{Action, Tests, Assigns, Schedules, actions, row_actions, case_actions}
+use Rattle.elab_flat_drivers.specs.Wanting.{part_reads, left_reads}
 use Rattle.mem_laws.specs.Uses.{lefts_of}
 use Rattle.mem_faults.specs.Used.{store_uses, assign_uses, action_uses, block_uses, uses_of}
 

@@ -5,13 +5,13 @@ use Rattle.vlog_tree.specs.declared.expr.Expr.{Expr, Row_of-Expr, end_of-Expr, m
 use Rattle.vlog_tree.specs.declared.expr.Expr.TheVariants as e
 use Rattle.vlog_tree.specs.declared.stmt.Lval.{Lval, Row_of-Lval, end_of-Lval, more_of-Lval}
 use Rattle.vlog_tree.specs.declared.stmt.Lval.TheVariants as l
-use Rattle.vlog_runs.specs.declared.flat.Flat.{Flat}
-use Rattle.vlog_runs.specs.Places.{Name, Among}
-use Rattle.vlog_runs.specs.Blocks.{left_names}
-use Rattle.flat_faults.specs.Texts.{names_in, row_names_in}
-use Rattle.flat_laws.proofs.Lists.{flat_append}
-use Rattle.elab_faults.specs.Drivers.{parts_of, row_parts_of, exprs_of}
-use Rattle.elab_drive.specs.Parts.{reads_of, row_reads}
+use Rattle.vlog_tree_runs.specs.declared.flat.Flat.{Flat}
+use Rattle.vlog_tree_runs.specs.Places.{Name, Among}
+use Rattle.vlog_tree_runs.specs.Blocks.{left_names}
+use Rattle.elab_flat_faults.specs.Texts.{names_in, row_names_in}
+use Rattle.elab_flat_laws.proofs.Lists.{flat_append}
+use Rattle.elab_flat_faults.specs.Drivers.{parts_of, row_parts_of, exprs_of}
+use Rattle.elab_flat_drivers.specs.Parts.{reads_of, row_reads}
 use Rattle.mem_laws.specs.Uses.{whole_in, row_whole_in, whole_lefts, row_whole_lefts, Indexed, indexed_in, row_indexed_in, indexed_lefts, row_indexed_lefts, lefts_of}
 use Rattle.mem_faults.specs.Used.{whole_names}
 use Rattle.mem_faults.proofs.Using.{told}

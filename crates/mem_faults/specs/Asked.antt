@@ -15,13 +15,13 @@ use Rattle.vlog_tree.specs.declared.stmt.Stmt.TheVariants as s
 use Rattle.vlog_tree.specs.declared.valuation.Entry.{Entry}
 use Rattle.vlog_tree.specs.Valuation.{IsLength, depth_of}
 use Rattle.vlog_tree.specs.Value.{IsFormed, IsDefined, width_of, sign_of}
-use Rattle.vlog_runs.specs.declared.flat.Always.{Always}
-use Rattle.vlog_runs.specs.declared.flat.Flat.{Flat}
-use Rattle.vlog_runs.specs.declared.flat.Signal.{Signal}
-use Rattle.vlog_runs.specs.Places.{Among, read}
-use Rattle.vlog_runs.specs.Cycles.{flat_place}
-use Rattle.flat_faults.specs.Constants.{at_rest}
-use Rattle.elab_faults.specs.Drivers.{parts_of}
+use Rattle.vlog_tree_runs.specs.declared.flat.Always.{Always}
+use Rattle.vlog_tree_runs.specs.declared.flat.Flat.{Flat}
+use Rattle.vlog_tree_runs.specs.declared.flat.Signal.{Signal}
+use Rattle.vlog_tree_runs.specs.Places.{Among, read}
+use Rattle.vlog_tree_runs.specs.Cycles.{flat_place}
+use Rattle.elab_flat_faults.specs.Constants.{at_rest}
+use Rattle.elab_flat_faults.specs.Drivers.{parts_of}
 use Rattle.mem_laws.specs.Spread.{is_constant, lefts_length}
 
 -- an expression has a value by itself

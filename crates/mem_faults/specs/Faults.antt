@@ -1,6 +1,6 @@
 -- Which fault of memories is told: the first that stands.
 use Rattle.std.specs.Prelude.{ℕ, ◌<◌}
-use Rattle.vlog_runs.specs.declared.flat.Flat.{Flat}
+use Rattle.vlog_tree_runs.specs.declared.flat.Flat.{Flat}
 use Rattle.mem_laws.specs.declared.fault.MemFault.{MemFault}
 use Rattle.mem_laws.specs.declared.fault.MemFault.TheVariants as m
 use Rattle.mem_laws.specs.Stands.{Stands}

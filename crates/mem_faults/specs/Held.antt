@@ -2,9 +2,9 @@
 use Rattle.std.specs.Prelude.{ℕ, true, false, not, List, ◌∷◌, map, filter}
 use Rattle.vlog_tree.specs.declared.valuation.Entry.{Entry}
 use Rattle.vlog_tree.specs.Valuation.{word_name}
-use Rattle.vlog_runs.specs.declared.flat.Signal.{Signal}
-use Rattle.vlog_runs.specs.Places.{Name, read, words_from, entry_of}
-use Rattle.vlog_runs.specs.Contents.{is_among}
+use Rattle.vlog_tree_runs.specs.declared.flat.Signal.{Signal}
+use Rattle.vlog_tree_runs.specs.Places.{Name, read, words_from, entry_of}
+use Rattle.vlog_tree_runs.specs.Contents.{is_among}
 
 -- word j of a memory
 abbrev pub word_signal : Signal → ℕ → Signal

@@ -2,12 +2,12 @@
 use Rattle.std.specs.Prelude.{◌≡◌, ◌⊎◌, Bool, true, false, List, [], ◌∷◌, ◌++◌, if◌then◌else◌}
 use Rattle.std.specs.List.{flat_map}
 use Rattle.vlog_tree.specs.declared.item.Assign.{Assign}
-use Rattle.vlog_runs.specs.declared.flat.Flat.{Flat}
-use Rattle.vlog_runs.specs.declared.flat.Signal.{Signal}
-use Rattle.vlog_runs.specs.Places.{Name, Among}
-use Rattle.vlog_runs.specs.Blocks.{left_names}
-use Rattle.elab_drive.specs.declared.names.Form.TheVariants as m
-use Rattle.elab_drive.specs.Names.{chosen_names}
+use Rattle.vlog_tree_runs.specs.declared.flat.Flat.{Flat}
+use Rattle.vlog_tree_runs.specs.declared.flat.Signal.{Signal}
+use Rattle.vlog_tree_runs.specs.Places.{Name, Among}
+use Rattle.vlog_tree_runs.specs.Blocks.{left_names}
+use Rattle.elab_flat_drivers.specs.declared.names.Form.TheVariants as m
+use Rattle.elab_flat_drivers.specs.Names.{chosen_names}
 
 -- the name of a signed signal
 abbrev pub signed_names : Signal → List Name

@@ -1,8 +1,8 @@
 -- The names that stand a second time in a list.
 use Rattle.std.specs.Prelude.{ℕ, suc, nat_lt, Bool, false, List, [], ◌∷◌, map, Option, Some, None, if◌then◌else◌}
 use Rattle.vlog_tree.specs.declared.valuation.Entry.{Entry}
-use Rattle.vlog_runs.specs.Places.{Name}
-use Rattle.flat_scopes.specs.Finding.{place_in}
+use Rattle.vlog_tree_runs.specs.Places.{Name}
+use Rattle.elab_flat_scopes.specs.Finding.{place_in}
 
 abbrev pub entry_name : Entry → Name
 entry_name e = e.name

@@ -5,16 +5,16 @@ use Rattle.vlog_tree.specs.declared.expr.Expr.{Expr}
 use Rattle.vlog_tree.specs.declared.item.Assign.{Assign}
 use Rattle.vlog_tree.specs.declared.stmt.Lval.{Lval}
 use Rattle.vlog_tree.specs.declared.stmt.Lval.TheVariants as l
-use Rattle.vlog_runs.specs.declared.flat.Always.{Always}
-use Rattle.vlog_runs.specs.declared.flat.Flat.{Flat}
-use Rattle.vlog_runs.specs.declared.flat.Signal.{Signal}
-use Rattle.vlog_runs.specs.Places.{Name}
-use Rattle.vlog_runs.specs.Contents.{is_among}
-use Rattle.flat_faults.specs.Texts.{names_in}
-use Rattle.elab_faults.specs.Drivers.{parts_of}
-use Rattle.elab_drive.specs.Parts.{reads_of}
-use Rattle.elab_drive.specs.Pieces.{Action, Tests, Assigns, Schedules, actions}
-use Rattle.elab_drive.specs.Wanting.{left_reads}
+use Rattle.vlog_tree_runs.specs.declared.flat.Always.{Always}
+use Rattle.vlog_tree_runs.specs.declared.flat.Flat.{Flat}
+use Rattle.vlog_tree_runs.specs.declared.flat.Signal.{Signal}
+use Rattle.vlog_tree_runs.specs.Places.{Name}
+use Rattle.vlog_tree_runs.specs.Contents.{is_among}
+use Rattle.elab_flat_faults.specs.Texts.{names_in}
+use Rattle.elab_flat_faults.specs.Drivers.{parts_of}
+use Rattle.elab_flat_drivers.specs.Parts.{reads_of}
+use Rattle.elab_flat_drivers.specs.Pieces.{Action, Tests, Assigns, Schedules, actions}
+use Rattle.elab_flat_drivers.specs.Wanting.{left_reads}
 use Rattle.mem_laws.specs.Uses.{listed}
 
 -- an assignment uses the parts of its left side, and what its numbers and its right side read

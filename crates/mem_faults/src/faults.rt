@@ -12,7 +12,7 @@ use crate::twice::declared_twice;
 use mem_laws::MemFault;
 use outside::Text;
 use std::alloc::{AllocError, Global};
-use vlog_runs::Flat;
+use vlog_tree_runs::Flat;
 
 fn whole_fault(alloc: Global, name: &Text) -> Result<Option<MemFault>, AllocError>
     ensures { IfOk result (λ o. o ≡ Some (m.Whole name.now)) }

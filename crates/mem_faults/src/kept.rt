@@ -2,23 +2,23 @@
 
 ghost use Rattle.std.specs.Prelude.{◌≡◌, ◌++◌, ◌&&◌, OnOk, IfOk, IfSome, IfNone, map, nat_eq, not};
 ghost use Rattle.std.specs.List.{flat_map};
-ghost use Rattle.vlog_runs.specs.Places.{Name, Among};
-ghost use Rattle.vlog_runs.specs.Contents.{is_among};
-ghost use Rattle.elab_drive.specs.Names.{chosen_names};
-ghost use Rattle.elab_faults.specs.Stands.{Names as IsNamed};
-ghost use Rattle.flat_scopes.specs.Borrowed.{name_meant};
+ghost use Rattle.vlog_tree_runs.specs.Places.{Name, Among};
+ghost use Rattle.vlog_tree_runs.specs.Contents.{is_among};
+ghost use Rattle.elab_flat_drivers.specs.Names.{chosen_names};
+ghost use Rattle.elab_flat_faults.specs.ElabStands.{Names as IsNamed};
+ghost use Rattle.elab_flat_scopes.specs.Borrowed.{name_meant};
 ghost use Rattle.mem_laws.specs.Uses.{lefts_of};
 ghost use Rattle.mem_laws.specs.Stands.{IsSigned, IsAssignedOtherwise, IsWronglyKept};
 ghost use Rattle.mem_faults.specs.Kept.{signed_names, assign_names, assigned_names, other_names};
 ghost use Rattle.mem_faults.specs.Used.{memory_names, memories_of};
 
 use crate::survey::first_among;
-use elab_drive::{Form, add_left_names, block_names};
-use flat_scopes::Names;
+use elab_flat_drivers::{Form, add_left_names, block_names};
+use elab_flat_scopes::Names;
 use outside::Text;
 use std::alloc::{AllocError, Global};
-use vlog_runs::{Always, Flat, Signal};
 use vlog_tree::Assign;
+use vlog_tree_runs::{Always, Flat, Signal};
 
 fn signed_names(alloc: Global, signals: &[Signal]) -> Result<Vec<&Text>, AllocError>
     ensures { IfOk result (λ r. map name_meant r.items ≡ flat_map signed_names signals.now) }

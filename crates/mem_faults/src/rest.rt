@@ -3,17 +3,17 @@
 ghost use Rattle.std.specs.Prelude.{◌≡◌, [], ◌∷◌, ◌++◌, map, OnOk, IfOk};
 ghost use Rattle.std.specs.List.{flat_map};
 ghost use Rattle.vlog_tree.specs.Valuation.{IsLength};
-ghost use Rattle.vlog_runs.specs.declared.flat.Signal.{Signal as Declared};
-ghost use Rattle.vlog_runs.specs.Places.{Among, words_from};
-ghost use Rattle.vlog_runs.specs.Cycles.{flat_place};
-ghost use Rattle.flat_faults.specs.Constants.{at_rest};
+ghost use Rattle.vlog_tree_runs.specs.declared.flat.Signal.{Signal as Declared};
+ghost use Rattle.vlog_tree_runs.specs.Places.{Among, words_from};
+ghost use Rattle.vlog_tree_runs.specs.Cycles.{flat_place};
+ghost use Rattle.elab_flat_faults.specs.Constants.{at_rest};
 ghost use Rattle.mem_faults.specs.Held.{resting, resting_word};
 
 use crate::signals::words;
 use outside::Text;
 use std::alloc::{AllocError, Global};
-use vlog_runs::{Flat, Signal};
 use vlog_tree::{Entry, Valuation};
+use vlog_tree_runs::{Flat, Signal};
 
 fn add_entry(rest: &mut Valuation, alloc: Global, signal: &Signal) -> Result<(), AllocError>
     requires { IsLength signal.now.width }

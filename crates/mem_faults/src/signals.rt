@@ -2,13 +2,13 @@
 
 ghost use Rattle.std.specs.Prelude.{◌≡◌, ◌++◌, [], ◌∷◌, codes, decimal, IfOk};
 ghost use Rattle.std.specs.List.{flat_map};
-ghost use Rattle.vlog_runs.specs.Places.{holders, words_from};
+ghost use Rattle.vlog_tree_runs.specs.Places.{holders, words_from};
 ghost use Rattle.mem_faults.specs.Held.{word_signal};
 
 use outside::Text;
 use sqlite_items::Items;
 use std::alloc::{AllocError, Global};
-use vlog_runs::Signal;
+use vlog_tree_runs::Signal;
 
 /// The text of a memory's word.
 pub fn word_text(alloc: Global, name: &[u8], word: u8) -> Result<Text, AllocError>

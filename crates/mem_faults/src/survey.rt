@@ -3,23 +3,23 @@
 ghost use Rattle.std.specs.Prelude.{◌≡◌, ◌≤◌, ◌++◌, if◌then◌else◌, true, OnOk, IfOk, IfSome, IfNone, filter, length, map};
 ghost use Rattle.std.specs.List.{flat_map, list_any};
 ghost use Rattle.vlog_tree.specs.declared.stmt.Lval.{Lval};
-ghost use Rattle.vlog_runs.specs.Places.{Name, Among};
-ghost use Rattle.vlog_runs.specs.Contents.{is_among};
-ghost use Rattle.flat_faults.specs.Texts.{names_in};
-ghost use Rattle.flat_scopes.specs.Borrowed.{name_meant};
-ghost use Rattle.elab_drive.specs.Claims.{part_name};
-ghost use Rattle.elab_drive.specs.Parts.{part_meant};
+ghost use Rattle.vlog_tree_runs.specs.Places.{Name, Among};
+ghost use Rattle.vlog_tree_runs.specs.Contents.{is_among};
+ghost use Rattle.elab_flat_faults.specs.Texts.{names_in};
+ghost use Rattle.elab_flat_scopes.specs.Borrowed.{name_meant};
+ghost use Rattle.elab_flat_drivers.specs.Claims.{part_name};
+ghost use Rattle.elab_flat_drivers.specs.Parts.{part_meant};
 ghost use Rattle.mem_laws.specs.Uses.{listed};
 ghost use Rattle.mem_faults.specs.Used.{memory_names, memories_of, uses_of, whole_names, is_indexed, is_nested, block_listed};
 
 use crate::uses::uses_of;
-use elab_drive::{Part, name_of, reads_of};
-use flat_scopes::Names;
+use elab_flat_drivers::{Part, name_of, reads_of};
+use elab_flat_scopes::Names;
 use outside::Text;
 use sqlite_items::Items;
 use std::alloc::{AllocError, Global};
-use vlog_runs::{Always, Flat, Signal};
 use vlog_tree::Expr;
+use vlog_tree_runs::{Always, Flat, Signal};
 
 /// The memories of a module, and all uses of names in its texts.
 #[derive(Drop)]

@@ -3,20 +3,20 @@
 ghost use Rattle.std.specs.Prelude.{◌≡◌, IfOk, IfSome, IfNone, map};
 ghost use Rattle.std.specs.List.{flat_map};
 ghost use Rattle.vlog_tree.specs.Valuation.{IsLength};
-ghost use Rattle.vlog_runs.specs.declared.flat.Signal.{Signal as Declared};
-ghost use Rattle.vlog_runs.specs.Places.{Name, Among};
-ghost use Rattle.flat_faults.specs.Declaring.{words_of};
-ghost use Rattle.flat_scopes.specs.Borrowed.{name_meant};
+ghost use Rattle.vlog_tree_runs.specs.declared.flat.Signal.{Signal as Declared};
+ghost use Rattle.vlog_tree_runs.specs.Places.{Name, Among};
+ghost use Rattle.elab_flat_faults.specs.Declaring.{words_of};
+ghost use Rattle.elab_flat_scopes.specs.Borrowed.{name_meant};
 ghost use Rattle.mem_laws.specs.Stands.{IsDeclaredTwice};
 ghost use Rattle.mem_faults.specs.Repeated.{entry_name, is_before, later_names};
 
 use crate::rest::at_rest;
 use crate::signals::words;
-use flat_scopes::Names;
+use elab_flat_scopes::Names;
 use outside::Text;
 use std::alloc::{AllocError, Global};
-use vlog_runs::{Flat, Signal};
 use vlog_tree::Entry;
+use vlog_tree_runs::{Flat, Signal};
 
 fn names_of(alloc: Global, entries: &[Entry]) -> Result<Names<'_>, AllocError>
     ensures { IfOk result (λ r. r ≡ map entry_name entries.now) }

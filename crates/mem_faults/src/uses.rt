@@ -2,14 +2,14 @@
 
 ghost use Rattle.std.specs.Prelude.{◌≡◌, ◌++◌, OnOk, IfOk, map};
 ghost use Rattle.std.specs.List.{flat_map};
-ghost use Rattle.elab_drive.specs.Parts.{part_meant};
-ghost use Rattle.elab_drive.specs.Pieces.{piece_meant, actions};
+ghost use Rattle.elab_flat_drivers.specs.Parts.{part_meant};
+ghost use Rattle.elab_flat_drivers.specs.Pieces.{piece_meant, actions};
 ghost use Rattle.mem_faults.specs.Used.{store_uses, assign_uses, action_uses, block_uses, uses_of};
 
-use elab_drive::{Part, Piece, add_parts, add_reads, add_store_reads, pieces_of};
+use elab_flat_drivers::{Part, Piece, add_parts, add_reads, add_store_reads, pieces_of};
 use std::alloc::{AllocError, Global};
-use vlog_runs::{Always, Flat};
 use vlog_tree::{Assign, Expr, Lval, Stmt};
+use vlog_tree_runs::{Always, Flat};
 
 // The parts of the left side, and what is read.
 fn add_store<'a>(

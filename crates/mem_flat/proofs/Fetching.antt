@@ -5,7 +5,7 @@ use Rattle.vlog_tree.specs.declared.expr.Expr.TheVariants as e
 use Rattle.vlog_tree.specs.declared.expr.Name.{Name as Read}
 use Rattle.vlog_tree.specs.declared.valuation.Entry.{Entry}
 use Rattle.vlog_tree.specs.Valuation.{named, depth_of}
-use Rattle.vlog_runs.specs.Places.{Name}
+use Rattle.vlog_tree_runs.specs.Places.{Name}
 use Rattle.mem_laws.specs.Spread.{read_words, chosen, memory_read}
 
 pub memory_read_made : (v : List Entry) (x : Read) (a a' part r : Expr) (text other : Name) (depth width : ℕ) (words slice : List ℕ) → text ≡ x.text → depth ≡ depth_of v (record { text = text; offset = x.offset }) →

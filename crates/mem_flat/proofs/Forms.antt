@@ -16,9 +16,9 @@ use Rattle.vlog_tree.specs.declared.expr.Span.{Span}
 use Rattle.vlog_tree.specs.declared.expr.Span.TheVariants as p
 use Rattle.vlog_tree.specs.declared.expr.Unary.{Unary}
 use Rattle.vlog_tree.specs.Valuation.{word_name}
-use Rattle.vlog_runs.specs.Places.{Name}
-use Rattle.flat_laws.specs.Moved.{moved, moved_row, number_for}
-use Rattle.flat_faults.specs.Texts.{names_in, row_names_in}
+use Rattle.vlog_tree_runs.specs.Places.{Name}
+use Rattle.elab_flat_laws.specs.Moved.{moved, moved_row, number_for}
+use Rattle.elab_flat_faults.specs.Texts.{names_in, row_names_in}
 use Rattle.mem_laws.specs.Spread.{number, is_constant, is_word, word_read, chosen, bits_from}
 use Rattle.mem_faults.proofs.Growing.{cut}
 use denote.Hole.Carrier

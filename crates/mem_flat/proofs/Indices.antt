@@ -5,7 +5,7 @@ use Rattle.std.specs.List.{flat_map, range_with_len}
 use Rattle.std.proofs.lemmas.Bool.{lt-ltb, le-ltb}
 use Rattle.vlog_tree.specs.declared.expr.Expr.{Expr}
 use Rattle.vlog_tree.specs.Value.{own_value}
-use Rattle.vlog_runs.specs.Places.{Name}
+use Rattle.vlog_tree_runs.specs.Places.{Name}
 use Rattle.mem_laws.specs.Spread.{is_constant, is_fixed, named_words, read_words}
 
 pub inconstant_fixed : (depth : ℕ) (a : Expr) → is_constant a ≡ false → is_fixed depth a ≡ false

@@ -7,7 +7,7 @@ use Rattle.vlog_tree.specs.declared.stmt.Lval.TheVariants as l
 use Rattle.vlog_tree.specs.declared.stmt.Lval.TheBlock.{shape-the_row-Lval-0, hidden-the_row-Lval-0, shown-the_row-Lval-0}
 use Rattle.vlog_tree.specs.declared.valuation.Entry.{Entry}
 use Rattle.vlog_tree.specs.Valuation.{depth_of}
-use Rattle.vlog_runs.specs.Places.{Name, read}
+use Rattle.vlog_tree_runs.specs.Places.{Name, read}
 use Rattle.mem_laws.specs.Spread.{spread, spread_left, spread_lefts}
 use Rattle.mem_faults.specs.Asked.{IsEvaluable, HasEvaluable, IsSpanEvaluable, HasEvaluableLeft, HaveEvaluableLefts, EachEvaluableLeft}
 

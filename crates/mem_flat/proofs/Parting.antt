@@ -11,7 +11,7 @@ use Rattle.vlog_tree.specs.declared.stmt.Lval.TheVariants as l
 use Rattle.vlog_tree.specs.declared.stmt.Lval.TheBlock.{hidden-the_row-Lval-0}
 use Rattle.vlog_tree.specs.declared.stmt.Stmt.{Stmt}
 use Rattle.vlog_tree.specs.declared.valuation.Entry.{Entry}
-use Rattle.elab_faults.specs.Drivers.{parts_of, row_parts_of}
+use Rattle.elab_flat_faults.specs.Drivers.{parts_of, row_parts_of}
 use Rattle.mem_laws.specs.Spread.{part_length, lefts_length, part_stores, part_store, bits_from}
 use Rattle.mem_faults.specs.Asked.{HasOwnValue, IsSpanEvaluable, HasEvaluableLeft, HaveEvaluableLefts, EachEvaluableLeft}
 use Rattle.mem_flat.specs.Borrowed.{left_meant}

@@ -8,7 +8,7 @@ use Rattle.vlog_tree.specs.declared.stmt.Stmt.{Stmt, Row_of-Stmt, end_of-Stmt, m
 use Rattle.vlog_tree.specs.declared.stmt.Stmt.TheVariants as s
 use Rattle.vlog_tree.specs.declared.stmt.Stmt.TheBlock.{shape-the_row-Stmt-0, hidden-the_row-Stmt-0, shown-the_row-Stmt-0, shape-the_row-Stmt-1, hidden-the_row-Stmt-1, shape-the_row-CaseItem-2, hidden-the_row-CaseItem-2, shown-the_row-CaseItem-2}
 use Rattle.vlog_tree.specs.declared.valuation.Entry.{Entry}
-use Rattle.elab_faults.specs.Drivers.{parts_of}
+use Rattle.elab_flat_faults.specs.Drivers.{parts_of}
 use Rattle.mem_laws.specs.Spread.{lefts_length, spread, spread_left, spread_store, spread_stmt, spread_stmts, spread_items}
 use Rattle.mem_faults.specs.Asked.{HasEvaluable, HasEvaluableLeft, HasEvaluableStmt, HaveEvaluableStmts, HaveEvaluableItems, EachEvaluableStmt, HasEvaluableCase, EachEvaluableCase}
 use Rattle.mem_flat.specs.Cases.{spread_case}

@@ -11,8 +11,8 @@ use Rattle.vlog_tree.specs.declared.stmt.Stmt.TheVariants as s
 use Rattle.vlog_tree.specs.declared.stmt.Stmt.TheBlock.{shape-the_row-Stmt-1, hidden-the_row-Stmt-1}
 use Rattle.vlog_tree.specs.declared.valuation.Entry.{Entry}
 use Rattle.vlog_tree.specs.Valuation.{depth_of, word_name}
-use Rattle.vlog_runs.specs.Places.{Name, read}
-use Rattle.elab_faults.specs.Drivers.{parts_of}
+use Rattle.vlog_tree_runs.specs.Places.{Name, read}
+use Rattle.elab_flat_faults.specs.Drivers.{parts_of}
 use Rattle.mem_laws.specs.Spread.{spread, spread_left, is_word, named_words, word_store, memory_store, part_store, part_stores, lefts_length, is_memory_word, spread_store}
 use Rattle.mem_flat.specs.Cases.{block_store, concat_store}
 use denote.Hole.Carrier

@@ -7,7 +7,7 @@ use Rattle.vlog_tree.specs.declared.stmt.Lval.{Lval}
 use Rattle.vlog_tree.specs.declared.stmt.Stmt.{Stmt}
 use Rattle.vlog_tree.specs.declared.stmt.Stmt.TheVariants as s
 use Rattle.vlog_tree.specs.declared.valuation.Entry.{Entry}
-use Rattle.elab_faults.specs.Drivers.{parts_of}
+use Rattle.elab_flat_faults.specs.Drivers.{parts_of}
 use Rattle.mem_laws.specs.Spread.{spread_left, spread_labels, spread_stmt, is_memory_word, lefts_length, part_stores}
 
 abbrev pub spread_case : List Entry → CaseItem → CaseItem

@@ -6,8 +6,8 @@ use Rattle.vlog_tree.specs.declared.item.Assign.{Assign}
 use Rattle.vlog_tree.specs.declared.stmt.CaseItem.{CaseItem}
 use Rattle.vlog_tree.specs.declared.stmt.Lval.{Lval}
 use Rattle.vlog_tree.specs.declared.stmt.Stmt.{Stmt}
-use Rattle.vlog_runs.specs.Blocks.{lefts, exprs_in}
-use Rattle.flat_faults.specs.Texts.{alone_in, compared_in, compared_exprs, stores_in}
+use Rattle.vlog_tree_runs.specs.Blocks.{lefts, exprs_in}
+use Rattle.elab_flat_faults.specs.Texts.{alone_in, compared_in, compared_exprs, stores_in}
 
 abbrev pub stmt_compared : Stmt → List Expr
 stmt_compared body = flat_map compared_exprs (compared_in body)

@@ -9,7 +9,7 @@ ghost use Rattle.mem_faults.specs.Asked.{IsEvaluable, HasEvaluable, EachEvaluabl
 use crate::index::read_words;
 use crate::spreader::Spreader;
 use crate::words::{chosen, copied_name};
-use flat_move::both;
+use elab_flat_move::both;
 use sqlite_items::{Boxed, Items};
 use std::alloc::{AllocError, Global};
 use vlog_tree::{Expr, Name};

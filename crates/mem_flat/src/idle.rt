@@ -2,25 +2,25 @@
 
 ghost use Rattle.std.specs.Prelude.{◌≡◌, [], ◌∷◌, ◌++◌, IfOk, OnOk, map, filter, not};
 ghost use Rattle.std.specs.List.{flat_map};
-ghost use Rattle.vlog_runs.specs.Blocks.{lefts, left_names};
-ghost use Rattle.vlog_runs.specs.Contents.{is_among};
-ghost use Rattle.flat_faults.specs.Declaring.{words_of};
-ghost use Rattle.flat_scopes.specs.Borrowed.{name_meant};
-ghost use Rattle.elab_drive.specs.declared.names.Form.TheVariants as m;
-ghost use Rattle.elab_drive.specs.Names.{action_names};
-ghost use Rattle.elab_drive.specs.Pieces.{piece_meant};
+ghost use Rattle.vlog_tree_runs.specs.Blocks.{lefts, left_names};
+ghost use Rattle.vlog_tree_runs.specs.Contents.{is_among};
+ghost use Rattle.elab_flat_faults.specs.Declaring.{words_of};
+ghost use Rattle.elab_flat_scopes.specs.Borrowed.{name_meant};
+ghost use Rattle.elab_flat_drivers.specs.declared.names.Form.TheVariants as m;
+ghost use Rattle.elab_flat_drivers.specs.Names.{action_names};
+ghost use Rattle.elab_flat_drivers.specs.Pieces.{piece_meant};
 ghost use Rattle.mem_laws.specs.Spread.{assigned_in, keeper};
 ghost use Rattle.mem_faults.specs.Held.{idle_of};
 
-use elab_drive::{Piece, add_left_names, pieces_of};
-use flat_move::both;
-use flat_scopes::Names;
+use elab_flat_drivers::{Piece, add_left_names, pieces_of};
+use elab_flat_move::both;
+use elab_flat_scopes::Names;
 use mem_faults::words;
 use outside::Text;
 use sqlite_items::Items;
 use std::alloc::{AllocError, Global};
-use vlog_runs::{Always, Signal};
 use vlog_tree::{Expr, Lval, Name, Stmt};
+use vlog_tree_runs::{Always, Signal};
 
 fn add_piece<'a>(all: &mut Vec<&'a Text>, alloc: Global, piece: Piece<'a>) -> Result<(), AllocError>
     ensures { OnOk result (map name_meant all.new.items ≡ map name_meant all.old.items ++ action_names m.Any (piece_meant piece.entry)) }

@@ -3,14 +3,14 @@
 ghost use Rattle.std.specs.Prelude.{◌≡◌, ◌<◌, ◌≤◌, ◌&&◌, nat_eq, length, IfOk, MatchOption, true, false, [], ◌∷◌};
 ghost use Rattle.std.specs.List.{range_with_len, flat_map};
 ghost use Rattle.vlog_tree.specs.Value.{own_value};
-ghost use Rattle.flat_faults.specs.Texts.{names_in, row_names_in};
+ghost use Rattle.elab_flat_faults.specs.Texts.{names_in, row_names_in};
 ghost use Rattle.mem_laws.specs.Spread.{is_constant, is_fixed, named_words, read_words};
 ghost use Rattle.mem_faults.specs.Asked.{IsEvaluable};
 
 use sqlite_items::Items;
 use std::alloc::{AllocError, Global};
 use vlog_tree::{Expr, Valuation};
-use vlog_value::checked_own_value;
+use vlog_tree_values::checked_own_value;
 
 /// Whether an expression names nothing.
 #[cycle(constant)]

@@ -5,7 +5,7 @@ ghost use Rattle.mem_laws.specs.Spread.{spread_left};
 ghost use Rattle.mem_faults.specs.Asked.{HasEvaluableLeft, EachEvaluableLeft};
 
 use crate::spreader::Spreader;
-use flat_move::both;
+use elab_flat_move::both;
 use outside::Text;
 use sqlite_items::Items;
 use std::alloc::AllocError;

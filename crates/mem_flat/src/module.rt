@@ -2,8 +2,8 @@
 
 ghost use Rattle.std.specs.Prelude.{◌≡◌, ◌⊎◌, [], ◌∷◌, ◌++◌, IfOk, IfErr, map};
 ghost use Rattle.std.specs.List.{flat_map};
-ghost use Rattle.vlog_runs.specs.Cycles.{flat_place};
-ghost use Rattle.flat_faults.specs.Constants.{at_rest};
+ghost use Rattle.vlog_tree_runs.specs.Cycles.{flat_place};
+ghost use Rattle.elab_flat_faults.specs.Constants.{at_rest};
 ghost use Rattle.mem_laws.specs.declared.fault.MemFault.TheVariants as m;
 ghost use Rattle.mem_laws.specs.Laws.{CanSpread, KeepsRuns, DeclaresWords};
 ghost use Rattle.mem_laws.specs.Stands.{IsFaultless};
@@ -13,14 +13,14 @@ ghost use Rattle.mem_faults.specs.Faults.{IsFirstFault};
 
 use crate::idle::keepers;
 use crate::spreader::Spreader;
-use flat_move::both;
+use elab_flat_move::both;
 use mem_faults::{all_holders, at_rest, fault_of};
 use mem_laws::{MemFault, spread_declares_words, spread_keeps_runs};
 use outside::Text;
 use sqlite_items::Items;
 use std::alloc::{AllocError, Global};
-use vlog_runs::{Always, Async, Flat, TopPort};
 use vlog_tree::Assign;
+use vlog_tree_runs::{Always, Async, Flat, TopPort};
 
 // ---- texts
 

@@ -3,17 +3,17 @@
 ghost use Rattle.std.specs.Prelude.{◌≡◌, [], ◌∷◌, ◌++◌, ◌≤◌, ◌^◌, OnOk, IfOk, map, min, ℤ, pos, negsuc, ◌≤ℤ◌, ◌<ℤ◌, ◌+ℤ◌, ◌-ℤ◌};
 ghost use Rattle.std.specs.List.{flat_map, list_any};
 ghost use Rattle.vlog_tree.specs.Value.{operand_of, own_integer, natural, part_width};
-ghost use Rattle.elab_faults.specs.Drivers.{parts_of};
-ghost use Rattle.elab_drive.specs.Claims.{IsNear};
+ghost use Rattle.elab_flat_faults.specs.Drivers.{parts_of};
+ghost use Rattle.elab_flat_drivers.specs.Claims.{IsNear};
 ghost use Rattle.mem_laws.specs.Spread.{part_length, lefts_length, is_memory_word};
 ghost use Rattle.mem_faults.specs.Asked.{HasOwnValue, IsSpanEvaluable, HasEvaluableLeft, EachEvaluableLeft};
 ghost use Rattle.mem_flat.specs.Borrowed.{left_meant};
 
 use crate::spreader::Spreader;
-use elab_drive::clipped;
+use elab_flat_drivers::clipped;
 use std::alloc::{AllocError, Global};
 use vlog_tree::{Expr, Lval, Span};
-use vlog_value::{checked_own_value, integer};
+use vlog_tree_values::{checked_own_value, integer};
 
 fn push_part<'a>(all: &mut Vec<&'a Lval>, part: &'a Lval) -> Result<(), AllocError>
     ensures { OnOk result (map left_meant all.new.items ≡ map left_meant all.old.items ++ part.now ∷ []) }

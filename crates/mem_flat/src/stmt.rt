@@ -2,13 +2,13 @@
 
 ghost use Rattle.std.specs.Prelude.{◌≡◌, ◌≤◌, IfOk, map};
 ghost use Rattle.vlog_tree.specs.declared.stmt.Stmt.TheVariants as s;
-ghost use Rattle.elab_faults.specs.Drivers.{parts_of};
+ghost use Rattle.elab_flat_faults.specs.Drivers.{parts_of};
 ghost use Rattle.mem_laws.specs.Spread.{spread, spread_left, lefts_length, spread_store, spread_labels, spread_stmt};
 ghost use Rattle.mem_faults.specs.Asked.{HasEvaluable, EachEvaluable, HasEvaluableLeft, HasEvaluableLabels, HasEvaluableStmt, EachEvaluableStmt, EachEvaluableCase};
 ghost use Rattle.mem_flat.specs.Cases.{spread_case};
 
 use crate::spreader::Spreader;
-use flat_move::both;
+use elab_flat_move::both;
 use outside::Text;
 use sqlite_items::{Boxed, Items};
 use std::alloc::{AllocError, Global};

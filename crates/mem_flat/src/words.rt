@@ -3,11 +3,11 @@
 ghost use Rattle.std.specs.Prelude.{◌≡◌, ◌≤◌, ◌++◌, codes, decimal, IfOk, true};
 ghost use Rattle.vlog_tree.specs.declared.expr.Cast.TheVariants as c;
 ghost use Rattle.vlog_tree.specs.declared.expr.Expr.TheVariants as e;
-ghost use Rattle.flat_laws.specs.Moved.{number_for};
+ghost use Rattle.elab_flat_laws.specs.Moved.{number_for};
 ghost use Rattle.vlog_tree.specs.Valuation.{word_name};
 ghost use Rattle.mem_laws.specs.Spread.{number, is_word, word_read, chosen, bits_from};
 
-use flat_move::{both, copied};
+use elab_flat_move::{both, copied};
 use mem_faults::word_text;
 use outside::Text;
 use sqlite_items::Boxed;

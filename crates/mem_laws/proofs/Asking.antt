@@ -8,13 +8,13 @@ use Rattle.vlog_tree.specs.declared.stmt.Stmt.{Stmt, Row_of-Stmt, end_of-Stmt, m
 use Rattle.vlog_tree.specs.declared.stmt.Stmt.TheVariants as s
 use Rattle.vlog_tree.specs.declared.valuation.Entry.{Entry}
 use Rattle.vlog_tree.specs.Valuation.{depth_of}
-use Rattle.vlog_runs.specs.Places.{Name, Among, read}
-use Rattle.vlog_runs.specs.Blocks.{exprs_in, lefts, row_lefts, case_lefts, left_names, row_names}
-use Rattle.flat_laws.proofs.Lists.{append_left, append_right}
-use Rattle.flat_faults.specs.Constants.{HasConstantSpans}
-use Rattle.flat_faults.specs.Texts.{numbers_in, row_numbers_in, alone_in, row_alone_in, case_alone_in, Compared, compared_in, row_compared_in, case_compared_in, all_labels_in, stores_in, row_stores_in, case_stores_in}
-use Rattle.elab_faults.specs.Drivers.{parts_of}
-use Rattle.elab_faults.specs.Stands.{blocking_lefts, row_blocking_lefts, case_blocking_lefts, nonblocking_lefts, row_nonblocking_lefts, case_nonblocking_lefts}
+use Rattle.vlog_tree_runs.specs.Places.{Name, Among, read}
+use Rattle.vlog_tree_runs.specs.Blocks.{exprs_in, lefts, row_lefts, case_lefts, left_names, row_names}
+use Rattle.elab_flat_laws.proofs.Lists.{append_left, append_right}
+use Rattle.elab_flat_faults.specs.Constants.{HasConstantSpans}
+use Rattle.elab_flat_faults.specs.Texts.{numbers_in, row_numbers_in, alone_in, row_alone_in, case_alone_in, Compared, compared_in, row_compared_in, case_compared_in, all_labels_in, stores_in, row_stores_in, case_stores_in}
+use Rattle.elab_flat_faults.specs.Drivers.{parts_of}
+use Rattle.elab_flat_faults.specs.ElabStands.{blocking_lefts, row_blocking_lefts, case_blocking_lefts, nonblocking_lefts, row_nonblocking_lefts, case_nonblocking_lefts}
 use Rattle.mem_laws.specs.Spread.{lefts_length}
 use Rattle.mem_laws.specs.Laws.{IsIndexed, AreIndexed, IsIndexedLeft, AreIndexedLefts, IsPlainLeft, ArePlainLefts, IsStorable, IsSpreadable, AreSpreadable, AreItemsSpreadable}
 use Rattle.mem_laws.specs.Uses.{whole_lefts, row_whole_lefts}

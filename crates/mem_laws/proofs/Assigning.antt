@@ -8,14 +8,14 @@ use Rattle.vlog_tree.specs.declared.stmt.Lval.{Lval, Row_of-Lval, end_of-Lval, m
 use Rattle.vlog_tree.specs.declared.stmt.Lval.TheVariants as l
 use Rattle.vlog_tree.specs.declared.valuation.Entry.{Entry}
 use Rattle.vlog_tree.specs.Valuation.{depth_of, word_name}
-use Rattle.vlog_runs.specs.declared.flat.Signal.{Signal}
-use Rattle.vlog_runs.specs.Places.{Name, Among, Place, read, holders}
-use Rattle.vlog_runs.specs.Blocks.{left_names, row_names}
-use Rattle.vlog_runs.specs.Cycles.{DrivesFull}
-use Rattle.flat_laws.proofs.Lists.{among_append, append_left, append_right, among_flat, flat_among, among_map, map_among, map_append}
-use Rattle.flat_faults.specs.Constants.{at_rest}
-use Rattle.flat_faults.specs.Declaring.{Repeats}
-use Rattle.elab_faults.specs.Drivers.{parts_of, row_parts_of}
+use Rattle.vlog_tree_runs.specs.declared.flat.Signal.{Signal}
+use Rattle.vlog_tree_runs.specs.Places.{Name, Among, Place, read, holders}
+use Rattle.vlog_tree_runs.specs.Blocks.{left_names, row_names}
+use Rattle.vlog_tree_runs.specs.Cycles.{DrivesFull}
+use Rattle.elab_flat_laws.proofs.Lists.{among_append, append_left, append_right, among_flat, flat_among, among_map, map_among, map_append}
+use Rattle.elab_flat_faults.specs.Constants.{at_rest}
+use Rattle.elab_flat_faults.specs.Declaring.{Repeats}
+use Rattle.elab_flat_faults.specs.Drivers.{parts_of, row_parts_of}
 use Rattle.mem_laws.specs.Spread.{named_words, spread, spread_left, spread_lefts, is_memory_word}
 use Rattle.mem_laws.specs.Laws.{over, IsIndexedLeft, AreIndexedLefts, IsPlainLeft, ArePlainLefts}
 use Rattle.mem_laws.proofs.Finding.{AreSpreadable, is_deep}

@@ -6,8 +6,8 @@ use Rattle.vlog_tree.specs.declared.expr.Expr.{Expr, Row_of-Expr, end_of-Expr, m
 use Rattle.vlog_tree.specs.declared.expr.Expr.TheVariants as e
 use Rattle.vlog_tree.specs.declared.valuation.Entry.{Entry}
 use Rattle.vlog_tree.specs.Value.{operand_of, row_of, unary_of, binary_of, choice_of, cast_of, joined, repeated, bit_of, part_of, NamesOnly, AllNamesOnly}
-use Rattle.vlog_runs.specs.Places.{Name}
-use Rattle.flat_faults.specs.Texts.{names_in, row_names_in}
+use Rattle.vlog_tree_runs.specs.Places.{Name}
+use Rattle.elab_flat_faults.specs.Texts.{names_in, row_names_in}
 use Rattle.mem_laws.specs.Spread.{is_constant}
 
 -- no name

@@ -9,14 +9,14 @@ use Rattle.vlog_tree.specs.declared.stmt.Lval.TheVariants as l
 use Rattle.vlog_tree.specs.declared.valuation.Entry.{Entry}
 use Rattle.vlog_tree.specs.Valuation.{depth_of, word_name}
 use Rattle.vlog_tree.specs.Value.{NamesOnly, operand_of, own_value, own_integer, part_low, part_width}
-use Rattle.vlog_runs.specs.declared.flat.Signal.{Signal}
-use Rattle.vlog_runs.specs.Places.{Name, Among, Place, read, holders}
-use Rattle.vlog_runs.specs.Blocks.{left_names, low_in, IsWithin, Drives, AnyDrives, Stores, AnyStores}
-use Rattle.vlog_runs.specs.Cycles.{DrivesBit, DrivesWord, DrivesFull}
-use Rattle.flat_laws.proofs.Lists.{bool_cases, among_append, append_left, append_right, among_map, map_among}
-use Rattle.flat_faults.specs.Constants.{at_rest}
-use Rattle.elab_faults.specs.Drivers.{parts_of, row_parts_of}
-use Rattle.flat_faults.specs.Declaring.{Repeats}
+use Rattle.vlog_tree_runs.specs.declared.flat.Signal.{Signal}
+use Rattle.vlog_tree_runs.specs.Places.{Name, Among, Place, read, holders}
+use Rattle.vlog_tree_runs.specs.Blocks.{left_names, low_in, IsWithin, Drives, AnyDrives, Stores, AnyStores}
+use Rattle.vlog_tree_runs.specs.Cycles.{DrivesBit, DrivesWord, DrivesFull}
+use Rattle.elab_flat_laws.proofs.Lists.{bool_cases, among_append, append_left, append_right, among_map, map_among}
+use Rattle.elab_flat_faults.specs.Constants.{at_rest}
+use Rattle.elab_flat_faults.specs.Drivers.{parts_of, row_parts_of}
+use Rattle.elab_flat_faults.specs.Declaring.{Repeats}
 use Rattle.mem_laws.specs.Spread.{is_constant, is_fixed, named_words, spread}
 use Rattle.mem_laws.specs.Laws.{over, IsIndexedLeft}
 use Rattle.mem_laws.proofs.Constants.{nothing, constant_names, names_constant}

@@ -10,13 +10,13 @@ use Rattle.vlog_tree.specs.declared.expr.Constant.{Constant}
 use Rattle.vlog_tree.specs.declared.expr.Name.{Name as Read}
 use Rattle.vlog_tree.specs.declared.valuation.Entry.{Entry}
 use Rattle.vlog_tree.specs.Valuation.{IsLength, entry_at, meant, meaning_of, named, depth_of, word_name}
-use Rattle.vlog_runs.specs.declared.flat.Signal.{Signal}
-use Rattle.vlog_runs.specs.Places.{Name, Cycle, Among, read, words_from, holders, entry_of, held_entry, entries_of}
-use Rattle.flat_laws.specs.Uses.{known}
-use Rattle.flat_laws.proofs.Lists.{bool_cases, flat_append, map_append, among_flat, flat_among, map_among}
-use Rattle.flat_laws.proofs.Entries.{known_is}
-use Rattle.flat_faults.specs.Constants.{at_rest}
-use Rattle.flat_faults.specs.Declaring.{Repeats, words_of}
+use Rattle.vlog_tree_runs.specs.declared.flat.Signal.{Signal}
+use Rattle.vlog_tree_runs.specs.Places.{Name, Cycle, Among, read, words_from, holders, entry_of, held_entry, entries_of}
+use Rattle.elab_flat_laws.specs.Uses.{known}
+use Rattle.elab_flat_laws.proofs.Lists.{bool_cases, flat_append, map_append, among_flat, flat_among, map_among}
+use Rattle.elab_flat_laws.proofs.Entries.{known_is}
+use Rattle.elab_flat_faults.specs.Constants.{at_rest}
+use Rattle.elab_flat_faults.specs.Declaring.{Repeats, words_of}
 use Rattle.mem_laws.specs.Laws.{over, SpreadsInto}
 
 -- ---- entries without their values

@@ -18,12 +18,12 @@ use Rattle.vlog_tree.specs.declared.stmt.Lval.TheVariants as l
 use Rattle.vlog_tree.specs.declared.valuation.Entry.{Entry}
 use Rattle.vlog_tree.specs.Valuation.{IsLength, named, depth_of, word_name}
 use Rattle.vlog_tree.specs.Value.{Operand, operand_of, own_defined, part_of, repeated, vector, Stands, IsPart, IsFormed, AllFormed, NamesOnly, IsPartConstant, IsDivisionConstant, HasConstantParts, AllHaveConstantParts}
-use Rattle.vlog_runs.specs.declared.flat.Flat.{Flat}
-use Rattle.vlog_runs.specs.Places.{Among}
-use Rattle.vlog_runs.specs.Cycles.{flat_place}
-use Rattle.flat_laws.proofs.Lists.{map_append, among_map}
-use Rattle.flat_faults.specs.Constants.{at_rest}
-use Rattle.flat_faults.specs.Texts.{numbers_in, row_numbers_in}
+use Rattle.vlog_tree_runs.specs.declared.flat.Flat.{Flat}
+use Rattle.vlog_tree_runs.specs.Places.{Among}
+use Rattle.vlog_tree_runs.specs.Cycles.{flat_place}
+use Rattle.elab_flat_laws.proofs.Lists.{map_append, among_map}
+use Rattle.elab_flat_faults.specs.Constants.{at_rest}
+use Rattle.elab_flat_faults.specs.Texts.{numbers_in, row_numbers_in}
 use Rattle.mem_laws.specs.Spread.{is_fixed, read_words, is_word, chosen, memory_read, spread, spread_row, spread_left, spread_lefts, spread_assign, spread_flat, bits_from}
 use Rattle.mem_laws.specs.Laws.{Spreads, IsIndexed, HasFixedLefts}
 use Rattle.mem_laws.specs.Uses.{whole_in, row_whole_in}

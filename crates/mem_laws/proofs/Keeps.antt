@@ -15,18 +15,18 @@ use Rattle.vlog_tree.specs.declared.stmt.Lval.TheVariants as l
 use Rattle.vlog_tree.specs.declared.valuation.Entry.{Entry}
 use Rattle.vlog_tree.specs.Valuation.{IsLength, meant, named, word_name}
 use Rattle.vlog_tree.specs.Value.{vector}
-use Rattle.vlog_runs.specs.declared.flat.Always.{Always}
-use Rattle.vlog_runs.specs.declared.flat.Flat.{Flat}
-use Rattle.vlog_runs.specs.declared.flat.Signal.{Signal}
-use Rattle.vlog_runs.specs.Places.{Name, Cycle, Among, Place, read, holders, valuation, write_bits, whole_piece, give}
-use Rattle.vlog_runs.specs.Blocks.{run, lefts, left_names}
-use Rattle.vlog_runs.specs.Contents.{is_among}
-use Rattle.vlog_runs.specs.Scopes.{own_link}
-use Rattle.vlog_runs.specs.Cycles.{flat_place, linked, DrivesBit, DrivesWord, DrivesFull, IsRegister, IsDriven, IsClocked, IsInput, IsCycle, Follows, IsRun}
+use Rattle.vlog_tree_runs.specs.declared.flat.Always.{Always}
+use Rattle.vlog_tree_runs.specs.declared.flat.Flat.{Flat}
+use Rattle.vlog_tree_runs.specs.declared.flat.Signal.{Signal}
+use Rattle.vlog_tree_runs.specs.Places.{Name, Cycle, Among, Place, read, holders, valuation, write_bits, whole_piece, give}
+use Rattle.vlog_tree_runs.specs.Blocks.{run, lefts, left_names}
+use Rattle.vlog_tree_runs.specs.Contents.{is_among}
+use Rattle.vlog_tree_runs.specs.Scopes.{own_link}
+use Rattle.vlog_tree_runs.specs.Cycles.{flat_place, linked, DrivesBit, DrivesWord, DrivesFull, IsRegister, IsDriven, IsClocked, IsInput, IsCycle, Follows, IsRun}
 use Rattle.mem_laws.proofs.Writing.{own_written}
-use Rattle.flat_laws.proofs.Lists.{bool_cases, among_flat, flat_among, among_map, map_among}
-use Rattle.flat_laws.proofs.Driving.{drives_named}
-use Rattle.flat_faults.specs.Constants.{at_rest}
+use Rattle.elab_flat_laws.proofs.Lists.{bool_cases, among_flat, flat_among, among_map, map_among}
+use Rattle.elab_flat_laws.proofs.Driving.{drives_named}
+use Rattle.elab_flat_faults.specs.Constants.{at_rest}
 use Rattle.mem_laws.specs.Spread.{spread_stmt, spread_assign, spread_block, idle_words, keeper, spread_flat}
 use Rattle.mem_laws.specs.Laws.{CanSpread, KeepsRuns, DeclaresWords}
 use Rattle.mem_laws.specs.Stands.{IsFaultless}

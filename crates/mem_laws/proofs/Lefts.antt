@@ -15,10 +15,10 @@ use Rattle.vlog_tree.specs.declared.expr.Expr.TheBlock.{hidden-the_row-Expr-1}
 use Rattle.vlog_tree.specs.declared.valuation.Entry.{Entry}
 use Rattle.vlog_tree.specs.Valuation.{named, depth_of, word_name}
 use Rattle.vlog_tree.specs.Value.{NamesOnly, AllNamesOnly, own_value}
-use Rattle.vlog_runs.specs.Places.{Name, read}
-use Rattle.vlog_runs.specs.Blocks.{lefts, row_lefts, case_lefts}
-use Rattle.flat_laws.proofs.Lists.{flat_append}
-use Rattle.elab_faults.specs.Drivers.{row_parts_of}
+use Rattle.vlog_tree_runs.specs.Places.{Name, read}
+use Rattle.vlog_tree_runs.specs.Blocks.{lefts, row_lefts, case_lefts}
+use Rattle.elab_flat_laws.proofs.Lists.{flat_append}
+use Rattle.elab_flat_faults.specs.Drivers.{row_parts_of}
 use Rattle.mem_laws.specs.Spread.{is_fixed, named_words, chosen, memory_read, spread, spread_row, spread_left, word_store, memory_store, part_store, part_stores, bits_from, lefts_length, is_memory_word, spread_store, spread_stmt, spread_stmts, spread_items}
 use Rattle.mem_laws.specs.Laws.{IsPlainLeft, IsSpreadable, AreSpreadable, AreItemsSpreadable}
 use Rattle.mem_laws.proofs.Constants.{nothing}

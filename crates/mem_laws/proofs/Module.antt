@@ -14,19 +14,19 @@ use Rattle.vlog_tree.specs.declared.stmt.Stmt.{Stmt, Row_of-Stmt, end_of-Stmt, m
 use Rattle.vlog_tree.specs.declared.stmt.Stmt.TheVariants as s
 use Rattle.vlog_tree.specs.declared.valuation.Entry.{Entry}
 use Rattle.vlog_tree.specs.Valuation.{depth_of, word_name}
-use Rattle.vlog_runs.specs.declared.flat.Always.{Always}
-use Rattle.vlog_runs.specs.declared.flat.Flat.{Flat}
-use Rattle.vlog_runs.specs.declared.flat.Signal.{Signal}
-use Rattle.vlog_runs.specs.Places.{Name, Among, Place, read, holders, words_from}
-use Rattle.vlog_runs.specs.Blocks.{lefts, row_lefts, case_lefts, left_names}
-use Rattle.vlog_runs.specs.Contents.{is_among}
-use Rattle.vlog_runs.specs.Cycles.{flat_place, DrivesBit, DrivesWord, DrivesFull, IsRegister, IsDriven, IsClocked}
-use Rattle.flat_laws.proofs.Lists.{bool_cases, among_append, append_left, append_right, among_flat, flat_among, among_map, map_among}
-use Rattle.flat_faults.specs.Constants.{at_rest}
-use Rattle.flat_faults.specs.Declaring.{words_of}
-use Rattle.flat_faults.specs.Texts.{numbers_in, alone_in, row_alone_in, case_alone_in, compared_in, stores_in, assign_exprs, compared_exprs}
-use Rattle.elab_faults.specs.Drivers.{exprs_of, block_exprs}
-use Rattle.elab_faults.specs.Stands.{blocking_lefts, row_blocking_lefts, case_blocking_lefts, nonblocking_lefts, row_nonblocking_lefts, case_nonblocking_lefts}
+use Rattle.vlog_tree_runs.specs.declared.flat.Always.{Always}
+use Rattle.vlog_tree_runs.specs.declared.flat.Flat.{Flat}
+use Rattle.vlog_tree_runs.specs.declared.flat.Signal.{Signal}
+use Rattle.vlog_tree_runs.specs.Places.{Name, Among, Place, read, holders, words_from}
+use Rattle.vlog_tree_runs.specs.Blocks.{lefts, row_lefts, case_lefts, left_names}
+use Rattle.vlog_tree_runs.specs.Contents.{is_among}
+use Rattle.vlog_tree_runs.specs.Cycles.{flat_place, DrivesBit, DrivesWord, DrivesFull, IsRegister, IsDriven, IsClocked}
+use Rattle.elab_flat_laws.proofs.Lists.{bool_cases, among_append, append_left, append_right, among_flat, flat_among, among_map, map_among}
+use Rattle.elab_flat_faults.specs.Constants.{at_rest}
+use Rattle.elab_flat_faults.specs.Declaring.{words_of}
+use Rattle.elab_flat_faults.specs.Texts.{numbers_in, alone_in, row_alone_in, case_alone_in, compared_in, stores_in, assign_exprs, compared_exprs}
+use Rattle.elab_flat_faults.specs.Drivers.{exprs_of, block_exprs}
+use Rattle.elab_flat_faults.specs.ElabStands.{blocking_lefts, row_blocking_lefts, case_blocking_lefts, nonblocking_lefts, row_nonblocking_lefts, case_nonblocking_lefts}
 use Rattle.mem_laws.specs.declared.fault.MemFault.TheVariants as m
 use Rattle.mem_laws.specs.Spread.{spread_left, spread_stmt, spread_assign, spread_block, assigned_in, idle_words, keeper, spread_flat}
 use Rattle.mem_laws.specs.Laws.{IsIndexed, SpreadsInto, IsPlainLeft, IsIndexedLeft, IsSpreadable, CanSpread}

@@ -8,14 +8,14 @@ use Rattle.std.proofs.lemmas.Bool.{eqb-true, eqb-false}
 use Rattle.std.proofs.lemmas.Slice.Eq.{bytes_eq-Decides}
 use Rattle.vlog_tree.specs.declared.valuation.Entry.{Entry}
 use Rattle.vlog_tree.specs.Valuation.{entry_at, depth_of, word_name}
-use Rattle.vlog_runs.specs.declared.flat.Signal.{Signal}
-use Rattle.vlog_runs.specs.Places.{Name, Cycle, Among, read, words_from, holders, entry_of, held_entry, entries_of}
-use Rattle.vlog_runs.specs.Blocks.{signal_at, low_in}
-use Rattle.vlog_runs.specs.Contents.{is_among}
-use Rattle.flat_laws.specs.Uses.{names_of, known}
-use Rattle.flat_laws.proofs.Lists.{bool_cases, among_append, append_left, append_right, among_flat, flat_among, map_among, map_append}
-use Rattle.flat_laws.proofs.Entries.{known_is}
-use Rattle.flat_faults.specs.Declaring.{Repeats, words_of}
+use Rattle.vlog_tree_runs.specs.declared.flat.Signal.{Signal}
+use Rattle.vlog_tree_runs.specs.Places.{Name, Cycle, Among, read, words_from, holders, entry_of, held_entry, entries_of}
+use Rattle.vlog_tree_runs.specs.Blocks.{signal_at, low_in}
+use Rattle.vlog_tree_runs.specs.Contents.{is_among}
+use Rattle.elab_flat_laws.specs.Uses.{names_of, known}
+use Rattle.elab_flat_laws.proofs.Lists.{bool_cases, among_append, append_left, append_right, among_flat, flat_among, map_among, map_append}
+use Rattle.elab_flat_laws.proofs.Entries.{known_is}
+use Rattle.elab_flat_faults.specs.Declaring.{Repeats, words_of}
 use Rattle.mem_laws.specs.Laws.{over}
 use Rattle.mem_laws.proofs.Finding.{entries, word, words_at, word_named, once_found, AreSpreadable}
 

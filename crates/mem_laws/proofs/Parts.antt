@@ -13,12 +13,12 @@ use Rattle.vlog_tree.specs.declared.stmt.Stmt.TheVariants as s
 use Rattle.vlog_tree.specs.declared.valuation.Entry.{Entry}
 use Rattle.vlog_tree.specs.Valuation.{named, depth_of}
 use Rattle.vlog_tree.specs.Value.{operand_of, own_integer, part_width, assigned}
-use Rattle.vlog_runs.specs.declared.flat.Signal.{Signal}
-use Rattle.vlog_runs.specs.Places.{Name, Cycle, Place, read, valuation, Piece, pieces, row_pieces, total, give, bit_piece, word_piece}
-use Rattle.vlog_runs.specs.Blocks.{run}
-use Rattle.flat_laws.proofs.Lists.{flat_append}
-use Rattle.flat_faults.specs.Constants.{HasConstantSpans, AllHaveConstantSpans, IsSpanConstant}
-use Rattle.elab_faults.specs.Drivers.{parts_of, row_parts_of}
+use Rattle.vlog_tree_runs.specs.declared.flat.Signal.{Signal}
+use Rattle.vlog_tree_runs.specs.Places.{Name, Cycle, Place, read, valuation, Piece, pieces, row_pieces, total, give, bit_piece, word_piece}
+use Rattle.vlog_tree_runs.specs.Blocks.{run}
+use Rattle.elab_flat_laws.proofs.Lists.{flat_append}
+use Rattle.elab_flat_faults.specs.Constants.{HasConstantSpans, AllHaveConstantSpans, IsSpanConstant}
+use Rattle.elab_flat_faults.specs.Drivers.{parts_of, row_parts_of}
 use Rattle.mem_laws.specs.Spread.{spread, spread_left, memory_store, part_store, part_length, lefts_length, bits_from, part_stores}
 use Rattle.mem_laws.specs.Laws.{IsIndexed, over, SpreadsInto, IsIndexedLeft, AreIndexedLefts, IsPlainLeft}
 use Rattle.mem_laws.proofs.Constants.{constant_means}

@@ -5,7 +5,7 @@ use Rattle.std.specs.List.{range_with_len}
 use Rattle.std.proofs.Math.Nat.{mod-eq_of_lt, mod-mod, zero-mod, div-one}
 use Rattle.std.proofs.lemmas.Bool.{lt-leb, ltb-true, ltb-false, eqb-true, eqb-false, eq-eqb, lt-ltb}
 use Rattle.std.proofs.lemmas.Nat.{pow_pos}
-use Rattle.flat_laws.proofs.Lists.{bool_cases, append_left, append_right}
+use Rattle.elab_flat_laws.proofs.Lists.{bool_cases, append_left, append_right}
 use Rattle.vlog_tree.specs.declared.expr.Expr.{Expr, Row_of-Expr, end_of-Expr, more_of-Expr}
 use Rattle.vlog_tree.specs.declared.expr.Expr.TheVariants as e
 use Rattle.vlog_tree.specs.declared.expr.Name.{Name as Read}
@@ -16,7 +16,7 @@ use Rattle.vlog_tree.specs.Value.{Operand, operand_of, row_of, own, own_value, o
 use Rattle.vlog_tree.specs.declared.expr.Expr.TheBlock.{shape-the_row-Expr-1, hidden-the_row-Expr-1}
 use denote.Hole.Carrier
 use Rattle.mem_laws.specs.Spread.{is_constant, is_fixed, read_words, is_word, word_read, chosen, memory_read, spread, spread_row, number}
-use Rattle.vlog_runs.specs.Places.{Name, Among}
+use Rattle.vlog_tree_runs.specs.Places.{Name, Among}
 use Rattle.mem_laws.specs.Uses.{whole_in, row_whole_in}
 use Rattle.mem_laws.specs.Laws.{Spreads, IsIndexed}
 use Rattle.mem_laws.proofs.Constants.{constant_names, constant_means}

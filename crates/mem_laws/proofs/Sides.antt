@@ -14,10 +14,10 @@ use Rattle.vlog_tree.specs.declared.stmt.Stmt.TheBlock.{hidden-the_row-Stmt-0}
 use Rattle.vlog_tree.specs.declared.valuation.Entry.{Entry}
 use Rattle.vlog_tree.specs.Valuation.{named, depth_of, word_name}
 use Rattle.vlog_tree.specs.Value.{Operand, operand_of, own, own_integer, own_value, bit, part_width, part_low, assigned}
-use Rattle.vlog_runs.specs.declared.flat.Signal.{Signal}
-use Rattle.vlog_runs.specs.Places.{Name, Cycle, Place, read, valuation, Piece, pieces, row_pieces, total, give, store, whole_piece, bit_piece, word_piece}
-use Rattle.vlog_runs.specs.Blocks.{run, run_row}
-use Rattle.flat_laws.proofs.Lists.{bool_cases}
+use Rattle.vlog_tree_runs.specs.declared.flat.Signal.{Signal}
+use Rattle.vlog_tree_runs.specs.Places.{Name, Cycle, Place, read, valuation, Piece, pieces, row_pieces, total, give, store, whole_piece, bit_piece, word_piece}
+use Rattle.vlog_tree_runs.specs.Blocks.{run, run_row}
+use Rattle.elab_flat_laws.proofs.Lists.{bool_cases}
 use Rattle.mem_laws.specs.Spread.{is_constant, is_fixed, named_words, spread, spread_left, spread_lefts, word_store, memory_store}
 use Rattle.mem_laws.specs.Laws.{Spreads, IsIndexed, over, SpreadsInto, IsPlainLeft, ArePlainLefts}
 use Rattle.mem_laws.proofs.Reading.{spread_means, same_name, word_named, fixed_constant, fixed_below}

@@ -17,11 +17,11 @@ use Rattle.vlog_tree.specs.declared.stmt.Stmt.TheVariants as s
 use Rattle.vlog_tree.specs.declared.valuation.Entry.{Entry}
 use Rattle.vlog_tree.specs.Valuation.{depth_of}
 use Rattle.vlog_tree.specs.Value.{operand_of, own, assigned}
-use Rattle.vlog_runs.specs.declared.flat.Signal.{Signal}
-use Rattle.vlog_runs.specs.Places.{Name, Cycle, read, valuation, Piece, pieces, total, give, store}
-use Rattle.vlog_runs.specs.Blocks.{widest, all_signed, exprs_in, is_default, labels_in, case_width, case_sign, ignored, matches, any_matches, seen, run, run_row, run_items, run_default}
-use Rattle.flat_laws.proofs.Lists.{map_append}
-use Rattle.elab_faults.specs.Drivers.{parts_of, row_parts_of}
+use Rattle.vlog_tree_runs.specs.declared.flat.Signal.{Signal}
+use Rattle.vlog_tree_runs.specs.Places.{Name, Cycle, read, valuation, Piece, pieces, total, give, store}
+use Rattle.vlog_tree_runs.specs.Blocks.{widest, all_signed, exprs_in, is_default, labels_in, case_width, case_sign, ignored, matches, any_matches, seen, run, run_row, run_items, run_default}
+use Rattle.elab_flat_laws.proofs.Lists.{map_append}
+use Rattle.elab_flat_faults.specs.Drivers.{parts_of, row_parts_of}
 use Rattle.mem_laws.specs.Spread.{spread, spread_left, lefts_length, part_stores, is_memory_word, spread_store, spread_labels, spread_stmt, spread_stmts, spread_items, memory_read, memory_store}
 use Rattle.mem_laws.specs.Laws.{IsIndexed, AreIndexed, over, SpreadsInto, IsIndexedLeft, AreIndexedLefts, IsPlainLeft, ArePlainLefts, IsStorable, IsSpreadable, AreSpreadable, AreItemsSpreadable}
 use Rattle.mem_laws.proofs.Reading.{spread_means}

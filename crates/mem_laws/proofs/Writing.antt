@@ -6,7 +6,7 @@ use Rattle.std.proofs.Math.Nat.{div-one}
 use Rattle.std.proofs.Math.Pow.{mod-mod-pow}
 use Rattle.std.proofs.lemmas.Bool.{le-ltb}
 use Rattle.std.proofs.lemmas.Nat.{field_of, mod-pow-add, shr-shr, shr_split}
-use Rattle.vlog_runs.specs.Places.{Name, Cycle, Piece, total, with_bit, write_bit, write_bits, put, give}
+use Rattle.vlog_tree_runs.specs.Places.{Name, Cycle, Piece, total, with_bit, write_bit, write_bits, put, give}
 
 -- ---- numbers
 

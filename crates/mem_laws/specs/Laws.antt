@@ -11,16 +11,16 @@ use Rattle.vlog_tree.specs.declared.stmt.Stmt.TheVariants as s
 use Rattle.vlog_tree.specs.declared.valuation.Entry.{Entry}
 use Rattle.vlog_tree.specs.Valuation.{IsLength, meaning_of, named, depth_of, word_name}
 use Rattle.vlog_tree.specs.Value.{operand_of, IsFormed, NamesOnly, HasConstantParts}
-use Rattle.vlog_runs.specs.declared.flat.Flat.{Flat}
-use Rattle.vlog_runs.specs.declared.flat.Signal.{Signal}
-use Rattle.vlog_runs.specs.declared.flat.TopPort.{TopPort}
-use Rattle.vlog_runs.specs.Places.{Name, Cycle, Among, Place, read, holders, valuation}
-use Rattle.vlog_runs.specs.Blocks.{run, exprs_in, left_names}
-use Rattle.vlog_runs.specs.Cycles.{flat_place, IsCycle, Follows, IsRun}
-use Rattle.flat_faults.specs.Constants.{at_rest, HasConstantSpans}
-use Rattle.flat_faults.specs.Declaring.{Repeats}
-use Rattle.flat_faults.specs.Texts.{numbers_in}
-use Rattle.elab_faults.specs.Drivers.{parts_of}
+use Rattle.vlog_tree_runs.specs.declared.flat.Flat.{Flat}
+use Rattle.vlog_tree_runs.specs.declared.flat.Signal.{Signal}
+use Rattle.vlog_tree_runs.specs.declared.flat.TopPort.{TopPort}
+use Rattle.vlog_tree_runs.specs.Places.{Name, Cycle, Among, Place, read, holders, valuation}
+use Rattle.vlog_tree_runs.specs.Blocks.{run, exprs_in, left_names}
+use Rattle.vlog_tree_runs.specs.Cycles.{flat_place, IsCycle, Follows, IsRun}
+use Rattle.elab_flat_faults.specs.Constants.{at_rest, HasConstantSpans}
+use Rattle.elab_flat_faults.specs.Declaring.{Repeats}
+use Rattle.elab_flat_faults.specs.Texts.{numbers_in}
+use Rattle.elab_flat_faults.specs.Drivers.{parts_of}
 use Rattle.mem_laws.specs.Spread.{spread, spread_stmt, spread_flat, lefts_length}
 use Rattle.mem_laws.specs.Stands.{IsFaultless}
 use Rattle.mem_laws.specs.Uses.{whole_in, lefts_of}

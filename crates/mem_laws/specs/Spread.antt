@@ -17,17 +17,17 @@ use Rattle.vlog_tree.specs.declared.stmt.Stmt.TheVariants as s
 use Rattle.vlog_tree.specs.declared.valuation.Entry.{Entry}
 use Rattle.vlog_tree.specs.Valuation.{named, depth_of, word_name}
 use Rattle.vlog_tree.specs.Value.{own_value, own_integer, operand_of, part_width}
-use Rattle.vlog_runs.specs.declared.flat.Always.{Always}
-use Rattle.vlog_runs.specs.declared.flat.Flat.{Flat}
-use Rattle.vlog_runs.specs.Places.{Name, read, holders}
-use Rattle.vlog_runs.specs.Blocks.{lefts, left_names}
-use Rattle.vlog_runs.specs.Contents.{is_among}
-use Rattle.vlog_runs.specs.Cycles.{flat_place}
-use Rattle.flat_laws.specs.Moved.{number_for}
-use Rattle.flat_faults.specs.Constants.{at_rest}
-use Rattle.flat_faults.specs.Declaring.{words_of}
-use Rattle.flat_faults.specs.Texts.{names_in}
-use Rattle.elab_faults.specs.Drivers.{parts_of}
+use Rattle.vlog_tree_runs.specs.declared.flat.Always.{Always}
+use Rattle.vlog_tree_runs.specs.declared.flat.Flat.{Flat}
+use Rattle.vlog_tree_runs.specs.Places.{Name, read, holders}
+use Rattle.vlog_tree_runs.specs.Blocks.{lefts, left_names}
+use Rattle.vlog_tree_runs.specs.Contents.{is_among}
+use Rattle.vlog_tree_runs.specs.Cycles.{flat_place}
+use Rattle.elab_flat_laws.specs.Moved.{number_for}
+use Rattle.elab_flat_faults.specs.Constants.{at_rest}
+use Rattle.elab_flat_faults.specs.Declaring.{words_of}
+use Rattle.elab_flat_faults.specs.Texts.{names_in}
+use Rattle.elab_flat_faults.specs.Drivers.{parts_of}
 
 -- ---- words
 

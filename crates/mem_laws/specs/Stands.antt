@@ -2,15 +2,15 @@
 use Rattle.std.specs.Prelude.{◌≡◌, ◌⊎◌, ◌<◌, true, false, length}
 use Rattle.std.specs.List.{flat_map}
 use Rattle.vlog_tree.specs.declared.item.Assign.{Assign}
-use Rattle.vlog_runs.specs.declared.flat.Always.{Always}
-use Rattle.vlog_runs.specs.declared.flat.Flat.{Flat}
-use Rattle.vlog_runs.specs.declared.flat.Signal.{Signal}
-use Rattle.vlog_runs.specs.Places.{Name, Among}
-use Rattle.vlog_runs.specs.Blocks.{left_names}
-use Rattle.flat_laws.specs.Uses.{known}
-use Rattle.flat_faults.specs.Declaring.{Repeats, words_of}
-use Rattle.flat_faults.specs.Texts.{names_in}
-use Rattle.elab_faults.specs.Stands.{Names, blocking_lefts, nonblocking_lefts}
+use Rattle.vlog_tree_runs.specs.declared.flat.Always.{Always}
+use Rattle.vlog_tree_runs.specs.declared.flat.Flat.{Flat}
+use Rattle.vlog_tree_runs.specs.declared.flat.Signal.{Signal}
+use Rattle.vlog_tree_runs.specs.Places.{Name, Among}
+use Rattle.vlog_tree_runs.specs.Blocks.{left_names}
+use Rattle.elab_flat_laws.specs.Uses.{known}
+use Rattle.elab_flat_faults.specs.Declaring.{Repeats, words_of}
+use Rattle.elab_flat_faults.specs.Texts.{names_in}
+use Rattle.elab_flat_faults.specs.ElabStands.{Names, blocking_lefts, nonblocking_lefts}
 use Rattle.mem_laws.specs.declared.fault.MemFault.{MemFault}
 use Rattle.mem_laws.specs.declared.fault.MemFault.TheVariants as m
 use Rattle.mem_laws.specs.Uses.{is_memory, lefts_of, wholes, memory_uses, Indexed}

@@ -6,10 +6,10 @@ use Rattle.vlog_tree.specs.declared.expr.Expr.{Expr, Row_of-Expr, end_of-Expr, m
 use Rattle.vlog_tree.specs.declared.expr.Expr.TheVariants as e
 use Rattle.vlog_tree.specs.declared.stmt.Lval.{Lval, Row_of-Lval, end_of-Lval, more_of-Lval}
 use Rattle.vlog_tree.specs.declared.stmt.Lval.TheVariants as l
-use Rattle.vlog_runs.specs.declared.flat.Flat.{Flat}
-use Rattle.vlog_runs.specs.Places.{Name}
-use Rattle.vlog_runs.specs.Blocks.{lefts}
-use Rattle.elab_faults.specs.Drivers.{exprs_of}
+use Rattle.vlog_tree_runs.specs.declared.flat.Flat.{Flat}
+use Rattle.vlog_tree_runs.specs.Places.{Name}
+use Rattle.vlog_tree_runs.specs.Blocks.{lefts}
+use Rattle.elab_flat_faults.specs.Drivers.{exprs_of}
 
 -- a memory of this name is declared
 abbrev pub is_memory : Flat → Name → Bool

@@ -1,14 +1,14 @@
 -- The run that rows give of a design, carried to its modules.
 use Rattle.std.proofs.Common.{List, [], ◌∷◌, ◌++◌, map, refl, sym, ◌∙◌, subst}
 use Rattle.vlog_tree.specs.declared.module.Module.{Module}
-use Rattle.vlog_runs.specs.declared.flat.Flat.{Flat}
-use Rattle.flat_laws.specs.Flattened.{KeepsRuns}
+use Rattle.vlog_tree_runs.specs.declared.flat.Flat.{Flat}
+use Rattle.elab_flat_laws.specs.Flattened.{KeepsRuns}
 use Rattle.set_tree.specs.declared.set.Set.{Set}
 use Rattle.set_tree.specs.Meaning.{Row}
-use Rattle.set_designs.specs.Designs.{CycleFrom, design_from}
-use Rattle.word_design.specs.Designs.{HasRunsOf, Parts}
-use Rattle.word_design.specs.Laws.{DesignCycle, word_design}
-use Rattle.line_designs.proofs.Carried.{from_reset, map_append, steps_to_modules, to_modules, trace}
+use Rattle.elab_step_design.specs.SetDesigns.{CycleFrom, design_from}
+use Rattle.elab_step_design.specs.Designs.{HasRunsOf, Parts}
+use Rattle.elab_step_design.specs.Laws.{DesignCycle, word_design}
+use Rattle.unroll_laws.proofs.Carried.{from_reset, map_append, steps_to_modules, to_modules, trace}
 use Rattle.path_machine.specs.Runs.{BeginsAt0, RunTracesAreTheModules, TakesRows}
 
 module _ (ms : List Module) (f : Flat) (d : Parts) (set : Set) (keeps : KeepsRuns ms set.block f) (runs : HasRunsOf f d) where

@@ -7,7 +7,7 @@ use Rattle.std.proofs.lemmas.List.Folds.{list_any_at}
 use Rattle.set_tree.specs.declared.set.Rule.{Rule}
 use Rattle.set_tree.specs.declared.set.Set.{Set}
 use Rattle.set_tree.specs.Meaning.{Meaning, Row, holds}
-use Rattle.set_sound.specs.Condition.{IsFormula}
+use Rattle.set_tree_structure.specs.Condition.{IsFormula}
 use Rattle.twin_tests.specs.Reading.{HasStructure}
 use Rattle.twin_tests.proofs.Loops.{member_is}
 use Rattle.twin_tests.proofs.Readings.{constraints_formed}

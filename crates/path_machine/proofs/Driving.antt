@@ -19,24 +19,24 @@ use Rattle.set_tree.specs.declared.set.Set.{Set}
 use Rattle.set_tree.specs.Meaning.{Row}
 use Rattle.set_tree.specs.Parts.{is_input}
 use Rattle.set_tree.specs.Runs.{IsRun}
-use Rattle.vlog_runs.specs.Places.{Among}
-use Rattle.vlog_runs.specs.Places.{Name as Text}
-use Rattle.flat_scopes.specs.Finding.{place_from}
-use Rattle.flat_scopes.proofs.Finding.{got}
+use Rattle.vlog_tree_runs.specs.Places.{Among}
+use Rattle.vlog_tree_runs.specs.Places.{Name as Text}
+use Rattle.elab_flat_scopes.specs.Finding.{place_from}
+use Rattle.elab_flat_scopes.proofs.Finding.{got}
 use Rattle.word_dag.specs.Nodes.{Naming}
-use Rattle.word_design.specs.declared.design.Net.{Net}
-use Rattle.word_design.specs.declared.design.Register.{Register}
-use Rattle.word_design.specs.Designs.{IsDesign, Parts}
-use Rattle.word_design.specs.Laws.{DesignCycle, word_design}
-use Rattle.binding.specs.declared.fault.BindFault.TheVariants as f
-use Rattle.binding.specs.Binding.{Fits, is_clock_or_reset, is_other_role, net_at}
-use Rattle.binding.specs.Binding.{is_input as is_design_input}
-use Rattle.segment_laws.specs.Segments.{cycle_number}
-use Rattle.segment_laws.specs.Tests.{rows_from}
-use Rattle.segment_laws.proofs.Fitting.{name_there}
-use Rattle.segment_laws.proofs.Holding.{input_source, register_apart}
-use Rattle.segment_laws.proofs.Running.{made, made_active, made_append, made_inactive, made_inputs, made_length, made_registers, made_run, made_trace}
-use Rattle.segment_laws.proofs.Searches.{different_text, finds, found}
+use Rattle.elab_step_design.specs.declared.design.Net.{Net}
+use Rattle.elab_step_design.specs.declared.design.Register.{Register}
+use Rattle.elab_step_design.specs.Designs.{IsDesign, Parts}
+use Rattle.elab_step_design.specs.Laws.{DesignCycle, word_design}
+use Rattle.unroll_binding.specs.declared.fault.BindFault.TheVariants as f
+use Rattle.unroll_binding.specs.Binding.{Fits, is_clock_or_reset, is_other_role, net_at}
+use Rattle.unroll_binding.specs.Binding.{is_input as is_design_input}
+use Rattle.unroll_laws.specs.Segments.{cycle_number}
+use Rattle.unroll_laws.specs.Tests.{rows_from}
+use Rattle.unroll_laws.proofs.Fitting.{name_there}
+use Rattle.unroll_laws.proofs.Holding.{input_source, register_apart}
+use Rattle.unroll_laws.proofs.Running.{made, made_active, made_append, made_inactive, made_inputs, made_length, made_registers, made_run, made_trace}
+use Rattle.unroll_laws.proofs.Searches.{different_text, finds, found}
 use Rattle.path_machine.specs.Rows.{inputs_of}
 use Rattle.path_machine.specs.Runs.{BeginsAt0, IsInputRow, IsRunTrace, TakesRows, given}
 use Rattle.path_machine.specs.Stimuli.{IsGivenBy, given_by, name_of, placed, row_at, stimulus}

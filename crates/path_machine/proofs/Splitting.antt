@@ -5,7 +5,7 @@ use Rattle.std.proofs.lemmas.List.{take_all}
 use Rattle.set_tree.specs.declared.path.At.{At}
 use Rattle.set_tree.specs.declared.set.Property.{Property}
 use Rattle.set_tree.specs.declared.set.Set.{Set}
-use Rattle.line_laws.specs.Names.{property_name}
+use Rattle.twin_tests_laws.specs.Names.{property_name}
 use Rattle.word_dag.specs.Text.{spaced}
 use Rattle.replay.proofs.Putting.{rest_of}
 use Rattle.path_machine.specs.Texts.{operations_text, step_text, transition}

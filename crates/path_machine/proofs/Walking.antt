@@ -15,7 +15,7 @@ use Rattle.set_tree.specs.Parts.{IsOperation, IsPosition, assumed, end_of, end_u
 use Rattle.set_tree.specs.Paths.{GoesFrom, endless, last, unsplit, onward, next_of, step_at}
 use Rattle.set_tree.specs.Structure.{IsSound}
 use Rattle.twin_tests.specs.Reading.{HasStructure}
-use Rattle.completeness.proofs.Chain.{first_offset-within, found_member, window-le}
+use Rattle.set_tree_completeness.proofs.Chain.{first_offset-within, found_member, window-le}
 use Rattle.path_machine.specs.Steps.{GoesOn}
 
 -- ---- the largest window

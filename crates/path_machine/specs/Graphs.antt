@@ -4,7 +4,7 @@ use Rattle.std.specs.List.{flat_map}
 use Rattle.set_tree.specs.declared.set.Length.{Length}
 use Rattle.set_tree.specs.declared.set.Property.{Property}
 use Rattle.set_tree.specs.declared.set.Set.{Set}
-use Rattle.line_laws.specs.Names.{property_name}
+use Rattle.twin_tests_laws.specs.Names.{property_name}
 use Rattle.path_machine.specs.Texts.{length_text}
 
 -- a node: the name of a property, with its name and its length as a label

@@ -3,19 +3,19 @@ use Rattle.std.specs.Prelude.{◌≡◌, ◌≢◌, ◌<◌, ◌^◌, ◌++◌, 
 use Rattle.std.specs.List.{AllZip}
 use Rattle.std.specs.Str.{bytes_eq}
 use Rattle.vlog_tree.specs.declared.module.Module.{Module}
-use Rattle.vlog_runs.specs.declared.flat.Flat.{Flat}
-use Rattle.vlog_runs.specs.Places.{Among, Cycle}
-use Rattle.vlog_runs.specs.Places.{Name as Text}
-use Rattle.flat_laws.specs.Flattened.{KeepsRuns}
+use Rattle.vlog_tree_runs.specs.declared.flat.Flat.{Flat}
+use Rattle.vlog_tree_runs.specs.Places.{Among, Cycle}
+use Rattle.vlog_tree_runs.specs.Places.{Name as Text}
+use Rattle.elab_flat_laws.specs.Flattened.{KeepsRuns}
 use Rattle.set_tree.specs.declared.set.Name.{Name}
 use Rattle.set_tree.specs.declared.set.Set.{Set}
 use Rattle.set_tree.specs.Meaning.{Row}
 use Rattle.set_tree.specs.Runs.{Design, IsRunFromReset, trace_of}
-use Rattle.set_designs.specs.Designs.{design_from}
-use Rattle.word_design.specs.declared.design.Net.{Net}
-use Rattle.word_design.specs.declared.design.Register.{Register}
-use Rattle.word_design.specs.Designs.{HasRunsOf, Parts}
-use Rattle.word_design.specs.Laws.{word_design}
+use Rattle.elab_step_design.specs.SetDesigns.{design_from}
+use Rattle.elab_step_design.specs.declared.design.Net.{Net}
+use Rattle.elab_step_design.specs.declared.design.Register.{Register}
+use Rattle.elab_step_design.specs.Designs.{HasRunsOf, Parts}
+use Rattle.elab_step_design.specs.Laws.{word_design}
 use Rattle.path_machine.specs.Rows.{inputs_of}
 
 -- the value that a row gives to a name: that of the input of this name, and 0 for any other

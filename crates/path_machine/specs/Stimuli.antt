@@ -3,7 +3,7 @@ use Rattle.std.specs.Prelude.{◌≡◌, ℕ, ℤ, pos, negsuc, ◌+ℤ◌, List
 use Rattle.std.specs.Str.{bytes_eq}
 use Rattle.set_tree.specs.declared.set.Name.{Name}
 use Rattle.set_tree.specs.Meaning.{Row}
-use Rattle.vlog_runs.specs.Places.{Name as Text}
+use Rattle.vlog_tree_runs.specs.Places.{Name as Text}
 use Rattle.word_dag.specs.Nodes.{Naming}
 
 abbrev pub name_of : Name → Text

@@ -7,7 +7,7 @@ use Rattle.set_tree.specs.declared.path.At.{At}
 use Rattle.set_tree.specs.declared.path.Path.{Path}
 use Rattle.set_tree.specs.declared.set.Property.{Property}
 use Rattle.set_tree.specs.declared.set.Set.{Set}
-use Rattle.line_laws.specs.Names.{property_name}
+use Rattle.twin_tests_laws.specs.Names.{property_name}
 use Rattle.word_dag.specs.Text.{line}
 use Rattle.path_machine.specs.declared.rows.RowFault.{RowFault}
 use Rattle.path_machine.specs.declared.rows.RowFault.TheVariants.{Long, Row, Short, Memory}

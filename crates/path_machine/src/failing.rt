@@ -1,16 +1,16 @@
 // Where a trace doesn't meet the constraints.
 ghost use Rattle.std.specs.Prelude.{◌≡◌, length, IfOk};
 ghost use Rattle.std.specs.List.{list_any};
-ghost use Rattle.set_sound.specs.Condition.{IsFormula};
+ghost use Rattle.set_tree_structure.specs.Condition.{IsFormula};
 ghost use Rattle.set_tree.specs.declared.set.Rule.{Rule};
 ghost use Rattle.set_tree.specs.Formulas.{meaning_of};
 ghost use Rattle.set_tree.specs.Traces.{IsTrace};
 ghost use Rattle.path_machine.specs.Unmet.{IsUnmet, fails};
 
-use line_judge::{holds, rows_from};
 use replay::Trace;
-use set_sound::{Sound, largest};
+use replay_eval::{holds, rows_from};
 use set_tree::Rows;
+use set_tree_structure::{Sound, largest};
 use std::alloc::{AllocError, Global};
 use vlog_tree::Expr;
 

@@ -5,8 +5,8 @@ ghost use Rattle.path_machine.specs.Texts.{length_text};
 
 use crate::texts::property_name;
 use outside::Text;
-use set_sound::Sound;
 use set_tree::{Length, Property, Set};
+use set_tree_structure::Sound;
 use std::alloc::{AllocError, Global};
 
 // A length.

@@ -7,10 +7,10 @@ ghost use Rattle.set_tree.specs.Paths.{IsPath, next_of};
 ghost use Rattle.set_tree.specs.Traces.{IsTrace};
 ghost use Rattle.path_machine.specs.Steps.{GoesOn, IsAfter};
 
-use line_judge::{end_of, is_assumed, property_at, rows_from};
 use replay::Trace;
-use set_sound::Sound;
+use replay_eval::{end_of, is_assumed, property_at, rows_from};
 use set_tree::{At, Path, Rows, Set};
+use set_tree_structure::Sound;
 use sqlite_items::Items;
 use std::alloc::{AllocError, Global};
 

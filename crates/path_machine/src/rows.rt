@@ -8,11 +8,11 @@ ghost use Rattle.path_machine.specs.Runs.{IsInputRow};
 ghost use Rattle.path_machine.specs.declared.rows.RowFault.TheVariants.{Memory};
 
 use crate::line::first_row;
-use binding::Bound;
 use set_tree::{Role, Rows, Set};
 use std::alloc::{AllocError, Global};
 use std::error::Error;
 use std::fmt;
+use unroll_binding::Bound;
 
 /// Why a stimulus is refused.
 #[derive(Debug, Drop, PartialEq, Eq)]

@@ -3,14 +3,14 @@ ghost use Rattle.std.specs.Prelude.{◌≡◌, ◌≤◌, drop, length, IfOk};
 ghost use Rattle.std.specs.List.{All};
 ghost use Rattle.replay.specs.Windows.{declared_names};
 ghost use Rattle.set_tree.specs.Traces.{IsTrace};
-ghost use Rattle.word_design.specs.Laws.{word_design};
+ghost use Rattle.elab_step_design.specs.Laws.{word_design};
 ghost use Rattle.path_machine.specs.Runs.{IsInputRow, IsRunTrace};
 
 use crate::stimulus::{Stimulus, input_names};
-use binding::Bound;
 use replay::{Trace, rows_of_source, trace_of};
 use set_tree::Rows;
 use std::alloc::{AllocError, Global};
+use unroll_binding::Bound;
 
 // The rows behind the first ones.
 fn rows_after(

@@ -1,14 +1,14 @@
 // Rows of inputs as a source of values.
 ghost use Rattle.std.specs.Prelude.{◌≡◌, ◌<◌, ℤ, ℕ, length, map, IfOk, filter};
-ghost use Rattle.flat_scopes.specs.Borrowed.{name_meant};
+ghost use Rattle.elab_flat_scopes.specs.Borrowed.{name_meant};
 ghost use Rattle.set_tree.specs.Parts.{is_input};
 ghost use Rattle.set_tree.specs.declared.set.Name.{Name};
-ghost use Rattle.segment_laws.specs.Segments.{cycle_number};
+ghost use Rattle.unroll_laws.specs.Segments.{cycle_number};
 ghost use Rattle.word_dag.specs.Nodes.{Naming};
 ghost use Rattle.path_machine.specs.Rows.{inputs_of};
 ghost use Rattle.path_machine.specs.Stimuli.{IsGivenBy, given_by, name_of, row_at, stimulus};
 
-use flat_scopes::Names;
+use elab_flat_scopes::Names;
 use replay::{Position, Source};
 use set_tree::{Role, Rows, Set};
 use std::alloc::{AllocError, Global};

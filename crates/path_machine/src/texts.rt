@@ -1,7 +1,7 @@
 // The texts of a machine, of a path and of a fault.
 ghost use Rattle.std.specs.Prelude.{◌≡◌, ◌∷◌, ◌++◌, [], List, ℕ, Option, codes, map, IfErr, IfOk, OnOk};
 ghost use Rattle.std.specs.Fmt.{decimal};
-ghost use Rattle.line_laws.specs.Names.{property_name};
+ghost use Rattle.twin_tests_laws.specs.Names.{property_name};
 ghost use Rattle.replay.specs.Puts.{Put, Refused};
 ghost use Rattle.word_dag.specs.Text.{spaced};
 ghost use Rattle.path_machine.specs.Texts.{fault_text, length_text, machine_text, operations_text, path_text, step_text, transition};
@@ -9,8 +9,8 @@ ghost use Rattle.path_machine.specs.Texts.{fault_text, length_text, machine_text
 use crate::rows::RowFault;
 use outside::{MemSink, OutFault, Sink, Text};
 use replay::{put, put_number, put_word};
-use set_sound::Sound;
 use set_tree::{At, Length, Path, Property, Set};
+use set_tree_structure::Sound;
 use std::alloc::{AllocError, Global};
 
 /// The name of the property at a position.

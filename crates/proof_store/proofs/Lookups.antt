@@ -10,7 +10,7 @@ use Rattle.outside.specs.Tables.{Tables}
 use Rattle.word_dag.specs.Nodes.{Parts}
 use Rattle.clause_check.specs.declared.formula.Cnf.{Cnf}
 use Rattle.clause_check.specs.declared.formula.Step.{Step}
-use Rattle.step_records.specs.Records.{IsRecord}
+use Rattle.proof_store_records.specs.Records.{IsRecord}
 use Rattle.job_pool.specs.Shown.{IsShown}
 use Rattle.job_pool.specs.declared.evidence.Evidence.TheVariants.{Derivation}
 use Rattle.proof_store.specs.Kept.{IsBuilt, IsKept, key_of}

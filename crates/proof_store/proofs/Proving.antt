@@ -14,7 +14,7 @@ use Rattle.clause_check.proofs.Sound.{refuted}
 use Rattle.helper_box.specs.Asked.{Passes}
 use Rattle.helper_box.specs.declared.claim.Claim.{Claim}
 use Rattle.helper_box.specs.declared.claim.Claim.TheVariants.{Nothing, Unsat, Values}
-use Rattle.step_records.specs.Records.{IsRecord, content, contents}
+use Rattle.proof_store_records.specs.Records.{IsRecord, content, contents}
 use Rattle.job_pool.specs.declared.evidence.Evidence.{Evidence}
 use Rattle.job_pool.specs.declared.evidence.Evidence.TheVariants as e
 use Rattle.job_pool.specs.Shown.{IsShown}

@@ -7,9 +7,9 @@ use Rattle.std.proofs.lemmas.Option.{same_Some}
 use Rattle.std.proofs.lemmas.List.Elements.{All-map}
 use Rattle.clause_check.specs.declared.literal.Lit.{Lit}
 use Rattle.clause_check.specs.declared.formula.Step.{Step}
-use Rattle.step_records.specs.declared.version.Version.TheVariants.{First, Second}
-use Rattle.step_records.specs.Layout.{FitsStep, mark, steps_bytes}
-use Rattle.step_records.specs.Records.{Fits, IsRecord, content, contents, version_1, version_2}
+use Rattle.proof_store_records.specs.declared.version.Version.TheVariants.{First, Second}
+use Rattle.proof_store_records.specs.Layout.{FitsStep, mark, steps_bytes}
+use Rattle.proof_store_records.specs.Records.{Fits, IsRecord, content, contents, version_1, version_2}
 use Rattle.proof_store.specs.Moves.{CanMove}
 
 all_back : (P : List Lit × List ℕ → Type 0) (steps : List Step) → All P (contents steps) → All (λ s. P (content s)) steps

@@ -5,7 +5,7 @@ use Rattle.std.specs.declared.alloc.Global.{Global}
 use Rattle.std.specs.FinMap.{get}
 use Rattle.outside.specs.Tables.{Tables, with_proof}
 use Rattle.clause_check.specs.declared.formula.Step.{Step}
-use Rattle.step_records.specs.Records.{IsRecord, version_2}
+use Rattle.proof_store_records.specs.Records.{IsRecord, version_2}
 use Rattle.job_pool.specs.declared.evidence.Evidence.TheVariants.{Derivation}
 use Rattle.proof_store.specs.Goals.{Ended}
 use Rattle.proof_store.specs.Kept.{IsProof, key_of}

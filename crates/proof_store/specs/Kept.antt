@@ -10,7 +10,7 @@ use Rattle.clause_check.specs.declared.formula.Step.{Step}
 use Rattle.clause_check.specs.Derivations.{IsRefutation}
 use Rattle.cnf_build.specs.Built.{Carries}
 use Rattle.cnf_build.specs.Lower.{netlist, ob_clauses}
-use Rattle.step_records.specs.Records.{IsRecord}
+use Rattle.proof_store_records.specs.Records.{IsRecord}
 
 -- the text of an obligation, under which its proof is kept
 abbrev pub key_of : Parts → List ℕ

@@ -6,7 +6,7 @@ use Rattle.std.specs.FinMap.{get}
 use Rattle.outside.specs.Tables.{Tables}
 use Rattle.word_dag.specs.Nodes.{Parts}
 use Rattle.clause_check.specs.declared.formula.Step.{Step}
-use Rattle.step_records.specs.Records.{IsRecord}
+use Rattle.proof_store_records.specs.Records.{IsRecord}
 use Rattle.job_pool.specs.Shown.{IsShown}
 use Rattle.job_pool.specs.declared.evidence.Evidence.TheVariants.{Derivation}
 use Rattle.proof_store.specs.Kept.{IsProof, key_of}

@@ -5,7 +5,7 @@ use Rattle.std.specs.declared.alloc.Global.{Global}
 use Rattle.std.specs.FinMap.{get, keys}
 use Rattle.outside.specs.Tables.{Tables, with_proof}
 use Rattle.clause_check.specs.declared.formula.Step.{Step}
-use Rattle.step_records.specs.Records.{Fits, FitsVersion1, HasClauses, version_1, version_2}
+use Rattle.proof_store_records.specs.Records.{Fits, FitsVersion1, HasClauses, version_1, version_2}
 use Rattle.proof_store.specs.declared.moving.Moved.{Moved}
 
 -- the bytes are a record of version 1 of steps that fit version 2, whose record of version 2 has these bytes and isn't longer

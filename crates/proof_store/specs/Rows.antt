@@ -4,7 +4,7 @@ use Rattle.std.specs.declared.alloc.Global.{Global}
 use Rattle.clause_check.specs.declared.formula.Cnf.{Cnf}
 use Rattle.clause_check.specs.declared.formula.Step.{Step}
 use Rattle.clause_check.specs.Derivations.{IsRefutation}
-use Rattle.step_records.specs.Records.{IsRecord, version_2}
+use Rattle.proof_store_records.specs.Records.{IsRecord, version_2}
 use Rattle.job_pool.specs.declared.evidence.Evidence.TheVariants.{Derivation}
 use Rattle.proof_store.specs.Goals.{Ended}
 use Rattle.proof_store.specs.Kept.{IsProof, key_of}

@@ -10,8 +10,8 @@ use crate::goal::Decided;
 use clause_check::{Cnf, Marks, Step, accept};
 use job_pool::Evidence;
 use outside::Keeper;
+use proof_store_records::{read_steps, record_fits, write_steps};
 use std::alloc::{AllocError, Global};
-use step_records::{read_steps, record_fits, write_steps};
 use word_dag::{Ob, text};
 
 /// The most bytes that a key or the bytes of a kept proof may have.

@@ -2,15 +2,15 @@
 ghost use Rattle.std.specs.Prelude.{◌≡◌, ◌<◌, ◌≤◌, ◌+◌, ◌↔◌, ℕ, List, Err, IfOk, IfSome, IsTrue, OnErr, false, length, option_map, take};
 ghost use Rattle.std.specs.FinMap.{keys};
 ghost use Rattle.outside.specs.Faults.{Rose};
-ghost use Rattle.step_records.specs.Layout.{mark};
-ghost use Rattle.step_records.specs.declared.version.Version.TheVariants.{First};
+ghost use Rattle.proof_store_records.specs.Layout.{mark};
+ghost use Rattle.proof_store_records.specs.declared.version.Version.TheVariants.{First};
 ghost use Rattle.proof_store.specs.Moves.{CouldMove, IsSecondOf, MovesRow, MovesRows, Walks};
 ghost use Rattle.proof_store.specs.Stored.{Told};
 
 use crate::fault::StoreFault;
 use outside::{Keeper, Text};
+use proof_store_records::{read_steps, record_fits, write_steps};
 use std::alloc::{AllocError, Global};
-use step_records::{read_steps, record_fits, write_steps};
 
 /// What became of the rows of proofs that a walk came to.
 #[derive(Clone, Copy, Debug, PartialEq, Eq)]

@@ -6,24 +6,24 @@ use Rattle.std.specs.Borrow.{Bor}
 use Rattle.std.specs.Option.{option_copied, option_map}
 use Rattle.std.specs.Slice.{IsItemAt}
 use Rattle.std.specs.Str.{bytes_eq}
-use Rattle.vlog_runs.specs.Places.{Name, Cycle, Among}
+use Rattle.vlog_tree_runs.specs.Places.{Name, Cycle, Among}
 use Rattle.set_tree.specs.declared.set.Name.{Name as Declared}
 use Rattle.set_tree.specs.declared.set.Set.{Set}
 use Rattle.set_tree.specs.Meaning.{Row}
-use Rattle.flat_scopes.specs.Finding.{place_in}
-use Rattle.flat_scopes.proofs.Finding.{finds_at, finds_none, got}
+use Rattle.elab_flat_scopes.specs.Finding.{place_in}
+use Rattle.elab_flat_scopes.proofs.Finding.{finds_at, finds_none, got}
 use Rattle.word_core.specs.Words.{Bits}
 use Rattle.word_dag.specs.declared.node.Node.{Node}
 use Rattle.word_dag.specs.declared.node.Node.TheVariants.{Free, Const, Two, Not, Slice, Zext, Sext, Mux}
 use Rattle.word_dag.specs.Given.{widths_of}
 use Rattle.word_dag.specs.Nodes.{FitFrom, FitsNode, Naming, dag_values, named, node_value, width_of, word_at}
 use Rattle.word_dag.proofs.Filling.{drop_all, drop_at}
-use Rattle.word_design.specs.declared.design.Register.{Register}
-use Rattle.word_design.specs.Designs.{IsDesign, Parts, naming_of, word_in}
-use Rattle.binding.specs.Binding.{Fits}
-use Rattle.segment_laws.specs.Segments.{cycle_number}
-use Rattle.segment_laws.specs.Tests.{after, held, level, number_in, register_at, row_at, rows_from, seen, shown}
-use Rattle.segment_laws.proofs.Fitting.{name_there}
+use Rattle.elab_step_design.specs.declared.design.Register.{Register}
+use Rattle.elab_step_design.specs.Designs.{IsDesign, Parts, naming_of, word_in}
+use Rattle.unroll_binding.specs.Binding.{Fits}
+use Rattle.unroll_laws.specs.Segments.{cycle_number}
+use Rattle.unroll_laws.specs.Tests.{after, held, level, number_in, register_at, row_at, rows_from, seen, shown}
+use Rattle.unroll_laws.proofs.Fitting.{name_there}
 use Rattle.unroll.specs.Copies.{IsPlaceOf}
 use Rattle.unroll.proofs.Rowing.{place_is, rows_push}
 use Rattle.replay.specs.Segments.{AreWordsAt, AreWordsBefore, register_name, register_next}

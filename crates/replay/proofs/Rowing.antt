@@ -7,10 +7,10 @@ use Rattle.set_tree.specs.declared.set.Set.{Set}
 use Rattle.set_tree.specs.Lines.{last_row}
 use Rattle.set_tree.specs.declared.set.Property.{Property}
 use Rattle.set_tree.specs.Parts.{IsPosition, property_at, window_of}
-use Rattle.set_sound.specs.Condition.{IsWellFormed}
+use Rattle.set_tree_structure.specs.Condition.{IsWellFormed}
 use Rattle.set_tree.specs.Meaning.{Row}
 use Rattle.word_dag.specs.Nodes.{Naming}
-use Rattle.line_laws.specs.Windows.{named_value, rows_from}
+use Rattle.twin_tests_laws.specs.Windows.{named_value, rows_from}
 
 -- the elements up to one more
 pub take_more : {X : Type 0} (xs : List X) (i : ℕ) (x : X) → i < length xs → x ≡ get_or xs i x → take (suc i) xs ≡ take i xs ++ x ∷ []

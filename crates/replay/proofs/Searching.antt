@@ -12,11 +12,11 @@ use Rattle.set_tree.specs.Structure.{IsSound}
 use Rattle.word_core.specs.Words.{Bits}
 use Rattle.word_dag.specs.declared.node.Node.{Node}
 use Rattle.word_dag.specs.Nodes.{Naming, root_value}
-use Rattle.word_names.specs.Names.{HasOneWordEach, naming_from}
-use Rattle.word_names.proofs.Namings.{values_have_namings}
-use Rattle.line_laws.specs.Laws.{property_of}
-use Rattle.line_laws.specs.Lines.{IsOf, RootIs1, Violates}
-use Rattle.line_laws.proofs.Testing.{end_within}
+use Rattle.word_dag.specs.Names.{HasOneWordEach, naming_from}
+use Rattle.word_dag.proofs.NamingLaws.{values_have_namings}
+use Rattle.twin_tests_laws.specs.Laws.{property_of}
+use Rattle.twin_tests_laws.specs.Lines.{IsOf, RootIs1, Violates}
+use Rattle.twin_tests_laws.proofs.Testing.{end_within}
 use Rattle.twin_tests.specs.Framing.{SpeaksOf}
 use Rattle.replay.specs.Windows.{ViolatesAt}
 

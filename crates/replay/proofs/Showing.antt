@@ -9,24 +9,24 @@ use Rattle.set_tree.specs.Lines.{IsWindow}
 use Rattle.set_tree.specs.Meaning.{Meaning}
 use Rattle.set_tree.specs.Parts.{window_of}
 use Rattle.set_tree.specs.Runs.{IsResetSegment, IsSegment, trace_of}
-use Rattle.vlog_runs.specs.Places.{Among}
+use Rattle.vlog_tree_runs.specs.Places.{Among}
 use Rattle.vlog_tree.specs.Valuation.{IsLength}
 use Rattle.word_core.specs.Words.{Bits}
 use Rattle.word_dag.specs.declared.node.Node.{Node}
 use Rattle.word_dag.specs.Nodes.{Naming, root_value}
-use Rattle.word_names.specs.Names.{HasOneWordEach, naming_from}
-use Rattle.word_names.proofs.Namings.{values_have_namings}
-use Rattle.word_design.specs.declared.design.Register.{Register}
-use Rattle.word_design.specs.Designs.{IsDesign, Parts, source}
-use Rattle.word_design.specs.Laws.{DesignCycle, word_design}
-use Rattle.binding.specs.Binding.{Fits}
-use Rattle.segment_laws.specs.Laws.{IsNamedRun}
-use Rattle.line_laws.specs.Lines.{RootIs1}
-use Rattle.segment_laws.specs.Lines.{IsOf, Violates}
-use Rattle.segment_laws.specs.Segments.{IsNamedBy}
-use Rattle.segment_laws.specs.Tests.{rows_from}
-use Rattle.segment_laws.proofs.Holding.{register_source}
-use Rattle.segment_laws.proofs.Running.{all_hold, levels_of, map_agree, rows_hold}
+use Rattle.word_dag.specs.Names.{HasOneWordEach, naming_from}
+use Rattle.word_dag.proofs.NamingLaws.{values_have_namings}
+use Rattle.elab_step_design.specs.declared.design.Register.{Register}
+use Rattle.elab_step_design.specs.Designs.{IsDesign, Parts, source}
+use Rattle.elab_step_design.specs.Laws.{DesignCycle, word_design}
+use Rattle.unroll_binding.specs.Binding.{Fits}
+use Rattle.unroll_laws.specs.Laws.{IsNamedRun}
+use Rattle.twin_tests_laws.specs.Lines.{RootIs1}
+use Rattle.unroll_laws.specs.Lines.{IsOf, Violates}
+use Rattle.unroll_laws.specs.Segments.{IsNamedBy}
+use Rattle.unroll_laws.specs.Tests.{rows_from}
+use Rattle.unroll_laws.proofs.Holding.{register_source}
+use Rattle.unroll_laws.proofs.Running.{all_hold, levels_of, map_agree, rows_hold}
 use Rattle.unroll.proofs.Leaving.{among_at, source_wide}
 use Rattle.replay.specs.declared.shown.Shown.{Shown}
 use Rattle.replay.specs.Segments.{AreViolatingCycles, ShowsNamed, ShowsSegment, first_values, last_cycle, named_start, resets_of, started}

@@ -7,14 +7,14 @@ use Rattle.set_tree.specs.declared.set.Set.{Set}
 use Rattle.set_tree.specs.Meaning.{Meaning}
 use Rattle.set_tree.specs.Parts.{window_of}
 use Rattle.set_tree.specs.Runs.{Design, ViolatesBase, ViolatesStep, ViolatesReset, ViolatesOperation, trace_of}
-use Rattle.vlog_runs.specs.Places.{Cycle, Name}
+use Rattle.vlog_tree_runs.specs.Places.{Cycle, Name}
 use Rattle.word_core.specs.Words.{Bits}
 use Rattle.word_dag.specs.Nodes.{Naming, dag_values}
-use Rattle.word_design.specs.declared.design.Register.{Register}
-use Rattle.word_design.specs.Designs.{IsDesign, Parts, naming_of}
-use Rattle.word_design.specs.Laws.{DesignCycle, word_design}
-use Rattle.segment_laws.specs.Segments.{IsNamedBy, cycle_number}
-use Rattle.segment_laws.specs.Tests.{held, rows_from}
+use Rattle.elab_step_design.specs.declared.design.Register.{Register}
+use Rattle.elab_step_design.specs.Designs.{IsDesign, Parts, naming_of}
+use Rattle.elab_step_design.specs.Laws.{DesignCycle, word_design}
+use Rattle.unroll_laws.specs.Segments.{IsNamedBy, cycle_number}
+use Rattle.unroll_laws.specs.Tests.{held, rows_from}
 use Rattle.replay.specs.declared.shown.Shown.{Shown}
 use Rattle.replay.specs.declared.shown.Start.{Start}
 use Rattle.replay.specs.Windows.{declared_names}

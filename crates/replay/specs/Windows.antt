@@ -8,10 +8,10 @@ use Rattle.set_tree.specs.Formulas.{meaning_of}
 use Rattle.set_tree.specs.Meaning.{Row}
 use Rattle.set_tree.specs.Parts.{property_at, window_of}
 use Rattle.word_dag.specs.Nodes.{Naming}
-use Rattle.line_laws.specs.Laws.{property_of}
-use Rattle.line_laws.specs.Lines.{edge_end, split_end}
-use Rattle.line_laws.specs.Windows.{named_rows}
-use Rattle.line_judge.specs.Judging.{AreViolating}
+use Rattle.twin_tests_laws.specs.Laws.{property_of}
+use Rattle.twin_tests_laws.specs.Lines.{edge_end, split_end}
+use Rattle.twin_tests_laws.specs.Windows.{named_rows}
+use Rattle.replay_eval.specs.Judging.{AreViolating}
 use Rattle.replay.specs.declared.shown.Shown.{Shown}
 use Rattle.replay.specs.declared.shown.Trace.{Trace}
 

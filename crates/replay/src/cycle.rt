@@ -1,22 +1,22 @@
 // The words of a design's nodes in the cycles of a segment whose values a source has.
 ghost use Rattle.std.specs.Prelude.{◌≡◌, ◌<◌, map, IfOk};
 ghost use Rattle.std.specs.Option.{option_map};
-ghost use Rattle.flat_scopes.specs.Borrowed.{name_meant};
+ghost use Rattle.elab_flat_scopes.specs.Borrowed.{name_meant};
 ghost use Rattle.word_dag.specs.Given.{widths_of};
 ghost use Rattle.word_dag.specs.Nodes.{FitsNode, Naming, named, node_value, width_of, word_at};
-ghost use Rattle.word_design.specs.Designs.{naming_of};
-ghost use Rattle.segment_laws.specs.Tests.{held, register_at};
+ghost use Rattle.elab_step_design.specs.Designs.{naming_of};
+ghost use Rattle.unroll_laws.specs.Tests.{held, register_at};
 ghost use Rattle.replay.specs.Segments.{AreWordsAt, AreWordsBefore, register_name, register_next};
 
 use crate::source::{Position, Source};
 use crate::window::cut;
-use binding::Bound;
-use flat_scopes::Names;
+use elab_flat_scopes::Names;
+use elab_step_design::Design;
 use std::alloc::{AllocError, Global};
 use unroll::level;
+use unroll_binding::Bound;
 use word_core::Word;
 use word_dag::{Node, value_of};
-use word_design::Design;
 
 /// The names of a design's registers, each found at once.
 pub fn register_names<'a>(alloc: Global, design: &'a Design) -> Result<Names<'a>, AllocError>

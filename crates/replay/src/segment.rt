@@ -5,10 +5,10 @@ ghost use Rattle.vlog_tree.specs.Valuation.{IsLength};
 ghost use Rattle.set_tree.specs.Formulas.{meaning_of};
 ghost use Rattle.word_core.specs.Words.{Bits};
 ghost use Rattle.word_dag.specs.Nodes.{Naming, root_value, word_at};
-ghost use Rattle.word_design.specs.declared.design.Register.{Register as Registers};
-ghost use Rattle.word_names.specs.Names.{HasOneWordEach, naming_from};
-ghost use Rattle.segment_laws.specs.Lines.{IsOf};
-ghost use Rattle.segment_laws.specs.Tests.{rows_from};
+ghost use Rattle.elab_step_design.specs.declared.design.Register.{Register as Registers};
+ghost use Rattle.word_dag.specs.Names.{HasOneWordEach, naming_from};
+ghost use Rattle.unroll_laws.specs.Lines.{IsOf};
+ghost use Rattle.unroll_laws.specs.Tests.{rows_from};
 ghost use Rattle.twin_tests.specs.Framing.{SpeaksOf};
 ghost use Rattle.unroll.specs.Copies.{IsPlaceOf};
 ghost use Rattle.unroll.specs.Named.{line_of};
@@ -21,15 +21,15 @@ use crate::source::{Position, Source};
 use crate::twin::{trace_of, window_of};
 use crate::values::{Values, value_at, values_of};
 use crate::window::cut;
-use binding::Bound;
+use elab_step_design::Register;
 use outside::Text;
-use set_sound::Sound;
 use set_tree::Rows;
+use set_tree_structure::Sound;
 use std::alloc::{AllocError, Global};
 use unroll::{DesignLine, Moment, cycle_of, places_of};
+use unroll_binding::Bound;
 use word_core::Word;
 use word_dag::Ob;
-use word_design::Register;
 
 // How many reset cycles stand before the cycles of a line.
 fn resets_of(set: &Sound, line: DesignLine) -> u8

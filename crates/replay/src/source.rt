@@ -1,7 +1,7 @@
 // Where the values of a segment's registers and inputs come from.
 ghost use Rattle.std.specs.Prelude.{◌≡◌, ◌<◌, ℕ};
 ghost use Rattle.word_dag.specs.Nodes.{Naming};
-ghost use Rattle.segment_laws.specs.Segments.{cycle_number};
+ghost use Rattle.unroll_laws.specs.Segments.{cycle_number};
 ghost use Rattle.replay.specs.Values.{AreOf};
 
 use crate::values::{Values, value_at};

@@ -3,7 +3,7 @@ ghost use Rattle.std.specs.Prelude.{◌≡◌, ℕ, ◌∷◌, List, IfOk, OnOk,
 ghost use Rattle.std.specs.HashMap.{get};
 ghost use Rattle.word_dag.specs.declared.node.Node.{Node as DagNode};
 ghost use Rattle.word_dag.specs.Nodes.{Naming};
-ghost use Rattle.word_names.specs.Names.{naming_from};
+ghost use Rattle.word_dag.specs.Names.{naming_from};
 ghost use Rattle.replay.specs.declared.values.Word.{Word as FreeWord};
 ghost use Rattle.replay.specs.Values.{same_word, AreOf};
 

@@ -3,7 +3,7 @@ ghost use Rattle.std.specs.Prelude.{◌≡◌, ℕ, ◌%◌, ◌^◌, map, IfOk}
 ghost use Rattle.std.specs.List.{All};
 ghost use Rattle.vlog_tree.specs.Valuation.{IsLength};
 ghost use Rattle.word_dag.specs.Nodes.{Naming};
-ghost use Rattle.line_laws.specs.Windows.{side_of, named_value, rows_from};
+ghost use Rattle.twin_tests_laws.specs.Windows.{side_of, named_value, rows_from};
 ghost use Rattle.replay.specs.Values.{AreOf};
 
 use crate::values::{Values, value_at};

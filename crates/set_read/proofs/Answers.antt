@@ -2,19 +2,19 @@
 use Rattle.std.proofs.Common.{◌≡◌, ℕ, ◌≤◌, List, true, Result, Ok, Err, refl, arith}
 use Rattle.std.specs.Prelude.{IfOk, IfErr}
 use Rattle.vlog_tree.specs.declared.token.Token.{Token}
-use Rattle.vlog_lex.specs.declared.error.ReadFault.{ReadFault}
-use Rattle.vlog_lex.specs.declared.error.ReadFault.TheVariants as lex
-use Rattle.vlog_lex.specs.declared.piece.Piece.{Piece}
-use Rattle.vlog_lex.specs.declared.piece.Piece.TheVariants as piece
-use Rattle.vlog_lex.specs.Pieces.{plain_at, seen, piece_at}
-use Rattle.vlog_lex.specs.Tokens.{Lexes, HasFault}
-use Rattle.vlog_lex.specs.Tokens.{NamesByte as LexNamesByte}
+use Rattle.vlog_read_lex.specs.declared.error.ReadFault.{ReadFault}
+use Rattle.vlog_read_lex.specs.declared.error.ReadFault.TheVariants as lex
+use Rattle.vlog_read_lex.specs.declared.piece.Piece.{Piece}
+use Rattle.vlog_read_lex.specs.declared.piece.Piece.TheVariants as piece
+use Rattle.vlog_read_lex.specs.Pieces.{plain_at, seen, piece_at}
+use Rattle.vlog_read_lex.specs.Tokens.{Lexes, HasFault}
+use Rattle.vlog_read_lex.specs.Tokens.{NamesByte as LexNamesByte}
 use Rattle.set_tree.specs.declared.set.Set.{Set}
 use Rattle.set_tree.specs.declared.text.SetText.{SetText}
 use Rattle.set_tree.specs.Spelling.{SpellsSet}
-use Rattle.set_lookup.specs.declared.wrong.Wrong.{Wrong}
-use Rattle.set_lookup.specs.declared.wrong.Wrong.TheVariants as wrong
-use Rattle.set_lookup.specs.Faults.{Stands}
+use Rattle.set_read_lookup.specs.declared.wrong.Wrong.{Wrong}
+use Rattle.set_read_lookup.specs.declared.wrong.Wrong.TheVariants as wrong
+use Rattle.set_read_lookup.specs.Faults.{Stands}
 use Rattle.set_read.specs.Answers.{IsLong}
 use Rattle.set_read.specs.Heights.{set_height}
 use Rattle.set_read.specs.Parts.{DeniesSets}

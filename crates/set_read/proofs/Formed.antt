@@ -3,9 +3,9 @@ use Rattle.std.proofs.Common.{List, ℕ, Result, Ok, Err}
 use Rattle.std.specs.Prelude.{IfOk}
 use Rattle.vlog_tree.specs.declared.token.Token.{Token}
 use Rattle.set_tree.specs.declared.set.Set.{Set}
-use Rattle.set_sound.specs.Condition.{IsWellFormed}
-use Rattle.set_lookup.proofs.WellFormed.{well_formed}
-use Rattle.set_lookup.proofs.Undivided.{is_spelt}
+use Rattle.set_tree_structure.specs.Condition.{IsWellFormed}
+use Rattle.set_read_lookup.proofs.WellFormed.{well_formed}
+use Rattle.set_read_lookup.proofs.Undivided.{is_spelt}
 use Rattle.set_read.specs.declared.fault.SetFault.{SetFault}
 use Rattle.set_read.specs.Read.{SpellsTokens}
 

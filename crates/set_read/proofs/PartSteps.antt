@@ -6,8 +6,8 @@ use Rattle.vlog_tree.specs.declared.expr.Expr.{Expr}
 use Rattle.vlog_tree.specs.Signs.{IsSign, IsWord}
 use Rattle.vlog_tree.specs.Lists.{Maybe, Separated, Comma, highest_of}
 use Rattle.vlog_tree.specs.Spelling.{IsPath, Spells, height}
-use Rattle.vlog_spell.proofs.Tokens.{two_signs, two_words}
-use Rattle.vlog_spell.proofs.Names.{name_begins}
+use Rattle.vlog_read_spelling.proofs.Tokens.{two_signs, two_words}
+use Rattle.vlog_read_spelling.proofs.Names.{name_begins}
 use Rattle.set_tree.specs.declared.set.Role.{Role}
 use Rattle.set_tree.specs.declared.set.Role.TheVariants as role
 use Rattle.set_tree.specs.declared.text.Bits.{Bits}

@@ -8,20 +8,20 @@ use Rattle.vlog_tree.specs.declared.token.Kind.TheVariants as k
 use Rattle.vlog_tree.specs.declared.token.Number.{Number}
 use Rattle.vlog_tree.specs.declared.token.Token.{Token}
 use Rattle.vlog_tree.specs.Signs.{kind_at}
-use Rattle.vlog_lex.specs.declared.class.Base.{Base}
-use Rattle.vlog_lex.specs.declared.number.Size.{Size}
-use Rattle.vlog_lex.specs.declared.number.Size.TheVariants as size
-use Rattle.vlog_lex.specs.declared.piece.Piece.{Piece}
-use Rattle.vlog_lex.specs.declared.piece.Piece.TheVariants as piece
-use Rattle.vlog_lex.specs.Numbers.{base_of, size_of, has_unknown, decimal_of, decimal_number, sized_number, based_number, is_spelt, fit, value, has_wild}
-use Rattle.vlog_lex.specs.Pieces.{gap_to, number_piece, digits_at, based_by, based_at, quoted_at, number_at, sign_at, slash_at, paren_at, tick_at, dollar_at, word_at, plain_at, seen, piece_at, is_skipped, is_function}
-use Rattle.vlog_lex.specs.Places.{has_pair, run_end, closing}
-use Rattle.vlog_lex.specs.Bytes.{is_space, is_digit, is_letter}
-use Rattle.vlog_lex.specs.Signs.{is_outside_sign, sign_size}
-use Rattle.vlog_words.specs.Words.{is_outside_word}
-use Rattle.vlog_lex.specs.declared.class.Base.TheVariants as base
-use Rattle.vlog_lex.specs.declared.class.Class.TheVariants as class
-use Rattle.vlog_lex.specs.Tokens.{Pieces, none, gap, token, Lexes}
+use Rattle.vlog_read_lex.specs.declared.class.Base.{Base}
+use Rattle.vlog_read_lex.specs.declared.number.Size.{Size}
+use Rattle.vlog_read_lex.specs.declared.number.Size.TheVariants as size
+use Rattle.vlog_read_lex.specs.declared.piece.Piece.{Piece}
+use Rattle.vlog_read_lex.specs.declared.piece.Piece.TheVariants as piece
+use Rattle.vlog_read_lex.specs.Numbers.{base_of, size_of, has_unknown, decimal_of, decimal_number, sized_number, based_number, is_spelt, fit, value, has_wild}
+use Rattle.vlog_read_lex.specs.Pieces.{gap_to, number_piece, digits_at, based_by, based_at, quoted_at, number_at, sign_at, slash_at, paren_at, tick_at, dollar_at, word_at, plain_at, seen, piece_at, is_skipped, is_function}
+use Rattle.vlog_read_lex.specs.Places.{has_pair, run_end, closing}
+use Rattle.vlog_read_lex.specs.Bytes.{is_space, is_digit, is_letter}
+use Rattle.vlog_read_lex.specs.Signs.{is_outside_sign, sign_size}
+use Rattle.vlog_read_lex.specs.Words.{is_outside_word}
+use Rattle.vlog_read_lex.specs.declared.class.Base.TheVariants as base
+use Rattle.vlog_read_lex.specs.declared.class.Class.TheVariants as class
+use Rattle.vlog_read_lex.specs.Tokens.{Pieces, none, gap, token, Lexes}
 
 abbrev pub IsSmall : Number → Type 0
 IsSmall n = n.plain ≡ true → n.value < 2 ^ 32

@@ -8,7 +8,7 @@ use Rattle.vlog_tree.specs.declared.expr.Expr.{Expr}
 use Rattle.vlog_tree.specs.Signs.{IsSign, IsWord}
 use Rattle.vlog_tree.specs.Lists.{Maybe, Sequence, Separated, Comma}
 use Rattle.vlog_tree.specs.Spelling.{IsNamed, Spells}
-use Rattle.vlog_spell.proofs.Tokens.{kind_within, two_words}
+use Rattle.vlog_read_spelling.proofs.Tokens.{kind_within, two_words}
 use Rattle.set_tree.specs.declared.set.Role.TheVariants as role
 use Rattle.set_tree.specs.declared.text.CoverText.{CoverText}
 use Rattle.set_tree.specs.declared.text.Declaration.{Declaration}

@@ -16,8 +16,8 @@ use Rattle.set_tree.specs.declared.text.EndText.TheVariants as to
 use Rattle.set_tree.specs.declared.text.PropertyText.{PropertyText}
 use Rattle.set_tree.specs.declared.text.SetText.{SetText}
 use Rattle.set_tree.specs.Spelling.{IsDigits, SpellsBits, SpellsDeclaration, SpellsDistance, SpellsEnd, SpellsCover, SpellsProperty, SpellsOperation, SpellsSet}
-use Rattle.set_lookup.specs.Meaning.{low_of}
-use Rattle.set_lookup.specs.Faults.{is_small_end, is_small_cover, HasSmallNumbers}
+use Rattle.set_read_lookup.specs.Meaning.{low_of}
+use Rattle.set_read_lookup.specs.Faults.{is_small_end, is_small_cover, HasSmallNumbers}
 use Rattle.set_read.proofs.PlainNumbers.{IsSmall}
 
 all_by : {A : Type 0} (P : ℕ → A → ℕ → Type 0) (p : A → Bool) → ((i : ℕ) (x : A) (j : ℕ) → P i x j → p x ≡ true) → (xs : List A) (i j : ℕ) → Sequence P i xs j → list_all p xs ≡ true

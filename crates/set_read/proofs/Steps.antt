@@ -6,12 +6,12 @@ use Rattle.vlog_tree.specs.declared.expr.Expr.{Expr}
 use Rattle.vlog_tree.specs.Signs.{IsSign}
 use Rattle.vlog_tree.specs.Lists.{More, Separated, Sequence, highest}
 use Rattle.vlog_tree.specs.Spelling.{IsPath, Spells, Reads}
-use Rattle.vlog_spell.proofs.Tokens.{Stops, stops_comma, stops_semicolon, two_signs}
-use Rattle.vlog_spell.proofs.Forms.{height_pos, length_of, within}
-use Rattle.vlog_spell.proofs.Names.{one_path, name_long}
-use Rattle.vlog_spell.proofs.Reading.{stop_ends, level_pos, unique}
-use Rattle.vlog_lex.specs.declared.error.ReadFault.{ReadFault}
-use Rattle.vlog_lex.specs.declared.error.ReadFault.TheVariants as lex
+use Rattle.vlog_read_spelling.proofs.Tokens.{Stops, stops_comma, stops_semicolon, two_signs}
+use Rattle.vlog_read_spelling.proofs.Forms.{height_pos, length_of, within}
+use Rattle.vlog_read_spelling.proofs.Names.{one_path, name_long}
+use Rattle.vlog_read_spelling.proofs.Reading.{stop_ends, level_pos, unique}
+use Rattle.vlog_read_lex.specs.declared.error.ReadFault.{ReadFault}
+use Rattle.vlog_read_lex.specs.declared.error.ReadFault.TheVariants as lex
 use Rattle.vlog_read_expr.specs.Answers.{Refusal}
 use Rattle.vlog_read_expr.specs.Names.{Lacks, ReadsPath}
 use Rattle.set_read.specs.declared.fault.TextFault.{TextFault}

@@ -2,8 +2,8 @@
 use Rattle.std.specs.Prelude.{ℕ, ◌+◌, ◌<◌, ◌≡◌, ◌⊎◌, List, length, Result, Ok, Err, codes}
 use Rattle.vlog_tree.specs.declared.token.Token.{Token}
 use Rattle.vlog_tree.specs.Signs.{IsSign, IsWord}
-use Rattle.vlog_lex.specs.declared.error.ReadFault.{ReadFault}
-use Rattle.vlog_lex.specs.declared.error.ReadFault.TheVariants as lex
+use Rattle.vlog_read_lex.specs.declared.error.ReadFault.{ReadFault}
+use Rattle.vlog_read_lex.specs.declared.error.ReadFault.TheVariants as lex
 use Rattle.set_tree.specs.declared.set.Role.{Role}
 use Rattle.set_tree.specs.declared.text.RuleKind.{RuleKind}
 use Rattle.set_tree.specs.Spelling.{role_word, rule_word}

@@ -4,16 +4,16 @@ use Rattle.vlog_tree.specs.declared.token.Kind.TheVariants as k
 use Rattle.vlog_tree.specs.declared.token.Number.{Number}
 use Rattle.vlog_tree.specs.declared.token.Token.{Token}
 use Rattle.vlog_tree.specs.Signs.{kind_at}
-use Rattle.vlog_lex.specs.declared.error.ReadFault.{ReadFault}
-use Rattle.vlog_lex.specs.declared.error.ReadFault.TheVariants as lex
-use Rattle.vlog_lex.specs.Tokens.{Lexes, HasFault}
+use Rattle.vlog_read_lex.specs.declared.error.ReadFault.{ReadFault}
+use Rattle.vlog_read_lex.specs.declared.error.ReadFault.TheVariants as lex
+use Rattle.vlog_read_lex.specs.Tokens.{Lexes, HasFault}
 use Rattle.set_tree.specs.declared.set.Set.{Set}
 use Rattle.set_tree.specs.declared.text.SetText.{SetText}
 use Rattle.set_tree.specs.Spelling.{SpellsSet}
-use Rattle.set_lookup.specs.declared.wrong.Wrong.{Wrong}
-use Rattle.set_lookup.specs.declared.wrong.Wrong.TheVariants as wrong
-use Rattle.set_lookup.specs.Meaning.{Means}
-use Rattle.set_lookup.specs.Faults.{IsValid, StandsUnknown, StandsTwice, StandsLimit}
+use Rattle.set_read_lookup.specs.declared.wrong.Wrong.{Wrong}
+use Rattle.set_read_lookup.specs.declared.wrong.Wrong.TheVariants as wrong
+use Rattle.set_read_lookup.specs.Meaning.{Means}
+use Rattle.set_read_lookup.specs.Faults.{IsValid, StandsUnknown, StandsTwice, StandsLimit}
 use Rattle.set_read.specs.Heights.{set_height}
 use Rattle.set_read.specs.declared.fault.SetFault.{SetFault}
 use Rattle.set_read.specs.declared.fault.TextFault.{TextFault}

@@ -1,14 +1,14 @@
 ghost use Rattle.std.specs.Prelude.{◌≡◌, ℕ, List};
 ghost use Rattle.vlog_tree.specs.declared.token.Token.{Token};
-ghost use Rattle.vlog_lex.specs.Tokens.{LieWithin};
+ghost use Rattle.vlog_read_lex.specs.Tokens.{LieWithin};
 ghost use Rattle.set_read.specs.Read.{of_tokens, of_text, of_wrong, NamesByte, RefusesTokens};
 ghost use Rattle.set_read.specs.declared.fault.SetFault.TheVariants.{Memory};
 ghost use Rattle.set_read.specs.declared.fault.TextFault.TheVariants as text;
 
 use outside::Text;
-use set_lookup::{Quantity, Wrong};
+use set_read_lookup::{Quantity, Wrong};
 use std::alloc::{AllocError, AllocFailed};
-use vlog_lex::{ReadFault, byte_of};
+use vlog_read_lex::{ReadFault, byte_of};
 use vlog_tree::Token;
 
 /// Why a text is refused. The numbers are places of bytes.

@@ -9,4 +9,4 @@ mod tokens;
 
 pub use fault::SetFault;
 pub use read::read_set;
-pub use set_lookup::Quantity;
+pub use set_read_lookup::Quantity;

@@ -35,7 +35,7 @@ use vlog_read_expr::{after, is_sign, is_word};
 use vlog_tree::{Expr, Token};
 
 /// `signed`, where it stands.
-#[tactic(auto, using(vlog_spell::proofs::Tokens::kind_within))]
+#[tactic(auto, using(vlog_read_spelling::proofs::Tokens::kind_within))]
 fn signed(tokens: &[Token], at: usize) -> (bool, usize)
     ensures spelt { SpellsSigned tokens.now at result.0 result.1 }
     ensures past { at ≤ result.1 }

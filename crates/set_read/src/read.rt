@@ -1,17 +1,17 @@
 // The reader of a set.
 ghost use Rattle.std.specs.Prelude.{ℕ, ◌≤◌, IfOk, IfErr, length};
-ghost use Rattle.vlog_lex.specs.Tokens.{LieWithin};
+ghost use Rattle.vlog_read_lex.specs.Tokens.{LieWithin};
 ghost use Rattle.set_tree.specs.Spelling.{SpellsSet};
-ghost use Rattle.set_sound.specs.Condition.{IsWellFormed};
+ghost use Rattle.set_tree_structure.specs.Condition.{IsWellFormed};
 ghost use Rattle.set_read.specs.Heights.{set_height};
 ghost use Rattle.set_read.specs.Read.{Spells, SpellsTokens, HasSmallDigits, NamesByte, Refuses, RefusesTokens};
 
 use crate::fault::{SetFault, of_text, of_tokens, of_wrong};
 use crate::property::set_text;
-use set_lookup::look_up;
+use set_read_lookup::look_up;
 use set_tree::{Set, SetText};
 use std::alloc::Global;
-use vlog_lex::read_tokens;
+use vlog_read_lex::read_tokens;
 use vlog_tree::Token;
 
 /// The set of a text that tokens spell.

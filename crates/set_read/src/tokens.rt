@@ -10,8 +10,8 @@ use crate::fault::TextFault;
 use outside::Text;
 use sqlite_items::Items;
 use std::alloc::Global;
-use vlog_lex::ReadFault;
 use vlog_read_expr::{after, identifier, is_sign, is_word, kind_at, read_path, read_tree};
+use vlog_read_lex::ReadFault;
 use vlog_tree::{Expr, Kind, Token};
 
 /// The refusal of the reader of expressions.

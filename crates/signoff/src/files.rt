@@ -1,6 +1,6 @@
 // The files of a job, read again for what standard error says of them.
-use command_words::Job;
 use outside::{FileShelf, OutFault, Shelf, Text};
+use signoff_words::Job;
 use std::alloc::{AllocError, Global};
 
 /// The most bytes of a text.

@@ -10,7 +10,7 @@ mod summary;
 use crate::note::put_note;
 use crate::progress::{Wish, wish_of};
 use crate::summary::put_summary;
-use reports::Book;
+use desk_core_reports::Book;
 use signoff_objects::answer;
 use std::alloc::AllocError;
 use std::env;

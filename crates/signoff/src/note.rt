@@ -1,19 +1,19 @@
 // What standard error says of a refusal, and of a counterexample. The status and what went to standard output stand before, and don't depend on it.
 use crate::files::read_again;
-use asked_lines::all_lines;
-use binding::Bound;
-use check_faults::CheckFault;
-use check_stages::bound_of;
-use command_words::{Command, Job, Task, command_in};
-use fault_places::{Files, Texts, explained, usage, version};
-use line_laws::line_name;
+use desk_core_faults::CheckFault;
+use desk_core_goals::all_lines;
+use desk_core_reports::{Book, Which};
+use desk_core_stages::bound_of;
 use outside::Text;
 use replay::Shown;
-use reports::{Book, Which};
 use set_tree::Line;
+use signoff_faults::{Files, Texts, explained, usage, version};
+use signoff_notes::{SetFile, trace_note};
+use signoff_words::{Command, Job, Task, command_in};
 use std::alloc::{AllocError, Global};
 use std::io::Write;
-use trace_notes::{SetFile, trace_note};
+use twin_tests_laws::line_name;
+use unroll_binding::Bound;
 
 /// Says on standard error where and why the words were refused with a status, how the program is called, or what the counterexample shows that the book
 /// has. Where that can't be said, as for want of memory, nothing is.

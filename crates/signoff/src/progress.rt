@@ -1,14 +1,14 @@
 // What standard error is to say while lines are decided, and at the end.
 use crate::files::read_again;
-use asked_lines::all_lines;
-use binding::Bound;
-use check_stages::bound_of;
-use command_words::{Command, Job, Task, command_in};
-use reports::Which;
+use desk_core_goals::all_lines;
+use desk_core_reports::Which;
+use desk_core_stages::bound_of;
 use set_tree::Line;
 use signoff_objects::Told;
+use signoff_words::{Command, Job, Task, command_in};
 use std::alloc::{AllocError, Global};
 use std::io::IsTerminal;
+use unroll_binding::Bound;
 
 /// What is to be said while lines are decided, and whether there is a summary.
 #[derive(Clone, Copy)]

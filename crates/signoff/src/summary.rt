@@ -1,5 +1,5 @@
 // What standard error says at the end, where progress is wanted.
-use reports::{Book, Verdict};
+use desk_core_reports::{Book, Verdict};
 use std::io;
 use std::io::Write;
 use std::time::Instant;

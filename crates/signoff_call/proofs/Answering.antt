@@ -10,38 +10,38 @@ use Rattle.proof_store.specs.declared.moving.Moved.{Moved}
 use Rattle.proof_store.specs.Moves.{MovesRows, Walks}
 use Rattle.proof_store.specs.Stored.{AddsProofs, Told}
 use Rattle.word_dag.specs.Nodes.{Parts}
-use Rattle.binding.specs.Binding.{Pair}
-use Rattle.check_stages.specs.Stages.{IsBoundOf, Refuses as RefusesStage}
+use Rattle.unroll_binding.specs.Binding.{Pair}
+use Rattle.desk_core_stages.specs.Stages.{IsBoundOf, Refuses as RefusesStage}
 use Rattle.path_machine.specs.declared.rows.RowFault.{RowFault}
 use Rattle.path_machine.specs.declared.rows.RowFault.TheVariants.{Memory as NoMemory}
 use Rattle.path_machine.specs.Rows.{Stands}
 use Rattle.path_machine.specs.Texts.{fault_text, path_text}
-use Rattle.clause_texts.specs.declared.fault.ProofFault.{ProofFault}
-use Rattle.clause_texts.specs.Faults.{fault_text as proof_fault_text}
-use Rattle.line_clauses.specs.declared.fault.KeepFault.TheVariants.{Large}
-use Rattle.line_clauses.specs.Keeping.{RefusesProof, RefusesText}
-use Rattle.check_faults.specs.declared.fault.CheckFault.{CheckFault}
-use Rattle.check_faults.specs.declared.fault.CheckFault.TheVariants as f
-use Rattle.fault_texts.specs.Texts.{fault_line, status_of}
-use Rattle.reports.specs.declared.book.Book.{Book}
-use Rattle.reports.specs.declared.book.Verdict.{Verdict}
-use Rattle.reports.specs.declared.report.Report.{Report}
-use Rattle.reports.specs.declared.which.Which.{Which}
-use Rattle.reports.specs.declared.which.Which.TheVariants as w
-use Rattle.asked_lines.specs.Settled.{AddsProofsOf}
-use Rattle.reports.specs.Lines.{is_proved}
+use Rattle.clause_check_texts.specs.declared.fault.ProofFault.{ProofFault}
+use Rattle.clause_check_texts.specs.Faults.{fault_text as proof_fault_text}
+use Rattle.desk_core_goals.specs.declared.keep_fault.KeepFault.TheVariants.{Large}
+use Rattle.desk_core_goals.specs.Keeping.{RefusesProof, RefusesText}
+use Rattle.desk_core_faults.specs.declared.fault.CheckFault.{CheckFault}
+use Rattle.desk_core_faults.specs.declared.fault.CheckFault.TheVariants as f
+use Rattle.desk_core_faults.specs.Texts.{fault_line, status_of}
+use Rattle.desk_core_reports.specs.declared.book.Book.{Book}
+use Rattle.desk_core_reports.specs.declared.book.Verdict.{Verdict}
+use Rattle.desk_core_reports.specs.declared.report.Report.{Report}
+use Rattle.desk_core_reports.specs.declared.which.Which.{Which}
+use Rattle.desk_core_reports.specs.declared.which.Which.TheVariants as w
+use Rattle.desk_core_goals.specs.Settled.{AddsProofsOf}
+use Rattle.desk_core_reports.specs.Lines.{is_proved}
 use Rattle.desk_core.specs.Checks.{AreObsOfTexts, IsReport, Refuses}
 use Rattle.meet_lines.specs.Meetings.{AreObsOfTexts as AreMeetObsOfTexts, IsMeetReport, Refuses as RefusesMeet}
-use Rattle.http_connection.specs.declared.serve.ServeFault.{ServeFault}
-use Rattle.http_connection.specs.declared.serve.ServeFault.TheVariants.{Memory, Next}
+use Rattle.desk_http_connection.specs.declared.serve.ServeFault.{ServeFault}
+use Rattle.desk_http_connection.specs.declared.serve.ServeFault.TheVariants.{Memory, Next}
 use Rattle.desk_http.specs.Serving.{Line as Wires, ServesMany, ServesQuota, State, StopsWithin, none}
 use Rattle.demo_gen.specs.Texts.{module_text, set_text}
-use Rattle.command_words.specs.declared.action.Command.{Command}
-use Rattle.command_words.specs.declared.action.Command.TheVariants as c
-use Rattle.command_words.specs.declared.action.Job.{Job}
-use Rattle.command_words.specs.declared.action.Service.{Service}
-use Rattle.command_words.specs.declared.action.Task.{Task}
-use Rattle.command_words.specs.declared.action.Task.TheVariants as t
+use Rattle.signoff_words.specs.declared.action.Command.{Command}
+use Rattle.signoff_words.specs.declared.action.Command.TheVariants as c
+use Rattle.signoff_words.specs.declared.action.Job.{Job}
+use Rattle.signoff_words.specs.declared.action.Service.{Service}
+use Rattle.signoff_words.specs.declared.action.Task.{Task}
+use Rattle.signoff_words.specs.declared.action.Task.TheVariants as t
 use Rattle.signoff_call.specs.declared.answer.Answer.{Answer}
 use Rattle.signoff_call.specs.declared.files.Read.{Read}
 use Rattle.signoff_call.specs.declared.files.Read.TheVariants.{All, NoModule, NoThird, NoSet}

@@ -11,16 +11,16 @@ use Rattle.set_tree.specs.Paths.{IsPath}
 use Rattle.set_tree.specs.declared.path.Path.{Path}
 use Rattle.outside.specs.Faults.{Rose}
 use Rattle.outside.specs.Tables.{Tables}
-use Rattle.check_faults.specs.declared.fault.CheckFault.{CheckFault}
-use Rattle.check_faults.specs.declared.fault.CheckFault.TheVariants as f
-use Rattle.fault_texts.specs.Texts.{fault_line, status_of}
-use Rattle.binding.specs.Binding.{Pair}
-use Rattle.check_stages.specs.Stages.{IsBoundOf, Refuses as RefusesStage}
+use Rattle.desk_core_faults.specs.declared.fault.CheckFault.{CheckFault}
+use Rattle.desk_core_faults.specs.declared.fault.CheckFault.TheVariants as f
+use Rattle.desk_core_faults.specs.Texts.{fault_line, status_of}
+use Rattle.unroll_binding.specs.Binding.{Pair}
+use Rattle.desk_core_stages.specs.Stages.{IsBoundOf, Refuses as RefusesStage}
 use Rattle.path_machine.specs.declared.rows.RowFault.{RowFault}
 use Rattle.path_machine.specs.declared.rows.RowFault.TheVariants.{Memory}
 use Rattle.path_machine.specs.Rows.{Stands}
 use Rattle.path_machine.specs.Texts.{fault_text, path_text}
-use Rattle.command_words.specs.declared.action.Form.{Form}
+use Rattle.signoff_words.specs.declared.action.Form.{Form}
 use Rattle.path_machine.specs.Unmet.{IsUnmet}
 use Rattle.path_machine.proofs.Carrying.{run_traces_are_the_modules}
 use Rattle.set_tree.specs.declared.line.Line.{Line}
@@ -30,22 +30,22 @@ use Rattle.job_pool.specs.declared.evidence.Evidence.TheVariants as e
 use Rattle.proof_store.specs.declared.goal.Goal.{Goal}
 use Rattle.proof_store.specs.Goals.{ended}
 use Rattle.proof_store.specs.Kept.{IsProof}
-use Rattle.clause_texts.specs.Faults.{fault_text as proof_fault_text}
+use Rattle.clause_check_texts.specs.Faults.{fault_text as proof_fault_text}
 use Rattle.proof_store.proofs.Faults.{rose_from}
 use Rattle.proof_store.proofs.Single.{keeps_adds}
-use Rattle.asked_lines.specs.declared.fault.LineFault.{LineFault}
-use Rattle.asked_lines.specs.declared.fault.LineFault.TheVariants as l
-use Rattle.asked_lines.specs.Asked.{Asks, IsGoalNamed, IsGoalOf, LacksName}
-use Rattle.line_clauses.specs.declared.fault.KeepFault.{KeepFault}
-use Rattle.line_clauses.specs.declared.fault.KeepFault.TheVariants as k
-use Rattle.line_clauses.specs.Keeping.{IsClausesText, IsProvedGoal, KeepsProof, RefusesProof}
-use Rattle.reports.specs.declared.book.Book.{Book}
-use Rattle.reports.specs.declared.report.Report.{Report}
-use Rattle.reports.specs.declared.which.Which.{Which}
-use Rattle.reports.specs.declared.which.Which.TheVariants as w
-use Rattle.asked_lines.specs.Decided.{AreDecided}
-use Rattle.asked_lines.specs.Least.{HasLeast}
-use Rattle.asked_lines.specs.Settled.{AddsProofsOf, AreObsOf, AreSettled}
+use Rattle.desk_core_goals.specs.declared.fault.LineFault.{LineFault}
+use Rattle.desk_core_goals.specs.declared.fault.LineFault.TheVariants as l
+use Rattle.desk_core_goals.specs.Asked.{Asks, IsGoalNamed, IsGoalOf, LacksName}
+use Rattle.desk_core_goals.specs.declared.keep_fault.KeepFault.{KeepFault}
+use Rattle.desk_core_goals.specs.declared.keep_fault.KeepFault.TheVariants as k
+use Rattle.desk_core_goals.specs.Keeping.{IsClausesText, IsProvedGoal, KeepsProof, RefusesProof}
+use Rattle.desk_core_reports.specs.declared.book.Book.{Book}
+use Rattle.desk_core_reports.specs.declared.report.Report.{Report}
+use Rattle.desk_core_reports.specs.declared.which.Which.{Which}
+use Rattle.desk_core_reports.specs.declared.which.Which.TheVariants as w
+use Rattle.desk_core_goals.specs.Decided.{AreDecided}
+use Rattle.desk_core_goals.specs.Least.{HasLeast}
+use Rattle.desk_core_goals.specs.Settled.{AddsProofsOf, AreObsOf, AreSettled}
 use Rattle.desk_core.specs.Checks.{AreObsOfTexts, IsReportOf, Refuses, RefusesAsked, check_fault_of}
 use Rattle.desk_core.proofs.Reporting.{adds_of_texts, asked_refuses, is_report, stage_refuses}
 use Rattle.signoff_call.specs.declared.answer.Answer.{Answer}

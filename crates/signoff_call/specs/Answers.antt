@@ -7,15 +7,15 @@ use Rattle.least_trace.specs.declared.ends.LeastEnd.TheVariants.{Found, Stopped}
 use Rattle.proof_store.specs.declared.moving.Moved.{Moved}
 use Rattle.replay.specs.declared.shown.Shown.{Shown}
 use Rattle.replay.specs.Texts.{trace_text}
-use Rattle.reports.specs.declared.book.Book.{Book}
-use Rattle.reports.specs.declared.book.Line.{Line}
-use Rattle.reports.specs.declared.book.Verdict.{Verdict}
-use Rattle.reports.specs.declared.book.Verdict.TheVariants as v
-use Rattle.reports.specs.declared.report.Report.{Report}
-use Rattle.reports.specs.declared.which.Which.{Which}
-use Rattle.reports.specs.declared.which.Which.TheVariants as w
-use Rattle.reports.specs.Lines.{is_proved}
-use Rattle.reports.specs.Reports.{last_line}
+use Rattle.desk_core_reports.specs.declared.book.Book.{Book}
+use Rattle.desk_core_reports.specs.declared.book.Line.{Line}
+use Rattle.desk_core_reports.specs.declared.book.Verdict.{Verdict}
+use Rattle.desk_core_reports.specs.declared.book.Verdict.TheVariants as v
+use Rattle.desk_core_reports.specs.declared.report.Report.{Report}
+use Rattle.desk_core_reports.specs.declared.which.Which.{Which}
+use Rattle.desk_core_reports.specs.declared.which.Which.TheVariants as w
+use Rattle.desk_core_reports.specs.Lines.{is_proved}
+use Rattle.desk_core_reports.specs.Reports.{last_line}
 use Rattle.signoff_call.specs.declared.answer.Answer.{Answer}
 use Rattle.signoff_call.specs.declared.texts.Counts.{Counts}
 

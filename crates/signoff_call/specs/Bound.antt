@@ -6,8 +6,8 @@ use Rattle.set_tree.specs.declared.set.Set.{Set}
 use Rattle.set_tree.specs.Formulas.{meaning_of}
 use Rattle.set_tree.specs.Meaning.{Row}
 use Rattle.set_tree.specs.Paths.{IsPath}
-use Rattle.word_design.specs.Laws.{word_design}
-use Rattle.binding.specs.Binding.{Pair}
+use Rattle.elab_step_design.specs.Laws.{word_design}
+use Rattle.unroll_binding.specs.Binding.{Pair}
 use Rattle.path_machine.specs.declared.rows.RowFault.{RowFault}
 use Rattle.path_machine.specs.declared.rows.RowFault.TheVariants.{Memory}
 use Rattle.path_machine.specs.Rows.{IsRead, Stands}
@@ -15,25 +15,25 @@ use Rattle.path_machine.specs.Runs.{IsRunTrace}
 use Rattle.path_machine.specs.Texts.{fault_text, path_text}
 use Rattle.path_machine.specs.Unmet.{IsUnmet}
 use Rattle.outside.specs.Tables.{Tables}
-use Rattle.command_words.specs.declared.action.Form.{Form}
-use Rattle.line_clauses.specs.Keeping.{IsClausesText, KeepsProof}
-use Rattle.reports.specs.declared.book.Book.{Book}
-use Rattle.reports.specs.declared.book.Line.{Line}
-use Rattle.reports.specs.declared.report.Report.{Report}
-use Rattle.reports.specs.declared.which.Which.{Which}
-use Rattle.reports.specs.declared.which.Which.TheVariants as w
-use Rattle.asked_lines.specs.Decided.{AreDecided}
-use Rattle.asked_lines.specs.Least.{HasLeast}
-use Rattle.asked_lines.specs.Settled.{AddsProofsOf, AreObsOf}
+use Rattle.signoff_words.specs.declared.action.Form.{Form}
+use Rattle.desk_core_goals.specs.Keeping.{IsClausesText, KeepsProof}
+use Rattle.desk_core_reports.specs.declared.book.Book.{Book}
+use Rattle.desk_core_reports.specs.declared.book.Line.{Line}
+use Rattle.desk_core_reports.specs.declared.report.Report.{Report}
+use Rattle.desk_core_reports.specs.declared.which.Which.{Which}
+use Rattle.desk_core_reports.specs.declared.which.Which.TheVariants as w
+use Rattle.desk_core_goals.specs.Decided.{AreDecided}
+use Rattle.desk_core_goals.specs.Least.{HasLeast}
+use Rattle.desk_core_goals.specs.Settled.{AddsProofsOf, AreObsOf}
 use Rattle.desk_core.specs.Checks.{IsReportOf, RefusesAsked}
 use Rattle.signoff_call.specs.declared.answer.Answer.{Answer}
-use Rattle.check_faults.specs.declared.fault.CheckFault.TheVariants as f
-use Rattle.fault_texts.specs.Texts.{fault_line, status_of}
-use Rattle.clause_texts.specs.Faults.{fault_text as proof_fault_text}
-use Rattle.line_clauses.specs.declared.fault.KeepFault.{KeepFault}
-use Rattle.line_clauses.specs.declared.fault.KeepFault.TheVariants as k
-use Rattle.asked_lines.specs.declared.fault.LineFault.TheVariants as l
-use Rattle.asked_lines.specs.Asked.{LacksName}
+use Rattle.desk_core_faults.specs.declared.fault.CheckFault.TheVariants as f
+use Rattle.desk_core_faults.specs.Texts.{fault_line, status_of}
+use Rattle.clause_check_texts.specs.Faults.{fault_text as proof_fault_text}
+use Rattle.desk_core_goals.specs.declared.keep_fault.KeepFault.{KeepFault}
+use Rattle.desk_core_goals.specs.declared.keep_fault.KeepFault.TheVariants as k
+use Rattle.desk_core_goals.specs.declared.fault.LineFault.TheVariants as l
+use Rattle.desk_core_goals.specs.Asked.{LacksName}
 use Rattle.signoff_call.specs.Answers.{done, refusal, reported}
 use Rattle.signoff_call.specs.Waves.{first_waved}
 use Rattle.signoff_call.specs.Tasks.{RefusesBoundProof, RefusesBy, RefusesTexts, Reports, ReportsTexts, Stores, machine_shown, signed_text, stores, where_signed}

@@ -3,21 +3,21 @@ use Rattle.std.specs.Prelude.{◌≡◌, ℕ, ◌⊎◌, ◌+◌, ◌^◌, ◌�
 use Rattle.std.specs.Io.KnownBytes.{Appends}
 use Rattle.outside.specs.Faults.{Rose}
 use Rattle.demo_gen.specs.Texts.{module_text, set_text}
-use Rattle.reports.specs.declared.book.Book.{Book}
-use Rattle.reports.specs.declared.which.Which.TheVariants as w
+use Rattle.desk_core_reports.specs.declared.book.Book.{Book}
+use Rattle.desk_core_reports.specs.declared.which.Which.TheVariants as w
 use Rattle.outside.specs.Tables.{Tables}
 use Rattle.proof_store.specs.declared.moving.Moved.{Moved}
 use Rattle.proof_store.specs.Moves.{MovesRows, Walks}
 use Rattle.proof_store.specs.Stored.{Told}
-use Rattle.asked_lines.specs.Settled.{AddsProofsOf}
+use Rattle.desk_core_goals.specs.Settled.{AddsProofsOf}
 use Rattle.desk_core.specs.Checks.{AreObsOfTexts}
-use Rattle.command_words.specs.declared.action.Command.{Command}
-use Rattle.command_words.specs.declared.action.Command.TheVariants as c
-use Rattle.command_words.specs.declared.action.Job.{Job}
-use Rattle.command_words.specs.declared.action.Service.{Service}
-use Rattle.command_words.specs.declared.action.Task.{Task}
-use Rattle.command_words.specs.declared.action.Task.TheVariants as t
-use Rattle.http_connection.specs.declared.serve.ServeFault.TheVariants.{Next}
+use Rattle.signoff_words.specs.declared.action.Command.{Command}
+use Rattle.signoff_words.specs.declared.action.Command.TheVariants as c
+use Rattle.signoff_words.specs.declared.action.Job.{Job}
+use Rattle.signoff_words.specs.declared.action.Service.{Service}
+use Rattle.signoff_words.specs.declared.action.Task.{Task}
+use Rattle.signoff_words.specs.declared.action.Task.TheVariants as t
+use Rattle.desk_http_connection.specs.declared.serve.ServeFault.TheVariants.{Next}
 use Rattle.proof_store.specs.Provers.{Limits}
 use Rattle.desk_core.specs.declared.checker.Checker.{Checker}
 use Rattle.desk_http.specs.declared.serving.Quota.{Quota}

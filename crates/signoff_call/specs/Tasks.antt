@@ -3,20 +3,20 @@ use Rattle.std.specs.Prelude.{◌≡◌, ◌≢◌, ℕ, ◌⊎◌, ◌++◌, Li
 use Rattle.std.specs.Fmt.{decimal}
 use Rattle.std.specs.List.{flat_map}
 use Rattle.outside.specs.Tables.{Tables}
-use Rattle.check_faults.specs.declared.fault.CheckFault.{CheckFault}
-use Rattle.check_faults.specs.declared.fault.CheckFault.TheVariants as f
-use Rattle.check_stages.specs.Stages.{IsBoundOf, Refuses as RefusesStage}
-use Rattle.fault_texts.specs.Texts.{fault_line, status_of}
+use Rattle.desk_core_faults.specs.declared.fault.CheckFault.{CheckFault}
+use Rattle.desk_core_faults.specs.declared.fault.CheckFault.TheVariants as f
+use Rattle.desk_core_stages.specs.Stages.{IsBoundOf, Refuses as RefusesStage}
+use Rattle.desk_core_faults.specs.Texts.{fault_line, status_of}
 use Rattle.set_tree.specs.declared.path.Path.{Path}
 use Rattle.set_tree.specs.declared.line.Line.{Line}
 use Rattle.set_tree.specs.declared.set.Set.{Set}
 use Rattle.set_tree.specs.Formulas.{meaning_of}
 use Rattle.set_tree.specs.Meaning.{Row}
 use Rattle.set_tree.specs.Paths.{IsPath}
-use Rattle.set_designs.specs.Designs.{design_from}
-use Rattle.line_laws.specs.Names.{line_name}
-use Rattle.line_obs.specs.Obligations.{all_lines}
-use Rattle.binding.specs.Binding.{Pair}
+use Rattle.elab_step_design.specs.SetDesigns.{design_from}
+use Rattle.twin_tests_laws.specs.Names.{line_name}
+use Rattle.desk_core_goals.specs.Obligations.{all_lines}
+use Rattle.unroll_binding.specs.Binding.{Pair}
 use Rattle.path_machine.specs.declared.rows.RowFault.{RowFault}
 use Rattle.path_machine.specs.declared.rows.RowFault.TheVariants.{Memory}
 use Rattle.path_machine.specs.Rows.{IsRead, Stands}
@@ -27,24 +27,24 @@ use Rattle.path_machine.specs.Unmet.{IsUnmet}
 use Rattle.word_dag.specs.Nodes.{Parts}
 use Rattle.signoff_call.specs.Waves.{first_waved}
 use Rattle.proof_store.specs.Provers.{asked_by, kept_by}
-use Rattle.reports.specs.declared.book.Book.{Book}
-use Rattle.reports.specs.declared.book.Line.{Line as Told}
-use Rattle.reports.specs.declared.report.Report.{Report}
-use Rattle.reports.specs.declared.which.Which.{Which}
-use Rattle.reports.specs.declared.which.Which.TheVariants as w
-use Rattle.asked_lines.specs.Least.{HasLeast}
-use Rattle.asked_lines.specs.Settled.{AddsProofsOf, AreSettled}
+use Rattle.desk_core_reports.specs.declared.book.Book.{Book}
+use Rattle.desk_core_reports.specs.declared.book.Line.{Line as Told}
+use Rattle.desk_core_reports.specs.declared.report.Report.{Report}
+use Rattle.desk_core_reports.specs.declared.which.Which.{Which}
+use Rattle.desk_core_reports.specs.declared.which.Which.TheVariants as w
+use Rattle.desk_core_goals.specs.Least.{HasLeast}
+use Rattle.desk_core_goals.specs.Settled.{AddsProofsOf, AreSettled}
 use Rattle.desk_core.specs.declared.checker.Checker.{Checker}
 use Rattle.desk_core.specs.Checks.{AreObsOfTexts, IsReport, Refuses}
 use Rattle.meet_lines.specs.Meetings.{AreObsOfTexts as AreMeetObsOfTexts, IsMeetReport, Refuses as RefusesMeet}
-use Rattle.clause_texts.specs.declared.fault.ProofFault.{ProofFault}
-use Rattle.clause_texts.specs.Faults.{fault_text as proof_fault_text}
-use Rattle.line_clauses.specs.declared.fault.KeepFault.TheVariants.{Large}
-use Rattle.line_clauses.specs.Keeping.{IsClausesText, KeepsProof, RefusesProof, RefusesText}
-use Rattle.command_words.specs.declared.action.Form.{Form}
-use Rattle.command_words.specs.declared.action.Form.TheVariants.{Words, Graph}
-use Rattle.command_words.specs.declared.action.Task.{Task}
-use Rattle.command_words.specs.declared.action.Task.TheVariants as t
+use Rattle.clause_check_texts.specs.declared.fault.ProofFault.{ProofFault}
+use Rattle.clause_check_texts.specs.Faults.{fault_text as proof_fault_text}
+use Rattle.desk_core_goals.specs.declared.keep_fault.KeepFault.TheVariants.{Large}
+use Rattle.desk_core_goals.specs.Keeping.{IsClausesText, KeepsProof, RefusesProof, RefusesText}
+use Rattle.signoff_words.specs.declared.action.Form.{Form}
+use Rattle.signoff_words.specs.declared.action.Form.TheVariants.{Words, Graph}
+use Rattle.signoff_words.specs.declared.action.Task.{Task}
+use Rattle.signoff_words.specs.declared.action.Task.TheVariants as t
 use Rattle.signoff_call.specs.declared.answer.Answer.{Answer}
 use Rattle.signoff_call.specs.Answers.{done, met, refusal, report_bytes, reported}
 

@@ -1,10 +1,10 @@
 -- What is shown as a waveform.
 use Rattle.std.specs.Prelude.{ℕ, List, [], ◌∷◌, Option, Some, None}
-use Rattle.binding.specs.Binding.{Pair}
+use Rattle.unroll_binding.specs.Binding.{Pair}
 use Rattle.replay.specs.declared.shown.Shown.{Shown}
-use Rattle.reports.specs.declared.book.Line.{Line}
-use Rattle.wave_text.specs.Waves.{wave_text}
-use Rattle.line_waves.specs.Waves.{wave_of}
+use Rattle.desk_core_reports.specs.declared.book.Line.{Line}
+use Rattle.replay_waves.specs.Waves.{wave_text}
+use Rattle.replay_waves.specs.Lines.{wave_of}
 
 -- a counterexample's waveform, and where there is none this text
 abbrev pub waved : Pair → Option Shown → List ℕ → List ℕ

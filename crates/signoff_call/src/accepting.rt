@@ -1,31 +1,31 @@
 // A derivation of another solver, kept for a line, which is then decided.
 ghost use Rattle.std.specs.Prelude.{◌≡◌, ◌++◌, [], Err, codes, IfOk};
 ghost use Rattle.outside.specs.Faults.{Rose};
-ghost use Rattle.asked_lines.specs.Settled.{AddsProofsOf, AreObsOf};
+ghost use Rattle.desk_core_goals.specs.Settled.{AddsProofsOf, AreObsOf};
 ghost use Rattle.desk_core.specs.Checks.{AreObsOfTexts};
-ghost use Rattle.clause_texts.specs.Faults.{fault_text as proof_fault_text};
-ghost use Rattle.line_clauses.specs.declared.fault.KeepFault.{KeepFault as Faults};
-ghost use Rattle.line_clauses.specs.declared.fault.KeepFault.TheVariants as k;
+ghost use Rattle.clause_check_texts.specs.Faults.{fault_text as proof_fault_text};
+ghost use Rattle.desk_core_goals.specs.declared.keep_fault.KeepFault.{KeepFault as Faults};
+ghost use Rattle.desk_core_goals.specs.declared.keep_fault.KeepFault.TheVariants as k;
 ghost use Rattle.proof_store.specs.Provers.{kept_by};
-ghost use Rattle.reports.specs.declared.which.Which.TheVariants as w;
+ghost use Rattle.desk_core_reports.specs.declared.which.Which.TheVariants as w;
 ghost use Rattle.signoff_call.specs.Answers.{refusal};
 ghost use Rattle.signoff_call.specs.Bound.{AcceptsBound, AddsTwiceTo, IsRefusalOf, SaysBound};
 ghost use Rattle.signoff_call.specs.Run.{HasSame};
 ghost use Rattle.signoff_call.specs.Tasks.{AddsTwice, AnswersAccept, Reports, stores_between};
 
 use crate::answer::{Answer, refusal, reported, turned_down};
-use binding::Bound;
-use check_faults::CheckFault;
-use check_stages::bound_of;
-use clause_texts::{ProofFault, fault_text};
-use command_words::Acceptance;
+use clause_check_texts::{ProofFault, fault_text};
 use desk_core::Checker;
+use desk_core_faults::CheckFault;
+use desk_core_goals::{KeepFault, keep_proof};
+use desk_core_reports::Which;
+use desk_core_stages::bound_of;
 use helper_box::Helper;
-use line_clauses::{KeepFault, keep_proof};
 use outside::{Gate, Keeper, Text};
-use reports::Which;
+use signoff_words::Acceptance;
 use std::alloc::{AllocError, Global};
 use std::thread::Threads;
+use unroll_binding::Bound;
 
 // The refusal of a text that has no derivation of a line's clauses.
 fn refused_proof(alloc: Global, fault: &ProofFault) -> Result<Answer, AllocError>

@@ -1,15 +1,14 @@
 // What a run answers.
 ghost use Rattle.std.specs.Prelude.{◌≡◌, ◌≢◌, ◌++◌, IfOk, if◌then◌else◌};
 ghost use Rattle.std.specs.List.{list_any};
-ghost use Rattle.fault_texts.specs.Texts.{fault_line, status_of};
-ghost use Rattle.check_faults.specs.declared.fault.CheckFault.TheVariants.{Memory};
+ghost use Rattle.desk_core_faults.specs.Texts.{fault_line, status_of};
+ghost use Rattle.desk_core_faults.specs.declared.fault.CheckFault.TheVariants.{Memory};
 ghost use Rattle.signoff_call.specs.Answers.{done, is_refuted, is_spent, meet_status, met as met_of, refusal as refusal_of, reported, status_from};
-ghost use Rattle.reports.specs.Lines.{is_proved};
+ghost use Rattle.desk_core_reports.specs.Lines.{is_proved};
 
-use check_faults::CheckFault;
-use fault_texts::{fault_line, status_of};
+use desk_core_faults::{CheckFault, fault_line, status_of};
+use desk_core_reports::{Report, Verdict};
 use outside::Text;
-use reports::{Report, Verdict};
 use std::alloc::{AllocError, Global};
 
 /// A status, the bytes that go out with it, and whether they are a report.

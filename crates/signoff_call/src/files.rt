@@ -3,8 +3,8 @@ ghost use Rattle.std.specs.Prelude.{◌≡◌, ◌≤◌, IfOk};
 ghost use Rattle.outside.specs.Faults.{HasCause};
 ghost use Rattle.signoff_call.specs.Run.{IsFile, IsRead, IsThird};
 
-use command_words::{Job, Task};
 use outside::{OutFault, Shelf, Text};
+use signoff_words::{Job, Task};
 use std::alloc::{AllocError, Global};
 
 /// The text of a module, that of a set, and that of a third file, which is empty where a command has none.

@@ -3,21 +3,20 @@ ghost use Rattle.std.specs.Prelude.{◌≡◌, ◌++◌, ◌∷◌, [], List, Op
 ghost use Rattle.std.specs.List.{flat_map};
 ghost use Rattle.outside.specs.Tables.{Tables};
 ghost use Rattle.set_tree.specs.declared.line.Line.{Line as Lines};
-ghost use Rattle.reports.specs.declared.book.Book.{Book};
-ghost use Rattle.line_laws.specs.Names.{line_name};
+ghost use Rattle.desk_core_reports.specs.declared.book.Book.{Book};
+ghost use Rattle.twin_tests_laws.specs.Names.{line_name};
 ghost use Rattle.signoff_call.specs.Bound.{ShowsClauses};
 ghost use Rattle.signoff_call.specs.Tasks.{AnswersClauses, AnswersLines, names_text, stores};
 
 use crate::answer::{Answer, done, turned_down};
-use asked_lines::all_lines;
-use binding::Bound;
-use check_stages::bound_of;
 use desk_core::check_fault_of;
-use line_clauses::clauses_text;
-use line_laws::line_name;
+use desk_core_goals::{all_lines, clauses_text};
+use desk_core_stages::bound_of;
 use outside::Text;
 use set_tree::{Line, Set};
 use std::alloc::{AllocError, Global};
+use twin_tests_laws::line_name;
+use unroll_binding::Bound;
 
 // Adds the name of a line.
 fn add_name(alloc: Global, text: &mut Vec<u8>, set: &Set, line: Line) -> Result<(), AllocError>

@@ -9,9 +9,9 @@ ghost use Rattle.signoff_call.specs.Run.{AnswersMove};
 ghost use Rattle.signoff_call.specs.Tasks.{stores};
 
 use crate::answer::{Answer, done, refusal};
+use desk_core_reports::Book;
 use outside::{Keeper, Text};
 use proof_store::{Moved, StoreFault, migrate};
-use reports::Book;
 use std::alloc::{AllocError, Global};
 
 /// The most rows that are come to.

@@ -3,21 +3,20 @@ ghost use Rattle.std.specs.Prelude.{◌≡◌, ◌++◌, [], codes, IfOk};
 ghost use Rattle.std.specs.Fmt.{decimal};
 ghost use Rattle.outside.specs.Faults.{Rose};
 ghost use Rattle.set_tree.specs.Traces.{IsTrace};
-ghost use Rattle.asked_lines.specs.Settled.{AddsProofsOf, AreObsOf};
+ghost use Rattle.desk_core_goals.specs.Settled.{AddsProofsOf, AreObsOf};
 ghost use Rattle.desk_core.specs.Checks.{AreObsOfTexts};
 ghost use Rattle.path_machine.specs.Texts.{fault_text};
 ghost use Rattle.proof_store.specs.Provers.{kept_by};
-ghost use Rattle.reports.specs.declared.which.Which.TheVariants as w;
+ghost use Rattle.desk_core_reports.specs.declared.which.Which.TheVariants as w;
 ghost use Rattle.signoff_call.specs.Answers.{refusal};
 ghost use Rattle.signoff_call.specs.Bound.{SaysBound, SaysMachine, SaysPath, WalksBound};
 ghost use Rattle.signoff_call.specs.Run.{HasSame};
 ghost use Rattle.signoff_call.specs.Tasks.{AnswersMachine, AnswersWalk, machine_shown, signed_text, stores_between, where_signed};
 
 use crate::answer::{Answer, done, refusal, reported, turned_down};
-use binding::Bound;
-use check_stages::bound_of;
-use command_words::Form;
 use desk_core::Checker;
+use desk_core_reports::{Report, Which};
+use desk_core_stages::bound_of;
 use helper_box::Helper;
 use outside::{Gate, Keeper, Text};
 use path_machine::{
@@ -25,10 +24,11 @@ use path_machine::{
     unmet,
 };
 use replay::Trace;
-use reports::{Report, Which};
-use set_sound::Sound;
+use set_tree_structure::Sound;
+use signoff_words::Form;
 use std::alloc::{AllocError, Global};
 use std::thread::Threads;
+use unroll_binding::Bound;
 
 // These bytes, where the set is signed off, and else the report.
 fn where_signed(alloc: Global, bytes: Text, report: &Report) -> Result<Answer, AllocError>

@@ -2,7 +2,7 @@
 ghost use Rattle.std.specs.Prelude.{◌≡◌, ℕ, List, ◌⊎◌, ◌++◌, [], None, Some, IfOk, map, string_bytes};
 ghost use Rattle.std.specs.Io.KnownBytes.{Appends};
 ghost use Rattle.outside.specs.Faults.{Rose};
-ghost use Rattle.command_words.specs.Commands.{IsBounded, HasBounds, command_of};
+ghost use Rattle.signoff_words.specs.Commands.{IsBounded, HasBounds, command_of};
 ghost use Rattle.proof_store.specs.Provers.{kept_by};
 ghost use Rattle.desk_http.specs.Serving.{line, state, state_of};
 ghost use Rattle.signoff_call.specs.Run.{Answers, AnswersJob, Delivers, HasSame, LeavesRead, LeavesRows, Reads, around, third_name};
@@ -16,11 +16,11 @@ use crate::lines::put_lines;
 use crate::moved::moved;
 use crate::serving::served;
 use crate::texts::{demonstrated, judged};
-use command_words::{Command, Job, Task, command_in};
 use desk_core::{Checker, Prover, Settings};
+use desk_core_reports::Book;
 use helper_box::Helper;
 use outside::{Gate, Keeper, OutFault, Port, Shelf, Sink};
-use reports::Book;
+use signoff_words::{Command, Job, Task, command_in};
 use std::alloc::{AllocError, Global};
 use std::thread::Threads;
 

@@ -2,18 +2,18 @@
 ghost use Rattle.std.specs.Prelude.{◌≡◌, ◌++◌, IfOk};
 ghost use Rattle.std.specs.Fmt.{decimal};
 ghost use Rattle.outside.specs.Faults.{Rose};
-ghost use Rattle.command_words.specs.Commands.{IsServed};
+ghost use Rattle.signoff_words.specs.Commands.{IsServed};
 ghost use Rattle.desk_http.specs.Serving.{line, state_of};
 ghost use Rattle.signoff_call.specs.Run.{AnswersService, HasSame, LeavesServed, around, served_text};
 
 use crate::answer::{Answer, done, refusal};
-use command_words::Service;
 use desk_core::Checker;
 use desk_http::{Quota, serve};
+use desk_http_connection::ServeFault;
 use helper_box::Helper;
-use http_connection::ServeFault;
 use outside::{Gate, Keeper, Port, Text};
 use proof_store::Settings;
+use signoff_words::Service;
 use std::alloc::{AllocError, Global};
 use std::thread::Threads;
 

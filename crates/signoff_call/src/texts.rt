@@ -1,18 +1,18 @@
 // What is answered to two texts.
 ghost use Rattle.std.specs.Prelude.{◌≡◌, ◌≤◌, ◌++◌, [], IfOk, OnOk, option_map};
 ghost use Rattle.std.specs.Fmt.{decimal};
-ghost use Rattle.command_words.specs.Commands.{HasBounds};
+ghost use Rattle.signoff_words.specs.Commands.{HasBounds};
 ghost use Rattle.outside.specs.Faults.{Rose};
 ghost use Rattle.signoff_call.specs.Answers.{counted, first_traced, least_line, report_bytes, summary, summary_line};
 ghost use Rattle.signoff_call.specs.Run.{HasSame};
 ghost use Rattle.signoff_call.specs.Tasks.{AnswersMeet, AnswersTask, AnswersTexts, LeavesTask, stores_between};
-ghost use Rattle.reports.specs.Reports.{last_line};
-ghost use Rattle.asked_lines.specs.Settled.{AddsProofsOf};
+ghost use Rattle.desk_core_reports.specs.Reports.{last_line};
+ghost use Rattle.desk_core_goals.specs.Settled.{AddsProofsOf};
 ghost use Rattle.proof_store.specs.Provers.{kept_by};
 ghost use Rattle.desk_core.specs.Checks.{AreObsOfTexts};
 ghost use Rattle.meet_lines.specs.Meetings.{AreObsOfTexts as AreMeetObsOfTexts};
 ghost use Rattle.demo_gen.specs.Texts.{module_text, set_text};
-ghost use Rattle.reports.specs.declared.which.Which.TheVariants as w;
+ghost use Rattle.desk_core_reports.specs.declared.which.Which.TheVariants as w;
 
 use crate::accepting::accepted_in;
 use crate::answer::{Answer, met, reported, turned_down};
@@ -20,16 +20,16 @@ use crate::files::Texts;
 use crate::listing::{clauses_listed, lines_listed};
 use crate::paths::{machine_of, walk_of};
 use crate::waves::wave_of_texts;
-use command_words::{Job, Task};
 use demo_gen::{module_text, set_text};
 use desk_core::Checker;
+use desk_core_reports::{Book, Line, Report, Verdict, Which};
 use helper_box::Helper;
 use least_trace::LeastEnd;
 use meet_lines::meet;
 use outside::{Gate, Keeper, Text};
 use proof_store::Settings;
 use replay::trace_text;
-use reports::{Book, Line, Report, Verdict, Which};
+use signoff_words::{Job, Task};
 use std::alloc::{AllocError, Global};
 use std::thread::Threads;
 

@@ -1,26 +1,25 @@
 // The counterexample of a line as a waveform.
 ghost use Rattle.std.specs.Prelude.{◌≡◌, [], IfOk};
 ghost use Rattle.outside.specs.Faults.{Rose};
-ghost use Rattle.asked_lines.specs.Settled.{AddsProofsOf, AreObsOf};
+ghost use Rattle.desk_core_goals.specs.Settled.{AddsProofsOf, AreObsOf};
 ghost use Rattle.desk_core.specs.Checks.{AreObsOfTexts};
 ghost use Rattle.proof_store.specs.Provers.{kept_by};
-ghost use Rattle.reports.specs.declared.which.Which.TheVariants as w;
+ghost use Rattle.desk_core_reports.specs.declared.which.Which.TheVariants as w;
 ghost use Rattle.signoff_call.specs.Bound.{SaysBound, SaysWave};
 ghost use Rattle.signoff_call.specs.Run.{HasSame};
 ghost use Rattle.signoff_call.specs.Tasks.{AnswersWave, stores_between};
 ghost use Rattle.signoff_call.specs.Waves.{first_waved};
 
 use crate::answer::{Answer, reported, turned_down};
-use binding::Bound;
-use check_stages::bound_of;
 use desk_core::Checker;
+use desk_core_reports::{Line, Which};
+use desk_core_stages::bound_of;
 use helper_box::Helper;
-use line_waves::wave_of;
 use outside::{Gate, Keeper, Text};
-use reports::{Line, Which};
+use replay_waves::{wave_of, wave_text};
 use std::alloc::{AllocError, Global};
 use std::thread::Threads;
-use wave_text::wave_text;
+use unroll_binding::Bound;
 
 // The waveform of the first line's counterexample, if it has one, for a report.
 fn first_waved(

@@ -1,14 +1,14 @@
 // The real objects that the top call works on.
 ghost use Rattle.std.specs.Prelude.{◌≡◌, ◌⊎◌, None, IfOk, map, string_bytes, []};
-ghost use Rattle.command_words.specs.Commands.{command_of};
+ghost use Rattle.signoff_words.specs.Commands.{command_of};
 
 use crate::progress::{Progress, Screen, Told};
-use command_words::{Wants, wants};
+use desk_core_reports::Book;
 use helper_box::{Helper, Sampler, Table, Units};
 use keeper_sql::SqlKeeper;
 use outside::{Console, FileShelf, Keeper, MemKeeper, Sink, TcpPort, Text};
-use reports::Book;
 use signoff_call::signoff;
+use signoff_words::{Wants, wants};
 use std::alloc::{AllocError, Global};
 use std::net::{Ipv4Addr, SocketAddr, TcpListener};
 use std::thread::Threads;

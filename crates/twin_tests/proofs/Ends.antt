@@ -7,7 +7,7 @@ use Rattle.set_tree.specs.declared.set.Length.{Length}
 use Rattle.set_tree.specs.declared.set.Set.{Set}
 use Rattle.set_tree.specs.Meaning.{Row, Meaning, holds, all_hold}
 use Rattle.set_tree.specs.Parts.{property_at, assumed, first_offset, end_until}
-use Rattle.line_laws.specs.Tests.{any_from, is_number}
+use Rattle.twin_tests_laws.specs.Tests.{any_from, is_number}
 
 -- the assumption of an operation
 pub assumed_later : (m : Meaning) (set : Set) (p : ℕ) (rows : List Row) → 0 < p → all_hold m (property_at set p).assume rows ≡ assumed m set p rows

@@ -7,8 +7,8 @@ use Rattle.std.proofs.lemmas.Bool.Decides.{eqb_tells}
 use Rattle.std.proofs.lemmas.List.Elements.{All-head, All-tail}
 use Rattle.vlog_tree.specs.Valuation.{IsLength}
 use Rattle.set_tree.specs.declared.set.Name.{Name}
-use Rattle.elab_node.specs.declared.leaves.Leaf.{Leaf}
-use Rattle.elab_node.specs.Leaves.{leaf_at}
+use Rattle.elab_step_expr.specs.declared.leaves.Leaf.{Leaf}
+use Rattle.elab_step_expr.specs.Leaves.{leaf_at}
 use Rattle.twin_tests.specs.Leaves.{leaf_of, row_leaves, leaves_from}
 
 -- ---- in one row

@@ -8,7 +8,7 @@ use Rattle.std.proofs.lemmas.List.{get_or_push, length-take, take_more}
 use Rattle.std.proofs.lemmas.List.Elements.{All-head, All-tail}
 use Rattle.std.specs.List.{All}
 use Rattle.set_tree.specs.Lines.{last_row}
-use Rattle.line_laws.specs.Lines.{edge_end, split_end}
+use Rattle.twin_tests_laws.specs.Lines.{edge_end, split_end}
 use Rattle.word_dag.specs.declared.node.Node.{Node}
 use Rattle.word_dag.specs.Nodes.{Naming}
 use Rattle.word_dag.specs.Adding.{Grows, Keeps}
@@ -19,9 +19,9 @@ use Rattle.set_tree.specs.declared.set.Set.{Set}
 use Rattle.set_tree.specs.Formulas.{meaning_of}
 use Rattle.set_tree.specs.Meaning.{Row}
 use Rattle.set_tree.specs.Parts.{IsPosition, property_at, window_of}
-use Rattle.line_laws.specs.Tests.{meets_constraints}
-use Rattle.line_laws.specs.Windows.{named_rows, named_value, rows_from}
-use Rattle.line_laws.proofs.Naming.{length-rows_from}
+use Rattle.twin_tests_laws.specs.Tests.{meets_constraints}
+use Rattle.twin_tests_laws.specs.Windows.{named_rows, named_value, rows_from}
+use Rattle.twin_tests_laws.proofs.Naming.{length-rows_from}
 use Rattle.twin_tests.specs.declared.frame.Frame.{Frame}
 use Rattle.twin_tests.specs.declared.frame.Frames.{Frames}
 use Rattle.twin_tests.specs.Building.{Shows, Tests}
@@ -29,7 +29,7 @@ use Rattle.twin_tests.specs.Framing.{AreFrames, IsFrame}
 use Rattle.twin_tests.specs.Reading.{FollowsWithin, HasStructure}
 use Rattle.twin_tests.proofs.Handing.{get_again}
 use Rattle.twin_tests.proofs.Readings.{property_later, same_at}
-use Rattle.elab_node.proofs.Kept.{keeps_same, keeps_then}
+use Rattle.elab_step_expr.proofs.Kept.{keeps_same, keeps_then}
 use Rattle.twin_tests.proofs.Standing.{shown_length, shows_drop, shows_grown, shows_take, tests_grown, tests_later}
 
 pub frame_grown : (a b : List Node) (set : Set) (frame : Frame) → Grows a b → IsFrame set a frame → IsFrame set b frame

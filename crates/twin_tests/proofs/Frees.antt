@@ -12,10 +12,10 @@ use Rattle.word_dag.specs.declared.node.Node.TheVariants.{Free}
 use Rattle.word_dag.specs.Nodes.{Naming}
 use Rattle.word_dag.specs.Adding.{Adds, Grows}
 use Rattle.word_dag.proofs.Valued.{grows_kept}
-use Rattle.elab_node.specs.Nodes.{AddsFrees}
-use Rattle.line_laws.specs.Windows.{side_of, named_value, rows_from}
+use Rattle.elab_step_expr.specs.Nodes.{AddsFrees}
+use Rattle.twin_tests_laws.specs.Windows.{side_of, named_value, rows_from}
 use Rattle.twin_tests.specs.Building.{HasWidth, IsLeafRow, Counts, Shows, ShowsRow, row_in, word_in}
-use Rattle.elab_node.proofs.Kept.{keeps_same, grows_then, frees_then}
+use Rattle.elab_step_expr.proofs.Kept.{keeps_same, grows_then, frees_then}
 use Rattle.twin_tests.specs.Framing.{free_of, IsWordOf, IsWindowWord}
 use Rattle.twin_tests.proofs.Standing.{leaf_row_grown, row_grown, shows_grown}
 

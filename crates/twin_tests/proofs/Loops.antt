@@ -13,9 +13,9 @@ use Rattle.word_core.specs.Words.{flag}
 use Rattle.word_dag.specs.declared.node.Node.{Node}
 use Rattle.word_dag.specs.Nodes.{Naming}
 use Rattle.word_dag.specs.Adding.{Keeps}
-use Rattle.line_laws.specs.Tests.{all_below}
+use Rattle.twin_tests_laws.specs.Tests.{all_below}
 use Rattle.twin_tests.specs.Building.{HasWidth, IsReadable, Shows, Tests}
-use Rattle.elab_node.proofs.Kept.{keeps_then}
+use Rattle.elab_step_expr.proofs.Kept.{keeps_then}
 use Rattle.twin_tests.proofs.Standing.{tests_later, shown_length}
 
 -- what is built so far, over rows that nodes of the first dag show: the node is the test t of them

@@ -16,10 +16,10 @@ use Rattle.set_tree.specs.declared.set.Set.{Set}
 use Rattle.set_tree.specs.Formulas.{largest_offset, row_entries, entries_from, meaning_of}
 use Rattle.set_tree.specs.Meaning.{Row}
 use Rattle.set_tree.specs.Traces.{IsRow}
-use Rattle.elab_node.specs.declared.leaves.Leaf.{Leaf}
-use Rattle.elab_node.specs.Leaves.{entry_of, entries, valued, declared, AreReady}
-use Rattle.elab_node.specs.Nodes.{words, number_at, Makes}
-use Rattle.elab_node.specs.Terms.{IsAlone}
+use Rattle.elab_step_expr.specs.declared.leaves.Leaf.{Leaf}
+use Rattle.elab_step_expr.specs.Leaves.{entry_of, entries, valued, declared, AreReady}
+use Rattle.elab_step_expr.specs.Nodes.{words, number_at, Makes}
+use Rattle.elab_step_expr.specs.Terms.{IsAlone}
 use Rattle.twin_tests.specs.Building.{IsWide, IsLeafRow, AreLeaves, Shows, Counts, IsReadable, row_in}
 use Rattle.twin_tests.specs.Leaves.{leaf_of, row_leaves, leaves_from, leaves_read}
 use Rattle.twin_tests.proofs.Read.{ready_append, value_read}

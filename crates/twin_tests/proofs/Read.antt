@@ -12,10 +12,10 @@ use Rattle.vlog_tree.specs.Valuation.{IsLength, entry_at, depth_of}
 use Rattle.vlog_tree.specs.Value.{Operand, own, own_value, own_defined}
 use Rattle.word_core.specs.Words.{Bits}
 use Rattle.word_dag.specs.declared.node.Node.{Node}
-use Rattle.elab_node.specs.declared.leaves.Leaf.{Leaf}
-use Rattle.elab_node.specs.Leaves.{entry_of, entries, valued, declared, leaf_at, AreReady}
-use Rattle.elab_node.specs.Nodes.{IsNode}
-use Rattle.elab_node.specs.Terms.{IsAlone}
+use Rattle.elab_step_expr.specs.declared.leaves.Leaf.{Leaf}
+use Rattle.elab_step_expr.specs.Leaves.{entry_of, entries, valued, declared, leaf_at, AreReady}
+use Rattle.elab_step_expr.specs.Nodes.{IsNode}
+use Rattle.elab_step_expr.specs.Terms.{IsAlone}
 use Rattle.twin_tests.specs.Leaves.{names_in, leaf_read, with_leaf, with_leaves, leaves_read}
 use Rattle.twin_tests.proofs.Alike.{Among, ReadAlike, same_operand, same_form}
 

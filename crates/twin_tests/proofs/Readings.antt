@@ -13,10 +13,10 @@ use Rattle.set_tree.specs.declared.set.Rule.{Rule}
 use Rattle.set_tree.specs.declared.set.Set.{Set}
 use Rattle.set_tree.specs.Formulas.{largest_offset}
 use Rattle.set_tree.specs.Parts.{property_at, IsPosition, window_of}
-use Rattle.set_sound.specs.Condition.{IsFormula, property_formulas}
+use Rattle.set_tree_structure.specs.Condition.{IsFormula, property_formulas}
 use Rattle.twin_tests.specs.Building.{IsReadable}
 use Rattle.set_tree.specs.Lines.{last_row}
-use Rattle.line_laws.specs.Lines.{split_end}
+use Rattle.twin_tests_laws.specs.Lines.{split_end}
 use Rattle.twin_tests.specs.Reading.{HasStructure, FollowsWithin, ReadsWindow}
 
 all_left : {X : Type 0} (P : X → Type 0) (xs ys : List X) → All P (xs ++ ys) → All P xs

@@ -1,7 +1,7 @@
 -- Atoms that lines share.
 use Rattle.std.proofs.Common.{◌≡◌, ℕ, ◌+◌, ◌<◌, ◌≤◌, Bool, List, length, drop, take, get_or, refl, sym, subst, arith}
 use Rattle.std.specs.Prelude.{Option, None, Some, IfSome}
-use Rattle.line_laws.specs.Lines.{edge_end}
+use Rattle.twin_tests_laws.specs.Lines.{edge_end}
 use Rattle.set_tree.specs.declared.set.Set.{Set}
 use Rattle.set_tree.specs.Parts.{IsPosition, property_at, window_of}
 use Rattle.word_dag.specs.declared.node.Node.{Node}
@@ -11,7 +11,7 @@ use Rattle.twin_tests.specs.declared.frame.Frames.{Frames}
 use Rattle.twin_tests.specs.declared.shared.Made.{Made}
 use Rattle.twin_tests.specs.declared.shared.Atom.{Atom}
 use Rattle.twin_tests.specs.declared.shared.Predicate.{Predicate}
-use Rattle.line_laws.specs.Windows.{named_rows}
+use Rattle.twin_tests_laws.specs.Windows.{named_rows}
 use Rattle.twin_tests.specs.Building.{Shows, Tests}
 use Rattle.twin_tests.specs.Framing.{AreFrames}
 use Rattle.twin_tests.specs.Reading.{HasStructure}

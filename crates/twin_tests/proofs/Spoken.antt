@@ -14,10 +14,10 @@ use Rattle.set_tree.specs.Report.{edge_lines, has_until, numbers_from, set_lines
 use Rattle.word_dag.specs.declared.node.Node.{Node}
 use Rattle.word_dag.specs.declared.ob.Named.{Named}
 use Rattle.word_dag.specs.Adding.{Keeps}
-use Rattle.elab_node.specs.Nodes.{AddsFrees}
-use Rattle.line_laws.specs.Laws.{HasLength, property_of}
-use Rattle.word_names.specs.Names.{HasOneWidthEach}
-use Rattle.word_names.proofs.Taken.{widths_are_kept}
+use Rattle.elab_step_expr.specs.Nodes.{AddsFrees}
+use Rattle.twin_tests_laws.specs.Laws.{HasLength, property_of}
+use Rattle.word_dag.specs.Names.{HasOneWidthEach}
+use Rattle.word_dag.proofs.Taken.{widths_are_kept}
 use Rattle.twin_tests.specs.declared.frame.Frames.{Frames}
 use Rattle.twin_tests.specs.declared.shared.Made.{Made}
 use Rattle.twin_tests.specs.Framing.{AreFrames, IsWindowWord, SpeaksOf}

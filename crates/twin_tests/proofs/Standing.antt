@@ -11,10 +11,10 @@ use Rattle.word_dag.specs.declared.node.Op.TheVariants.{And, Or, Eq}
 use Rattle.word_dag.specs.Nodes.{Naming, FitsNode, width_of}
 use Rattle.word_dag.specs.Adding.{Adds, Grows, Keeps}
 use Rattle.word_dag.proofs.Valued.{grows_kept}
-use Rattle.elab_node.proofs.Kept.{keeps_same, keeps_then}
+use Rattle.elab_step_expr.proofs.Kept.{keeps_same, keeps_then}
 use Rattle.set_tree.specs.declared.set.Name.{Name}
 use Rattle.set_tree.specs.Meaning.{Row}
-use Rattle.line_laws.specs.Tests.{same}
+use Rattle.twin_tests_laws.specs.Tests.{same}
 use Rattle.twin_tests.specs.Building.{HasWidth, IsWide, IsLeafRow, Tests, Counts, Shows, AreLeaves, word_in, row_in}
 
 -- ---- longer dags

@@ -9,10 +9,10 @@ use Rattle.vlog_tree.specs.declared.expr.Name.{Name}
 use Rattle.vlog_tree.specs.declared.valuation.Entry.{Entry}
 use Rattle.vlog_tree.specs.Valuation.{named, depth_of}
 use Rattle.vlog_tree.specs.Value.{Operand, operand_of, row_of, own_defined, bit_of, word_of}
-use Rattle.vlog_value.specs.Operators.{family_of, is_joined}
-use Rattle.vlog_value.proofs.Facts.{and_true}
-use Rattle.vlog_value.proofs.Families.{binary_defined, unary_defined}
-use Rattle.set_sound.specs.Condition.{HasNoDivision, AllHaveNoDivision, IsNoDivision}
+use Rattle.vlog_tree_values.specs.Operators.{family_of, is_joined}
+use Rattle.vlog_tree_values.proofs.Facts.{and_true}
+use Rattle.vlog_tree_values.proofs.Families.{binary_defined, unary_defined}
+use Rattle.set_tree_structure.specs.Condition.{HasNoDivision, AllHaveNoDivision, IsNoDivision}
 
 either : (t : Bool) (v : List Entry) (x : Name) (o : Operand) (L : ℕ) (s : Bool) → IsTrue (own_defined o) → IsTrue ((if t then bit_of (named v x) o else word_of v x o).defined L s)
 either true v x o L s h = h

@@ -8,9 +8,9 @@ use Rattle.word_dag.specs.declared.node.Node.{Node}
 use Rattle.word_dag.specs.declared.node.Node.TheVariants.{Free}
 use Rattle.word_dag.specs.Adding.{IsAt}
 use Rattle.word_dag.specs.Nodes.{width_of}
-use Rattle.elab_node.specs.Nodes.{AddsFrees}
+use Rattle.elab_step_expr.specs.Nodes.{AddsFrees}
 use Rattle.twin_tests.specs.Framing.{IsWindowWord, IsWordOf}
-use Rattle.word_names.specs.Names.{HasOneWidthEach}
+use Rattle.word_dag.specs.Names.{HasOneWidthEach}
 
 abbrev text_of : Node → List ℕ
 text_of (Free x n side t) = x

@@ -5,12 +5,12 @@ use Rattle.vlog_tree.specs.declared.expr.Expr.{Expr}
 use Rattle.set_tree.specs.declared.set.Name.{Name}
 use Rattle.set_tree.specs.declared.set.Set.{Set}
 use Rattle.set_tree.specs.Formulas.{largest_offset}
-use Rattle.set_sound.specs.Condition.{IsFormula}
+use Rattle.set_tree_structure.specs.Condition.{IsFormula}
 use Rattle.set_tree.specs.Meaning.{Row}
 use Rattle.word_core.specs.Words.{Bits}
 use Rattle.word_dag.specs.declared.node.Node.{Node}
 use Rattle.word_dag.specs.Nodes.{Naming, dag_values, word_at, width_of}
-use Rattle.line_laws.specs.Lines.{IsTestOf}
+use Rattle.twin_tests_laws.specs.Lines.{IsTestOf}
 
 -- a node of this width
 pub record HasWidth (nodes : List Node) (i w : ℕ) : Type 0 where

@@ -9,9 +9,9 @@ use Rattle.set_tree.specs.Parts.{IsPosition, window_of}
 use Rattle.word_dag.specs.declared.node.Node.{Node}
 use Rattle.word_dag.specs.declared.node.Node.TheVariants.{Free}
 use Rattle.word_dag.specs.Nodes.{Naming}
-use Rattle.line_laws.specs.Lines.{edge_end, split_end}
-use Rattle.line_laws.specs.Tests.{ends_at, meets_constraints, same, violates_choose, violates_determine, violates_hand, violates_split}
-use Rattle.line_laws.specs.Windows.{named_rows, rows_from, side_of}
+use Rattle.twin_tests_laws.specs.Lines.{edge_end, split_end}
+use Rattle.twin_tests_laws.specs.Tests.{ends_at, meets_constraints, same, violates_choose, violates_determine, violates_hand, violates_split}
+use Rattle.twin_tests_laws.specs.Windows.{named_rows, rows_from, side_of}
 use Rattle.twin_tests.specs.declared.frame.Frame.{Frame}
 use Rattle.twin_tests.specs.declared.frame.Frames.{Frames}
 use Rattle.twin_tests.specs.declared.set_line.SetLine.{SetLine}

@@ -6,8 +6,8 @@ use Rattle.vlog_tree.specs.declared.expr.Expr.{Expr, Row_of-Expr, end_of-Expr, m
 use Rattle.vlog_tree.specs.declared.expr.Expr.TheVariants as e
 use Rattle.vlog_tree.specs.declared.expr.Name.{Name as Read}
 use Rattle.set_tree.specs.declared.set.Name.{Name}
-use Rattle.elab_node.specs.declared.leaves.Leaf.{Leaf}
-use Rattle.elab_node.specs.Leaves.{leaf_at}
+use Rattle.elab_step_expr.specs.declared.leaves.Leaf.{Leaf}
+use Rattle.elab_step_expr.specs.Leaves.{leaf_at}
 
 -- a name at an offset
 abbrev pub leaf_of : Name → ℕ → ℕ → Leaf

@@ -6,9 +6,9 @@ use Rattle.set_tree.specs.declared.set.Set.{Set}
 use Rattle.set_tree.specs.Formulas.{meaning_of}
 use Rattle.set_tree.specs.Report.{set_lines}
 use Rattle.word_dag.specs.declared.ob.Named.{Named}
-use Rattle.line_laws.specs.Lines.{IsOf}
-use Rattle.line_laws.specs.Names.{line_name}
-use Rattle.word_names.specs.Names.{HasOneWordEach}
+use Rattle.twin_tests_laws.specs.Lines.{IsOf}
+use Rattle.twin_tests_laws.specs.Names.{line_name}
+use Rattle.word_dag.specs.Names.{HasOneWordEach}
 
 -- the line of this number among those on the set, in the order of a report
 abbrev pub set_line : Set → ℕ → Line

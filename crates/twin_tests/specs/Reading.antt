@@ -7,7 +7,7 @@ use Rattle.set_tree.specs.declared.set.Set.{Set}
 use Rattle.set_tree.specs.Formulas.{meaning_of}
 use Rattle.set_tree.specs.Parts.{IsPosition, window_of}
 use Rattle.set_tree.specs.Structure.{IsSound}
-use Rattle.set_sound.specs.Condition.{IsWellFormed}
+use Rattle.set_tree_structure.specs.Condition.{IsWellFormed}
 use Rattle.twin_tests.specs.Building.{IsReadable}
 
 -- a set that was read, and whose structure is sound

@@ -7,8 +7,8 @@ use Rattle.set_tree.specs.Meaning.{Row}
 use Rattle.set_tree.specs.Parts.{IsPosition, assumed, property_at, window_of}
 use Rattle.word_dag.specs.declared.node.Node.{Node}
 use Rattle.word_dag.specs.Nodes.{Naming}
-use Rattle.line_laws.specs.Tests.{pairs_to, same_hands, starts}
-use Rattle.line_laws.specs.Windows.{named_rows}
+use Rattle.twin_tests_laws.specs.Tests.{pairs_to, same_hands, starts}
+use Rattle.twin_tests_laws.specs.Windows.{named_rows}
 use Rattle.twin_tests.specs.declared.frame.Frames.{Frames}
 use Rattle.twin_tests.specs.declared.shared.Made.{Made}
 use Rattle.twin_tests.specs.declared.shared.Atom.{Atom}

@@ -2,7 +2,7 @@
 ghost use Rattle.std.specs.Prelude.{◌≡◌, ◌-◌, ◌<◌, ◌≤◌, List, drop, length, IfOk};
 ghost use Rattle.std.specs.List.{All};
 ghost use Rattle.vlog_tree.specs.Valuation.{IsLength};
-ghost use Rattle.line_laws.specs.Tests.{any_from, ends_at};
+ghost use Rattle.twin_tests_laws.specs.Tests.{any_from, ends_at};
 ghost use Rattle.set_tree.specs.Formulas.{meaning_of};
 ghost use Rattle.set_tree.specs.Meaning.{Row, holds};
 ghost use Rattle.set_tree.specs.Parts.{property_at};

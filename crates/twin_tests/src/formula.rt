@@ -4,7 +4,7 @@ ghost use Rattle.std.specs.List.{All};
 ghost use Rattle.vlog_tree.specs.Valuation.{IsLength};
 ghost use Rattle.word_dag.specs.Nodes.{Naming};
 ghost use Rattle.word_dag.specs.Adding.{Keeps};
-ghost use Rattle.line_laws.specs.Tests.{all_below, meets_constraints};
+ghost use Rattle.twin_tests_laws.specs.Tests.{all_below, meets_constraints};
 ghost use Rattle.set_tree.specs.Formulas.{largest_offset, meaning_of};
 ghost use Rattle.set_tree.specs.Meaning.{Row, holds, all_hold};
 ghost use Rattle.twin_tests.specs.Building.{AreLeaves, HasWidth, IsWide, Shows, Counts, Tests, IsReadable};
@@ -13,9 +13,9 @@ ghost use Rattle.twin_tests.specs.Reading.{HasStructure};
 use crate::leaves::leaves_of;
 use crate::window::{NodeRow, rows_before};
 use crate::words::{both, constant, nonzero};
-use elab_node::value_node;
-use set_sound::largest;
+use elab_step_expr::value_node;
 use set_tree::Set;
+use set_tree_structure::largest;
 use std::alloc::{AllocError, Global};
 use vlog_tree::Expr;
 use word_dag::Dag;
@@ -49,7 +49,7 @@ pub fn formula_node(
 }
 
 /// Whether a formula of a set holds in the first row.
-#[tactic(auto, using(elab_node::proofs::Kept::keeps_then))]
+#[tactic(auto, using(elab_step_expr::proofs::Kept::keeps_then))]
 pub fn test_node(
     alloc: Global,
     dag: &mut Dag,

@@ -2,13 +2,13 @@
 ghost use Rattle.std.specs.Prelude.{◌≡◌, ℕ, ◌+◌, ◌<◌, ◌≤◌, ◌⊎◌, List, length, take, get_or, IfOk};
 ghost use Rattle.set_tree.specs.Formulas.{meaning_of};
 ghost use Rattle.set_tree.specs.Parts.{IsPosition, window_of};
-ghost use Rattle.line_laws.specs.Tests.{meets_constraints};
-ghost use Rattle.line_laws.specs.Windows.{named_rows, rows_from};
+ghost use Rattle.twin_tests_laws.specs.Tests.{meets_constraints};
+ghost use Rattle.twin_tests_laws.specs.Windows.{named_rows, rows_from};
 ghost use Rattle.twin_tests.specs.Building.{AreLeaves, HasWidth, Shows, Tests};
 ghost use Rattle.twin_tests.specs.Framing.{AreFrames, IsFrame, IsWindowWord};
 ghost use Rattle.twin_tests.specs.Reading.{HasStructure};
 ghost use Rattle.word_dag.specs.Adding.{Grows, Keeps};
-ghost use Rattle.elab_node.specs.Nodes.{AddsFrees};
+ghost use Rattle.elab_step_expr.specs.Nodes.{AddsFrees};
 
 use crate::formula::constraints_node;
 use crate::window::{NodeRow, rows_before, window_nodes};

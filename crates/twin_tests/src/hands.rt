@@ -1,7 +1,7 @@
 // What properties hand over, and where outputs are determined.
 ghost use Rattle.std.specs.Prelude.{◌≡◌, ℕ, ◌-◌, ◌^◌, ◌<◌, ◌≤◌, ◌==◌, List, length, drop, get_or, slice_index, not, IfOk};
 ghost use Rattle.std.specs.List.{All, list_any};
-ghost use Rattle.line_laws.specs.Tests.{any_from, determined, same_hands};
+ghost use Rattle.twin_tests_laws.specs.Tests.{any_from, determined, same_hands};
 ghost use Rattle.set_tree.specs.declared.set.Cover.{Cover};
 ghost use Rattle.set_tree.specs.Formulas.{meaning_of};
 ghost use Rattle.set_tree.specs.Meaning.{Row};

@@ -3,11 +3,11 @@ ghost use Rattle.std.specs.Prelude.{◌≡◌, ◌++◌, length, map, is_some, I
 ghost use Rattle.std.specs.List.{All, flat_map};
 ghost use Rattle.std.specs.Str.{bytes_eq};
 ghost use Rattle.vlog_tree.specs.Valuation.{IsLength};
-ghost use Rattle.elab_node.specs.Leaves.{leaf_at};
+ghost use Rattle.elab_step_expr.specs.Leaves.{leaf_at};
 ghost use Rattle.twin_tests.specs.Leaves.{leaf_of, row_leaves, leaves_from, read_meant, names_in, with_leaf, leaves_read};
 
 use crate::window::NodeRow;
-use elab_node::{Leaf, Leaves};
+use elab_step_expr::{Leaf, Leaves};
 use outside::Text;
 use set_tree::Name;
 use std::alloc::{AllocError, Global};

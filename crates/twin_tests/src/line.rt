@@ -1,7 +1,7 @@
 // The test of each line.
 ghost use Rattle.std.specs.Prelude.{◌≡◌, ◌<◌, ◌≤◌, suc, ◌-◌, IfOk};
-ghost use Rattle.line_laws.specs.Laws.{property_of};
-ghost use Rattle.line_laws.specs.Tests.{any_end, line_test};
+ghost use Rattle.twin_tests_laws.specs.Laws.{property_of};
+ghost use Rattle.twin_tests_laws.specs.Tests.{any_end, line_test};
 ghost use Rattle.set_tree.specs.Formulas.{meaning_of};
 ghost use Rattle.set_tree.specs.Parts.{IsPosition, property_at};
 ghost use Rattle.twin_tests.specs.Building.{HasWidth, Tests};

@@ -3,11 +3,11 @@ ghost use Rattle.std.specs.Prelude.{Bool, ℕ, IfOk};
 ghost use Rattle.set_tree.specs.declared.line.Line.{Line};
 ghost use Rattle.set_tree.specs.declared.set.Set.{Set};
 ghost use Rattle.set_tree.specs.Meaning.{Meaning};
-ghost use Rattle.line_laws.specs.Laws.{HasLength};
-ghost use Rattle.line_laws.specs.Lines.{IsOf, IsTestOf};
-ghost use Rattle.line_laws.specs.Tests.{line_test};
+ghost use Rattle.twin_tests_laws.specs.Laws.{HasLength};
+ghost use Rattle.twin_tests_laws.specs.Lines.{IsOf, IsTestOf};
+ghost use Rattle.twin_tests_laws.specs.Tests.{line_test};
 ghost use Rattle.twin_tests.specs.Building.{HasWidth};
-ghost use Rattle.word_names.specs.Names.{HasOneWidthEach, HasOneWordEach};
+ghost use Rattle.word_dag.specs.Names.{HasOneWidthEach, HasOneWordEach};
 
 use std::alloc::{AllocError, Global};
 use word_dag::{Dag, Ob, extract};

@@ -8,7 +8,7 @@ ghost use Rattle.twin_tests.specs.Ordering.{line_of};
 ghost use Rattle.twin_tests.specs.Reading.{HasStructure};
 ghost use Rattle.twin_tests.specs.Sharing.{AreMade};
 ghost use Rattle.word_dag.specs.Adding.{Keeps};
-ghost use Rattle.word_names.specs.Names.{HasOneWidthEach};
+ghost use Rattle.word_dag.specs.Names.{HasOneWidthEach};
 
 use crate::frame::frames_of;
 use crate::lines::lines_of;
@@ -16,9 +16,9 @@ use crate::obligation::obligation_of;
 use crate::set_line::SetLine;
 use crate::shared::Nodes;
 use crate::twins::Twins;
-use line_laws::line_name;
-use set_sound::Sound;
+use set_tree_structure::Sound;
 use std::alloc::{AllocError, Global};
+use twin_tests_laws::line_name;
 use word_dag::{Dag, Named};
 
 impl Twins<'_> {

@@ -1,7 +1,7 @@
 // Windows in which a property starts, and those in which it does so in both.
 ghost use Rattle.std.specs.Prelude.{◌≡◌, ◌<◌, ◌≤◌, length, IfOk};
-ghost use Rattle.line_laws.specs.Tests.{opens, pairs, pairs_to};
-ghost use Rattle.line_laws.specs.Windows.{named_rows};
+ghost use Rattle.twin_tests_laws.specs.Tests.{opens, pairs, pairs_to};
+ghost use Rattle.twin_tests_laws.specs.Windows.{named_rows};
 ghost use Rattle.set_tree.specs.Formulas.{meaning_of};
 ghost use Rattle.set_tree.specs.Parts.{IsPosition, property_at, window_of};
 ghost use Rattle.twin_tests.specs.Building.{HasWidth, Tests};

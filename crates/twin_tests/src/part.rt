@@ -1,9 +1,9 @@
 // Each line where its property ends at n.
 ghost use Rattle.std.specs.Prelude.{◌≡◌, ℕ, ◌+◌, ◌<◌, ◌≤◌, List, length, max, IfOk};
 ghost use Rattle.std.specs.List.{All, list_any};
-ghost use Rattle.line_laws.specs.Lines.{edge_end, split_end};
-ghost use Rattle.line_laws.specs.Tests.{ends_at, violates_choose, violates_determine, violates_hand, violates_split};
-ghost use Rattle.line_laws.specs.Windows.{named_rows};
+ghost use Rattle.twin_tests_laws.specs.Lines.{edge_end, split_end};
+ghost use Rattle.twin_tests_laws.specs.Tests.{ends_at, violates_choose, violates_determine, violates_hand, violates_split};
+ghost use Rattle.twin_tests_laws.specs.Windows.{named_rows};
 ghost use Rattle.set_tree.specs.Formulas.{meaning_of};
 ghost use Rattle.set_tree.specs.Lines.{last_row};
 ghost use Rattle.set_tree.specs.Meaning.{Row};

@@ -1,6 +1,6 @@
 // Where properties start in rows of nodes.
 ghost use Rattle.std.specs.Prelude.{◌≡◌, ◌<◌, List, length, IfOk};
-ghost use Rattle.line_laws.specs.Tests.{starts};
+ghost use Rattle.twin_tests_laws.specs.Tests.{starts};
 ghost use Rattle.set_tree.specs.Formulas.{meaning_of};
 ghost use Rattle.set_tree.specs.Meaning.{Row};
 ghost use Rattle.set_tree.specs.Parts.{IsPosition, assumed, property_at};

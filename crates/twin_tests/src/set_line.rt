@@ -1,6 +1,6 @@
 // The lines of a set.
 ghost use Rattle.std.specs.Prelude.{◌≡◌};
-ghost use Rattle.line_laws.specs.Laws.{property_of};
+ghost use Rattle.twin_tests_laws.specs.Laws.{property_of};
 ghost use Rattle.twin_tests.specs.Ordering.{line_of};
 
 use set_tree::Line;

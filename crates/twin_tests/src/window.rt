@@ -4,8 +4,8 @@ ghost use Rattle.std.specs.List.{All};
 ghost use Rattle.vlog_tree.specs.Valuation.{IsLength};
 ghost use Rattle.word_dag.specs.Nodes.{Naming};
 ghost use Rattle.word_dag.specs.Adding.{Grows};
-ghost use Rattle.elab_node.specs.Nodes.{AddsFrees};
-ghost use Rattle.line_laws.specs.Windows.{side_of, named_value, rows_from};
+ghost use Rattle.elab_step_expr.specs.Nodes.{AddsFrees};
+ghost use Rattle.twin_tests_laws.specs.Windows.{side_of, named_value, rows_from};
 ghost use Rattle.twin_tests.specs.Building.{Counts, HasWidth, Shows, ShowsRow};
 ghost use Rattle.twin_tests.specs.Framing.{free_of, IsWordOf, IsWindowWord};
 
@@ -56,7 +56,7 @@ fn side_of(role: Role, side: u8) -> u8
 }
 
 // The free word of a name at a cycle of one side.
-#[tactic(auto, using(elab_node::proofs::Kept::free_added))]
+#[tactic(auto, using(elab_step_expr::proofs::Kept::free_added))]
 fn free_node(
     alloc: Global,
     dag: &mut Dag,

@@ -2,7 +2,7 @@
 ghost use Rattle.std.specs.Prelude.{◌≡◌, ℕ, ◌==◌, ◌<◌, ◌≤◌, Bool, not, ◌&&◌, ◌||◌, length, map, slice_index, IfOk};
 ghost use Rattle.word_dag.specs.Nodes.{Naming, width_of};
 ghost use Rattle.word_dag.specs.Adding.{Keeps};
-ghost use Rattle.line_laws.specs.Tests.{same};
+ghost use Rattle.twin_tests_laws.specs.Tests.{same};
 ghost use Rattle.twin_tests.specs.Building.{HasWidth, IsWide, Tests, Counts};
 
 use std::alloc::AllocError;

@@ -4,7 +4,7 @@ use Rattle.std.specs.Prelude.{slice_index}
 use Rattle.std.proofs.Math.ListN.{get_or-append}
 use Rattle.std.proofs.lemmas.Bool.{cases_Bool, cases_lt}
 use Rattle.std.proofs.lemmas.List.{get_or_push}
-use Rattle.vlog_runs.specs.Places.{Cycle}
+use Rattle.vlog_tree_runs.specs.Places.{Cycle}
 use Rattle.word_core.specs.Words.{word}
 use Rattle.word_dag.specs.declared.node.Node.{Node}
 use Rattle.word_dag.specs.declared.node.Node.TheVariants.{Free, Const, Two, Not, Slice, Zext, Sext, Mux}
@@ -14,10 +14,10 @@ use Rattle.word_dag.specs.Nodes.{FitsNode, Naming, dag_values, named, node_value
 use Rattle.word_dag.specs.Walks.{Each, operands, renumbered}
 use Rattle.word_dag.proofs.NodeValues.{Each-map, fits_at, length-widths, operands_at, renumbered_fits, renumbered_value, width_at-map, width_at-node, width_at-take, width_renumbered}
 use Rattle.word_dag.proofs.Valued.{value_there}
-use Rattle.elab_node.specs.Nodes.{IsNode}
-use Rattle.elab_node.proofs.Kept.{keeps_same, keeps_then}
-use Rattle.word_design.specs.Designs.{IsDesign, Parts, naming_of, word_in}
-use Rattle.segment_laws.proofs.Sources.{free_source, source_word}
+use Rattle.elab_step_expr.specs.Nodes.{IsNode}
+use Rattle.elab_step_expr.proofs.Kept.{keeps_same, keeps_then}
+use Rattle.elab_step_design.specs.Designs.{IsDesign, Parts, naming_of, word_in}
+use Rattle.unroll_laws.proofs.Sources.{free_source, source_word}
 use Rattle.unroll.specs.Copies.{AreCopies, AreLeaves, FitCopies, FitLeaves}
 
 pub node_later : (a b : List Node) (i w : ℕ) → Keeps a b → IsNode a i w → IsNode b i w

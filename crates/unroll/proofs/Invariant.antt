@@ -5,7 +5,7 @@ use Rattle.std.specs.List.{All}
 use Rattle.std.proofs.lemmas.List.Elements.{All-cons, All-head, All-nil, All-tail}
 use Rattle.set_tree.specs.declared.set.Rule.{Rule}
 use Rattle.set_tree.specs.declared.set.Set.{Set}
-use Rattle.set_sound.specs.Condition.{IsFormula}
+use Rattle.set_tree_structure.specs.Condition.{IsFormula}
 use Rattle.twin_tests.specs.Building.{IsReadable}
 use Rattle.twin_tests.specs.Reading.{HasStructure}
 use Rattle.twin_tests.proofs.Loops.{member_is}

@@ -6,7 +6,7 @@ use Rattle.set_tree.specs.Meaning.{Row}
 use Rattle.word_dag.specs.declared.node.Node.{Node}
 use Rattle.word_dag.specs.Nodes.{Naming}
 use Rattle.word_dag.specs.Adding.{Keeps}
-use Rattle.elab_node.proofs.Kept.{keeps_same, keeps_then}
+use Rattle.elab_step_expr.proofs.Kept.{keeps_same, keeps_then}
 use Rattle.twin_tests.specs.Building.{AreLeaves, Shows, Tests}
 use Rattle.twin_tests.proofs.Standing.{has_later, leaves_drop, leaves_later, shows_later, tests_later}
 

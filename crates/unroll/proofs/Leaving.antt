@@ -7,8 +7,8 @@ use Rattle.std.proofs.lemmas.Bool.{cases_Bool, cases_eq}
 use Rattle.std.proofs.lemmas.List.{map-append, take_more}
 use Rattle.std.proofs.lemmas.Slice.Eq.{bytes_eq-Decides}
 use Rattle.set_tree.specs.declared.set.Set.{Set}
-use Rattle.binding.specs.Binding.{Fits, same}
-use Rattle.vlog_runs.specs.Places.{Among}
+use Rattle.unroll_binding.specs.Binding.{Fits, same}
+use Rattle.vlog_tree_runs.specs.Places.{Among}
 use Rattle.word_core.specs.Words.{Bits, word}
 use Rattle.word_core.proofs.Numbers.{mask_grows}
 use Rattle.word_dag.specs.declared.node.Node.{Node}
@@ -16,17 +16,17 @@ use Rattle.word_dag.specs.declared.node.Node.TheVariants.{Free, Const, Two, Not,
 use Rattle.word_dag.specs.Adding.{Adds, Grows}
 use Rattle.word_dag.specs.Nodes.{Naming, width_at, width_of}
 use Rattle.word_dag.proofs.NodeValues.{fits_at, width_at-map}
-use Rattle.elab_node.proofs.Fits.{words_fit}
-use Rattle.elab_node.proofs.Kept.{grows_then, keeps_same}
+use Rattle.elab_step_expr.proofs.Fits.{words_fit}
+use Rattle.elab_step_expr.proofs.Kept.{grows_then, keeps_same}
 use Rattle.word_dag.proofs.Valued.{grows_kept}
-use Rattle.elab_node.specs.Nodes.{AddsFrees, IsNode}
-use Rattle.word_design.specs.declared.design.Net.{Net}
-use Rattle.word_design.specs.Designs.{IsDesign, Parts, free, naming_of, source, sources}
-use Rattle.word_design.specs.declared.design.Register.{Register}
-use Rattle.segment_laws.specs.Tests.{held, level, number_in}
-use Rattle.segment_laws.specs.Segments.{cycle_number}
-use Rattle.segment_laws.proofs.Holding.{held_first, held_input, held_register, held_reset, node_word}
-use Rattle.segment_laws.proofs.Sources.{one_node}
+use Rattle.elab_step_expr.specs.Nodes.{AddsFrees, IsNode}
+use Rattle.elab_step_design.specs.declared.design.Net.{Net}
+use Rattle.elab_step_design.specs.Designs.{IsDesign, Parts, free, naming_of, source, sources}
+use Rattle.elab_step_design.specs.declared.design.Register.{Register}
+use Rattle.unroll_laws.specs.Tests.{held, level, number_in}
+use Rattle.unroll_laws.specs.Segments.{cycle_number}
+use Rattle.unroll_laws.proofs.Holding.{held_first, held_input, held_register, held_reset, node_word}
+use Rattle.unroll_laws.proofs.Sources.{one_node}
 use Rattle.unroll.specs.Copies.{CopiedBefore, IsWordAt, ShowLeaves}
 use Rattle.unroll.specs.Unrolled.{IsSourceWord}
 use Rattle.unroll.proofs.Sourcing.{frees_again, frees_none, source_words}

@@ -12,17 +12,17 @@ use Rattle.set_tree.specs.Report.{design_lines, numbers_from}
 use Rattle.word_dag.specs.declared.node.Node.{Node}
 use Rattle.word_dag.specs.declared.ob.Named.{Named}
 use Rattle.word_dag.specs.Adding.{Keeps}
-use Rattle.word_design.specs.Designs.{IsDesign, Parts}
+use Rattle.elab_step_design.specs.Designs.{IsDesign, Parts}
 use Rattle.twin_tests.specs.Framing.{SpeaksOf}
 use Rattle.twin_tests.proofs.Reported.{numbers_more}
 use Rattle.unroll.specs.declared.segment.Segments.{Segments}
 use Rattle.unroll.specs.Named.{IsNamedOf, design_line}
-use Rattle.elab_node.specs.Nodes.{AddsFrees}
+use Rattle.elab_step_expr.specs.Nodes.{AddsFrees}
 use Rattle.unroll.specs.Unrolled.{AreSegments, IsSourceWord}
 use Rattle.unroll.proofs.Rowing.{segments_later, zip_more}
 use Rattle.unroll.proofs.Sourcing.{source_widths}
-use Rattle.word_names.specs.Names.{HasOneWidthEach}
-use Rattle.word_names.proofs.Taken.{widths_are_kept}
+use Rattle.word_dag.specs.Names.{HasOneWidthEach}
+use Rattle.word_dag.proofs.Taken.{widths_are_kept}
 
 -- one more line for a number
 pub number_step : (f : ℕ → Line) (old new next : List Line) (n k : ℕ) → new ≡ old ++ map f (numbers_from n k) → next ≡ new ++ f (n + k) ∷ [] → next ≡ old ++ map f (numbers_from n (k + 1))

@@ -8,19 +8,19 @@ use Rattle.std.proofs.lemmas.List.Elements.{All-cons, All-nil, All-push}
 use Rattle.set_tree.specs.declared.set.Name.{Name}
 use Rattle.set_tree.specs.declared.set.Set.{Set}
 use Rattle.set_tree.specs.Meaning.{Row}
-use Rattle.binding.specs.Binding.{Fits, net_at}
-use Rattle.vlog_runs.specs.Places.{Among, Cycle}
+use Rattle.unroll_binding.specs.Binding.{Fits, net_at}
+use Rattle.vlog_tree_runs.specs.Places.{Among, Cycle}
 use Rattle.word_core.specs.Words.{Bits}
 use Rattle.word_dag.specs.declared.node.Node.{Node}
 use Rattle.word_dag.specs.Adding.{Grows, Keeps}
 use Rattle.word_dag.specs.Nodes.{Naming, dag_values, width_at, word_at}
 use Rattle.word_dag.proofs.NodeValues.{width_at-map}
-use Rattle.word_design.specs.declared.design.Net.{Net}
-use Rattle.word_design.specs.Designs.{IsDesign, Parts, word_in}
-use Rattle.elab_node.specs.Nodes.{AddsFrees}
-use Rattle.elab_node.proofs.Kept.{grows_then}
-use Rattle.segment_laws.specs.Tests.{held, row_at, rows_from, seen, segment_rows, shown}
-use Rattle.segment_laws.proofs.Fitting.{IsThere, name_there}
+use Rattle.elab_step_design.specs.declared.design.Net.{Net}
+use Rattle.elab_step_design.specs.Designs.{IsDesign, Parts, word_in}
+use Rattle.elab_step_expr.specs.Nodes.{AddsFrees}
+use Rattle.elab_step_expr.proofs.Kept.{grows_then}
+use Rattle.unroll_laws.specs.Tests.{held, row_at, rows_from, seen, segment_rows, shown}
+use Rattle.unroll_laws.proofs.Fitting.{IsThere, name_there}
 use Rattle.twin_tests.specs.Building.{HasWidth, IsLeafRow, Shows, ShowsRow, row_in}
 use Rattle.twin_tests.proofs.Standing.{shown_length, shows_grown, shows_later, shows_take}
 use Rattle.unroll.specs.Copies.{AreCopies, CopiedBefore, FitCopies, IsPlaceOf, place_at}

@@ -3,18 +3,18 @@ use Rattle.std.proofs.Common.{◌≡◌, ◌≢◌, ℕ, zero, suc, ◌<◌, tru
 use Rattle.std.specs.Prelude.{ℤ, ◌⊎◌}
 use Rattle.std.specs.List.{AllPairs}
 use Rattle.std.proofs.lemmas.List.{length-map}
-use Rattle.vlog_runs.specs.Places.{Among}
+use Rattle.vlog_tree_runs.specs.Places.{Among}
 use Rattle.word_dag.specs.declared.node.Node.{Node}
 use Rattle.word_dag.specs.declared.node.Node.TheVariants.{Free}
 use Rattle.word_dag.specs.Adding.{IsAt, Keeps}
 use Rattle.word_dag.specs.Given.{is_free}
 use Rattle.word_dag.specs.Nodes.{width_of}
-use Rattle.elab_node.specs.Nodes.{AddsFrees}
-use Rattle.elab_node.proofs.Kept.{frees_then}
-use Rattle.word_design.specs.declared.design.Net.{Net}
-use Rattle.word_design.specs.Designs.{IsDesign, Parts, sources}
+use Rattle.elab_step_expr.specs.Nodes.{AddsFrees}
+use Rattle.elab_step_expr.proofs.Kept.{frees_then}
+use Rattle.elab_step_design.specs.declared.design.Net.{Net}
+use Rattle.elab_step_design.specs.Designs.{IsDesign, Parts, sources}
 use Rattle.unroll.specs.Unrolled.{IsSourceWord}
-use Rattle.word_names.specs.Names.{HasOneWidthEach}
+use Rattle.word_dag.specs.Names.{HasOneWidthEach}
 
 pub frees_none : (p : Node → Type 0) (a : List Node) → AddsFrees p a a
 frees_none p a n i free at = inl at

@@ -1,16 +1,16 @@
 -- A design's nodes in one cycle of a segment, as nodes of another dag.
 use Rattle.std.specs.Prelude.{◌≡◌, ℕ, zero, suc, ◌<◌, List, [], length, slice_index, Option, Some, None}
-use Rattle.binding.specs.Binding.{net_at}
+use Rattle.unroll_binding.specs.Binding.{net_at}
 use Rattle.set_tree.specs.declared.set.Name.{Name}
 use Rattle.set_tree.specs.declared.set.Set.{Set}
-use Rattle.vlog_runs.specs.Places.{Cycle, Among}
+use Rattle.vlog_tree_runs.specs.Places.{Cycle, Among}
 use Rattle.word_core.specs.Words.{word}
 use Rattle.word_dag.specs.declared.node.Node.{Node}
 use Rattle.word_dag.specs.Nodes.{Naming, dag_values, width_at, word_at}
-use Rattle.elab_node.specs.Nodes.{IsNode}
-use Rattle.word_design.specs.declared.design.Net.{Net}
-use Rattle.word_design.specs.Designs.{Parts, sources, word_in}
-use Rattle.segment_laws.specs.Tests.{held}
+use Rattle.elab_step_expr.specs.Nodes.{IsNode}
+use Rattle.elab_step_design.specs.declared.design.Net.{Net}
+use Rattle.elab_step_design.specs.Designs.{Parts, sources, word_in}
+use Rattle.unroll_laws.specs.Tests.{held}
 
 -- for each of these registers and inputs a node of its length, which stands at the place of its node in the design
 abbrev pub HaveNodes : Parts → List Node → List ℕ → List Net → Type 0

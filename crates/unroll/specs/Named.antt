@@ -6,10 +6,10 @@ use Rattle.set_tree.specs.declared.set.Set.{Set}
 use Rattle.set_tree.specs.Formulas.{meaning_of}
 use Rattle.set_tree.specs.Report.{design_lines}
 use Rattle.word_dag.specs.declared.ob.Named.{Named}
-use Rattle.word_design.specs.Designs.{Parts}
-use Rattle.line_laws.specs.Names.{line_name}
-use Rattle.segment_laws.specs.Lines.{IsOf}
-use Rattle.word_names.specs.Names.{HasOneWordEach}
+use Rattle.elab_step_design.specs.Designs.{Parts}
+use Rattle.twin_tests_laws.specs.Names.{line_name}
+use Rattle.unroll_laws.specs.Lines.{IsOf}
+use Rattle.word_dag.specs.Names.{HasOneWordEach}
 use Rattle.unroll.specs.declared.design_line.DesignLine.{DesignLine}
 use Rattle.unroll.specs.declared.design_line.DesignLine.TheVariants as d
 use Rattle.unroll.specs.declared.lines.OfNumber.{OfNumber}

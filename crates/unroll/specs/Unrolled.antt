@@ -2,12 +2,12 @@
 use Rattle.std.specs.Prelude.{◌≡◌, ℕ, ℤ, ◌<◌, List, length}
 use Rattle.set_tree.specs.declared.set.Set.{Set}
 use Rattle.set_tree.specs.Parts.{IsPosition, window_of}
-use Rattle.vlog_runs.specs.Places.{Among}
+use Rattle.vlog_tree_runs.specs.Places.{Among}
 use Rattle.word_dag.specs.declared.node.Node.{Node}
 use Rattle.word_dag.specs.declared.node.Node.TheVariants.{Free}
-use Rattle.word_design.specs.declared.design.Net.{Net}
-use Rattle.word_design.specs.Designs.{Parts, sources}
-use Rattle.segment_laws.specs.Tests.{rows_from}
+use Rattle.elab_step_design.specs.declared.design.Net.{Net}
+use Rattle.elab_step_design.specs.Designs.{Parts, sources}
+use Rattle.unroll_laws.specs.Tests.{rows_from}
 use Rattle.twin_tests.specs.Building.{Shows}
 use Rattle.unroll.specs.declared.segment.Segments.{Segments}
 

@@ -1,15 +1,15 @@
 // The nodes of a design in one cycle.
 ghost use Rattle.std.specs.Prelude.{false, true, ◌≡◌, ◌<◌, List, length, map, slice_index, IfOk, MatchOption};
 ghost use Rattle.unroll.specs.Copies.{AreCopies, AreLeaves, FitCopies, FitLeaves};
-ghost use Rattle.vlog_runs.specs.Places.{Cycle};
+ghost use Rattle.vlog_tree_runs.specs.Places.{Cycle};
 ghost use Rattle.word_dag.specs.Adding.{Adds, Keeps};
 ghost use Rattle.word_dag.specs.Given.{is_free};
 ghost use Rattle.word_dag.specs.Nodes.{FitsNode, Naming, width_of};
 ghost use Rattle.word_dag.specs.Walks.{Each, operands, renumbered};
 
+use elab_step_design::Design;
 use std::alloc::{AllocError, Global};
 use word_dag::{Dag, Node};
-use word_design::Design;
 
 // The node with the copies of its operands. A free word has none.
 fn inner(node: &Node, copies: &[u64]) -> Option<Node>

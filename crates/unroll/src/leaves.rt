@@ -1,25 +1,25 @@
 // The registers and inputs of a design in one cycle of a segment.
 ghost use Rattle.std.specs.Prelude.{◌≡◌, ◌<◌, ◌≤◌, pos, ◌-ℤ◌, nat_lt, [], length, map, if◌then◌else◌, IfOk, OnOk};
 ghost use Rattle.std.specs.Str.{bytes_eq};
-ghost use Rattle.binding.specs.Binding.{Fits};
-ghost use Rattle.elab_node.specs.Nodes.{AddsFrees, IsNode};
-ghost use Rattle.segment_laws.specs.Segments.{cycle_number};
-ghost use Rattle.segment_laws.specs.Tests.{held, level};
+ghost use Rattle.unroll_binding.specs.Binding.{Fits};
+ghost use Rattle.elab_step_expr.specs.Nodes.{AddsFrees, IsNode};
+ghost use Rattle.unroll_laws.specs.Segments.{cycle_number};
+ghost use Rattle.unroll_laws.specs.Tests.{held, level};
 ghost use Rattle.unroll.specs.Copies.{AreLeaves, CopiedBefore, FitLeaves, IsWordAt, ShowLeaves};
 ghost use Rattle.unroll.specs.Unrolled.{IsSourceWord};
-ghost use Rattle.vlog_runs.specs.Places.{Among};
+ghost use Rattle.vlog_tree_runs.specs.Places.{Among};
 ghost use Rattle.word_core.specs.Words.{word};
 ghost use Rattle.word_dag.specs.Adding.{Grows};
 ghost use Rattle.word_dag.specs.declared.node.Node.TheVariants.{Free};
-ghost use Rattle.word_design.specs.Designs.{IsDesign, source, sources};
+ghost use Rattle.elab_step_design.specs.Designs.{IsDesign, source, sources};
 
-use binding::Bound;
+use elab_step_design::{Net, Register};
 use outside::Text;
 use set_tree::Set;
 use std::alloc::{AllocError, Global};
+use unroll_binding::Bound;
 use word_core::Word;
 use word_dag::{Dag, Node};
-use word_design::{Net, Register};
 
 /// A cycle of a segment: how many cycles stand before it, and how many before cycle 0, in which reset is active.
 #[derive(Clone, Copy)]

@@ -1,7 +1,7 @@
 // The lines of a design as nodes.
 ghost use Rattle.std.specs.Prelude.{◌≡◌, ◌<◌, ◌&&◌, List, length, IfOk};
-ghost use Rattle.line_laws.specs.Tests.{meets_constraints};
-ghost use Rattle.segment_laws.specs.Tests.{meets_invariants, violates_base, violates_operation, violates_reset, violates_step};
+ghost use Rattle.twin_tests_laws.specs.Tests.{meets_constraints};
+ghost use Rattle.unroll_laws.specs.Tests.{meets_invariants, violates_base, violates_operation, violates_reset, violates_step};
 ghost use Rattle.set_tree.specs.Formulas.{meaning_of};
 ghost use Rattle.set_tree.specs.Meaning.{Row};
 ghost use Rattle.twin_tests.specs.Building.{AreLeaves, HasWidth, Shows, Tests};

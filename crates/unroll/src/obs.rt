@@ -1,8 +1,8 @@
 // The obligations of a design's lines.
 ghost use Rattle.std.specs.Prelude.{◌≡◌, ◌<◌, length, IfOk, OnOk};
 ghost use Rattle.std.specs.List.{All, AllZip};
-ghost use Rattle.binding.specs.Binding.{Fits};
-ghost use Rattle.segment_laws.specs.Tests.{line_test};
+ghost use Rattle.unroll_binding.specs.Binding.{Fits};
+ghost use Rattle.unroll_laws.specs.Tests.{line_test};
 ghost use Rattle.set_tree.specs.Formulas.{meaning_of};
 ghost use Rattle.set_tree.specs.Report.{design_lines};
 ghost use Rattle.twin_tests.specs.Building.{HasWidth, Tests};
@@ -11,18 +11,18 @@ ghost use Rattle.twin_tests.specs.Reading.{HasStructure};
 ghost use Rattle.unroll.specs.Named.{IsNamedOf, design_line, line_of};
 ghost use Rattle.unroll.specs.Unrolled.{AreSegments};
 ghost use Rattle.word_dag.specs.Adding.{Keeps};
-ghost use Rattle.word_names.specs.Names.{HasOneWidthEach};
-ghost use Rattle.word_design.specs.Designs.{IsDesign, Parts};
+ghost use Rattle.word_dag.specs.Names.{HasOneWidthEach};
+ghost use Rattle.elab_step_design.specs.Designs.{IsDesign, Parts};
 
 use crate::design_line::DesignLine;
 use crate::line::{base_node, operation_node, reset_node, step_node};
 use crate::lines::lines_of;
 use crate::segment::{Segments, segments_of};
-use binding::Bound;
-use line_laws::line_name;
 use set_tree::Set;
 use std::alloc::{AllocError, Global};
 use twin_tests::{property_of, rows_before};
+use twin_tests_laws::line_name;
+use unroll_binding::Bound;
 use word_dag::{Dag, Named, extract};
 
 // A line of the design as a node: 1 exactly at values whose segment violates it.

@@ -1,6 +1,6 @@
 // Invariants and commitments in rows of nodes.
 ghost use Rattle.std.specs.Prelude.{◌≡◌, ◌<◌, not, List, length, slice_get, IfOk};
-ghost use Rattle.segment_laws.specs.Tests.{fails, meets_invariants};
+ghost use Rattle.unroll_laws.specs.Tests.{fails, meets_invariants};
 ghost use Rattle.set_tree.specs.Formulas.{meaning_of};
 ghost use Rattle.set_tree.specs.Meaning.{Row};
 ghost use Rattle.set_tree.specs.Parts.{committed};
@@ -37,7 +37,7 @@ pub fn invariants_node(
 }
 
 /// Whether the invariant at a position doesn't hold in the first row.
-#[tactic(auto, using(elab_node::proofs::Kept::keeps_then))]
+#[tactic(auto, using(elab_step_expr::proofs::Kept::keeps_then))]
 pub fn fails_node(
     alloc: Global,
     dag: &mut Dag,
@@ -62,7 +62,7 @@ pub fn fails_node(
 }
 
 /// Whether a property that starts in the first row doesn't commit.
-#[tactic(auto, using(elab_node::proofs::Kept::keeps_then))]
+#[tactic(auto, using(elab_step_expr::proofs::Kept::keeps_then))]
 pub fn broken_node(
     alloc: Global,
     dag: &mut Dag,

@@ -1,22 +1,22 @@
 // The rows of segments as nodes.
 ghost use Rattle.std.specs.Prelude.{◌≡◌, ◌+◌, ◌<◌, ◌≤◌, ◌^◌, suc, true, is_some, length, map, slice_index, IfOk};
 ghost use Rattle.std.specs.List.{All, AllZip};
-ghost use Rattle.binding.specs.Binding.{Fits, net_at};
-ghost use Rattle.elab_node.specs.Nodes.{AddsFrees};
-ghost use Rattle.segment_laws.specs.Tests.{rows_from};
+ghost use Rattle.unroll_binding.specs.Binding.{Fits, net_at};
+ghost use Rattle.elab_step_expr.specs.Nodes.{AddsFrees};
+ghost use Rattle.unroll_laws.specs.Tests.{rows_from};
 ghost use Rattle.twin_tests.specs.Building.{Shows};
 ghost use Rattle.unroll.specs.Copies.{CopiedBefore, IsPlaceOf, place_at};
 ghost use Rattle.unroll.specs.Unrolled.{IsSourceWord};
 ghost use Rattle.word_dag.specs.Adding.{Grows};
-ghost use Rattle.word_design.specs.Designs.{IsDesign};
+ghost use Rattle.elab_step_design.specs.Designs.{IsDesign};
 
 use crate::copies::copy_nodes;
 use crate::leaves::{Moment, leaves_of};
-use binding::Bound;
+use elab_step_design::Net;
 use std::alloc::{AllocError, Global};
 use twin_tests::NodeRow;
+use unroll_binding::Bound;
 use word_dag::Dag;
-use word_design::Net;
 
 /// The place of the node of a signal of this name, if there is one.
 pub fn place_of(nets: &[Net], name: &[u8]) -> Option<u64>

@@ -1,16 +1,16 @@
 // The segments of a design as nodes.
 ghost use Rattle.std.specs.Prelude.{◌≡◌, IfOk};
 ghost use Rattle.std.specs.List.{AllZip};
-ghost use Rattle.elab_node.specs.Nodes.{AddsFrees};
+ghost use Rattle.elab_step_expr.specs.Nodes.{AddsFrees};
 ghost use Rattle.twin_tests.specs.Reading.{HasStructure};
 ghost use Rattle.unroll.specs.Copies.{IsPlaceOf};
 ghost use Rattle.unroll.specs.Unrolled.{AreSegments, IsSourceWord};
 ghost use Rattle.word_dag.specs.Adding.{Grows};
 
 use crate::rows::{place_of, segment_nodes};
-use binding::Bound;
 use std::alloc::{AllocError, Global};
 use twin_tests::{NodeRow, largest_window};
+use unroll_binding::Bound;
 use word_dag::Dag;
 
 /// The rows of a design's segments from cycle 0 on: behind reset cycles, and without them.

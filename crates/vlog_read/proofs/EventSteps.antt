@@ -14,11 +14,11 @@ use Rattle.vlog_tree.specs.Lists.{Maybe, Flag, Separated, highest}
 use Rattle.vlog_tree.specs.Spelling.{IsIdentifier, IsNamed}
 use Rattle.vlog_tree.specs.Statements.{SpellsEdge, edge_word, OrComma, SpellsEvents}
 use Rattle.vlog_tree.specs.Modules.{SpellsRange, SpellsShape, SpellsKind}
-use Rattle.vlog_spell.proofs.Tokens.{two_signs, two_words}
-use Rattle.vlog_spell.proofs.Declarations.{absent, signed_reserved}
-use Rattle.vlog_spell.proofs.Statements.{no_word}
-use Rattle.vlog_spell.proofs.Modules.{kind_word}
-use Rattle.vlog_lex.specs.declared.error.ReadFault.{ReadFault}
+use Rattle.vlog_read_spelling.proofs.Tokens.{two_signs, two_words}
+use Rattle.vlog_read_spelling.proofs.Declarations.{absent, signed_reserved}
+use Rattle.vlog_read_spelling.proofs.Statements.{no_word}
+use Rattle.vlog_read_spelling.proofs.Modules.{kind_word}
+use Rattle.vlog_read_lex.specs.declared.error.ReadFault.{ReadFault}
 use Rattle.vlog_read_expr.specs.Answers.{Refusal}
 use Rattle.vlog_read_expr.specs.Names.{RefusesIdentifier}
 use Rattle.vlog_read_expr.proofs.Steps.{passes}

@@ -15,9 +15,9 @@ use Rattle.vlog_tree.specs.declared.module.HeaderPort.TheVariants as h
 use Rattle.vlog_tree.specs.declared.module.Ports.{Ports}
 use Rattle.vlog_tree.specs.declared.module.Ports.TheVariants as q
 use Rattle.vlog_tree.specs.Modules.{SpellsShape, SpellsKind, SpellsHeaderParameter, SpellsHeaderPort, SpellsParameters, SpellsPorts, SpellsHeader, BeginsParameters, BeginsGroup, shape_height, parameter_height, header_parameter_height, header_port_height, ports_height}
-use Rattle.vlog_spell.proofs.Tokens.{two_signs}
-use Rattle.vlog_spell.proofs.Modules.{kind_word}
-use Rattle.vlog_lex.specs.declared.error.ReadFault.{ReadFault}
+use Rattle.vlog_read_spelling.proofs.Tokens.{two_signs}
+use Rattle.vlog_read_spelling.proofs.Modules.{kind_word}
+use Rattle.vlog_read_lex.specs.declared.error.ReadFault.{ReadFault}
 use Rattle.vlog_read_expr.specs.Answers.{Refusal}
 use Rattle.vlog_read_expr.specs.Names.{Lacks, RefusesIdentifier}
 use Rattle.vlog_read_expr.proofs.Steps.{passes}

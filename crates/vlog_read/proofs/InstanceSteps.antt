@@ -11,10 +11,10 @@ use Rattle.vlog_tree.specs.Signs.{IsSign, unary_of}
 use Rattle.vlog_tree.specs.Lists.{Maybe, More, Separated, Comma, InParens, AfterHash, highest, highest_of}
 use Rattle.vlog_tree.specs.Spelling.{Spells, Reads, height}
 use Rattle.vlog_tree.specs.Modules.{SpellsConnection, SpellsArgs, SpellsInstance, connection_height, args_height, instance_height}
-use Rattle.vlog_spell.proofs.Tokens.{stops_paren, two_signs}
-use Rattle.vlog_spell.proofs.Modules.{expr_no_sign}
-use Rattle.vlog_spell.proofs.Reading.{unique}
-use Rattle.vlog_lex.specs.declared.error.ReadFault.{ReadFault}
+use Rattle.vlog_read_spelling.proofs.Tokens.{stops_paren, two_signs}
+use Rattle.vlog_read_spelling.proofs.Modules.{expr_no_sign}
+use Rattle.vlog_read_spelling.proofs.Reading.{unique}
+use Rattle.vlog_read_lex.specs.declared.error.ReadFault.{ReadFault}
 use Rattle.vlog_read_expr.specs.declared.expr.Parsed.{Parsed}
 use Rattle.vlog_read_expr.specs.Answers.{IsRead, Refusal, Refuses}
 use Rattle.vlog_read_expr.specs.Names.{RefusesIdentifier}

@@ -23,10 +23,10 @@ use Rattle.vlog_tree.specs.Lists.{Maybe, AfterHash, Sequence, UpToEnd, highest, 
 use Rattle.vlog_tree.specs.Spelling.{IsIdentifier, IsNamed}
 use Rattle.vlog_tree.specs.Statements.{SpellsEvents, stmt_height}
 use Rattle.vlog_tree.specs.Modules.{SpellsShape, SpellsKind, SpellsWire, SpellsRegister, SpellsParameter, SpellsAssign, SpellsArgs, SpellsInstance, SpellsItem, SpellsHeader, SpellsModule, SpellsFile, header_parameter_height, ports_height, wire_height, register_height, parameter_height, assign_height, args_height, instance_height, item_height, module_height, file_height}
-use Rattle.vlog_spell.proofs.Tokens.{kind_within}
-use Rattle.vlog_spell.proofs.Modules.{kind_word, items_no_else, item_no_endmodule, ItemForm, item_form_as, item_head, item_kind, port, wire, register, parameter, local_parameter, assign, always}
-use Rattle.vlog_lex.specs.declared.error.ReadFault.{ReadFault}
-use Rattle.vlog_lex.specs.declared.error.ReadFault.TheVariants as f
+use Rattle.vlog_read_spelling.proofs.Tokens.{kind_within}
+use Rattle.vlog_read_spelling.proofs.Modules.{kind_word, items_no_else, item_no_endmodule, ItemForm, item_form_as, item_head, item_kind, port, wire, register, parameter, local_parameter, assign, always}
+use Rattle.vlog_read_lex.specs.declared.error.ReadFault.{ReadFault}
+use Rattle.vlog_read_lex.specs.declared.error.ReadFault.TheVariants as f
 use Rattle.vlog_read_expr.specs.Answers.{IsDeep, Refusal}
 use Rattle.vlog_read_expr.specs.Names.{Lacks, RefusesIdentifier}
 use Rattle.vlog_read_expr.proofs.Steps.{Has, passes}

@@ -6,8 +6,8 @@ use Rattle.vlog_tree.specs.declared.token.Kind.TheVariants as k
 use Rattle.vlog_tree.specs.Signs.{on_sign, infix_of}
 use Rattle.vlog_tree.specs.Lists.{Comma, More, Separated, highest}
 use Rattle.vlog_tree.specs.Statements.{OrComma}
-use Rattle.vlog_spell.proofs.Tokens.{Stops, kind_within, stops_comma, stops_paren, stops_semicolon, two_signs}
-use Rattle.vlog_lex.specs.declared.error.ReadFault.{ReadFault}
+use Rattle.vlog_read_spelling.proofs.Tokens.{Stops, kind_within, stops_comma, stops_paren, stops_semicolon, two_signs}
+use Rattle.vlog_read_lex.specs.declared.error.ReadFault.{ReadFault}
 use Rattle.vlog_read_expr.specs.Answers.{Refusal}
 use Rattle.vlog_read_expr.proofs.Steps.{Has, passes}
 use Rattle.vlog_read_stmt.proofs.Passing.{highest-append}

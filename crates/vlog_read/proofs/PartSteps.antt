@@ -16,10 +16,10 @@ use Rattle.vlog_tree.specs.Lists.{Maybe, Flag, Comma, Separated, UpToEnd, highes
 use Rattle.vlog_tree.specs.Spelling.{IsIdentifier, IsNamed, Spells, Reads, height}
 use Rattle.vlog_tree.specs.Statements.{SpellsLval, lval_height}
 use Rattle.vlog_tree.specs.Modules.{SpellsRange, SpellsShape, SpellsValue, SpellsWire, SpellsRegister, SpellsParameter, SpellsAssign, range_height, shape_height, wire_height, register_height, parameter_height, assign_height}
-use Rattle.vlog_spell.proofs.Tokens.{kind_within, stops_bracket, stops_colon, two_signs}
-use Rattle.vlog_spell.proofs.Forms.{length_of}
-use Rattle.vlog_spell.proofs.Reading.{unique}
-use Rattle.vlog_lex.specs.declared.error.ReadFault.{ReadFault}
+use Rattle.vlog_read_spelling.proofs.Tokens.{kind_within, stops_bracket, stops_colon, two_signs}
+use Rattle.vlog_read_spelling.proofs.Forms.{length_of}
+use Rattle.vlog_read_spelling.proofs.Reading.{unique}
+use Rattle.vlog_read_lex.specs.declared.error.ReadFault.{ReadFault}
 use Rattle.vlog_read_expr.specs.declared.expr.Parsed.{Parsed}
 use Rattle.vlog_read_expr.specs.Answers.{IsRead, Refusal, Refuses}
 use Rattle.vlog_read_expr.specs.Names.{RefusesIdentifier}

@@ -9,8 +9,8 @@ use Rattle.vlog_tree.specs.Modules.{SpellsKind}
 use Rattle.vlog_tree.specs.declared.token.Kind.TheVariants as k
 use Rattle.vlog_tree.specs.Spelling.{IsIdentifier}
 use Rattle.vlog_tree.specs.Statements.{OrComma}
-use Rattle.vlog_spell.proofs.Tokens.{kind_within}
-use Rattle.vlog_spell.proofs.Forms.{height_pos, length_of, within}
+use Rattle.vlog_read_spelling.proofs.Tokens.{kind_within}
+use Rattle.vlog_read_spelling.proofs.Forms.{height_pos, length_of, within}
 use Rattle.vlog_read_expr.specs.declared.expr.Parsed.{Parsed}
 use Rattle.vlog_read_expr.specs.Answers.{IsRead}
 use Rattle.vlog_read_stmt.specs.declared.lval.ParsedLval.{ParsedLval}

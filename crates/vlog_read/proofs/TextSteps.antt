@@ -1,9 +1,9 @@
 -- A text is refused for its tokens, or for what they spell.
 use Rattle.std.proofs.Common.{ℕ, ◌≡◌, List, false, refl}
 use Rattle.vlog_tree.specs.declared.token.Token.{Token}
-use Rattle.vlog_lex.specs.Tokens.{Lexes, HasFault, NamesByte}
-use Rattle.vlog_lex.specs.declared.error.ReadFault.{ReadFault}
-use Rattle.vlog_lex.specs.declared.error.ReadFault.TheVariants as f
+use Rattle.vlog_read_lex.specs.Tokens.{Lexes, HasFault, NamesByte}
+use Rattle.vlog_read_lex.specs.declared.error.ReadFault.{ReadFault}
+use Rattle.vlog_read_lex.specs.declared.error.ReadFault.TheVariants as f
 use Rattle.vlog_read.specs.Texts.{RefusesTokens, RefusesText}
 
 pub token_faults : (bytes : List ℕ) (fault : ReadFault) → HasFault false bytes fault → RefusesText bytes fault

@@ -7,7 +7,7 @@ use Rattle.vlog_tree.specs.Modules.{SpellsKind, SpellsItem, item_height, SpellsM
 use Rattle.vlog_tree.specs.declared.module.Module.{Module}
 use Rattle.vlog_tree.specs.Signs.{IsSign, IsWord}
 use Rattle.vlog_tree.specs.Lists.{Sequence, Flag}
-use Rattle.vlog_lex.specs.declared.error.ReadFault.{ReadFault}
+use Rattle.vlog_read_lex.specs.declared.error.ReadFault.{ReadFault}
 use Rattle.vlog_read_expr.specs.Answers.{Refusal}
 use Rattle.vlog_read_expr.specs.Names.{Lacks}
 use Rattle.vlog_read.specs.declared.part.Found.{Found}

@@ -5,7 +5,7 @@ use Rattle.vlog_tree.specs.Signs.{IsSign, IsWord}
 use Rattle.vlog_tree.specs.Lists.{Maybe, AfterHash, highest, highest_of}
 use Rattle.vlog_tree.specs.Spelling.{IsIdentifier}
 use Rattle.vlog_tree.specs.Modules.{SpellsParameters, SpellsHeader, header_parameter_height, ports_height}
-use Rattle.vlog_lex.specs.declared.error.ReadFault.{ReadFault}
+use Rattle.vlog_read_lex.specs.declared.error.ReadFault.{ReadFault}
 use Rattle.vlog_read_expr.specs.Answers.{Refusal}
 use Rattle.vlog_read.specs.Answers.{IsFound}
 use Rattle.vlog_read.specs.declared.part.Found.{Found}

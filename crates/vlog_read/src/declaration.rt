@@ -8,7 +8,7 @@ use crate::part::{Found, Part};
 use crate::parts::read_shape;
 use sqlite_items::Items;
 use std::alloc::Global;
-use vlog_lex::ReadFault;
+use vlog_read_lex::ReadFault;
 use vlog_tree::{Shape, Token};
 
 /// What a declaration says after its word.

@@ -8,8 +8,8 @@ use crate::list::or_list;
 use crate::part::{Found, Part};
 use outside::Text;
 use std::alloc::Global;
-use vlog_lex::ReadFault;
 use vlog_read_expr::{after, identifier, is_sign, is_word};
+use vlog_read_lex::ReadFault;
 use vlog_tree::{Edge, Events, Token};
 
 impl Part for Edge {

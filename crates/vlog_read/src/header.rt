@@ -12,8 +12,8 @@ use crate::parts::read_shape;
 use outside::Text;
 use sqlite_items::Items;
 use std::alloc::Global;
-use vlog_lex::ReadFault;
 use vlog_read_expr::{after, identifier, is_sign, is_word};
+use vlog_read_lex::ReadFault;
 use vlog_tree::{HeaderParameter, HeaderPort, Parameter, Ports, Token};
 
 impl Part for HeaderPort {

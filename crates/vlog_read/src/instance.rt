@@ -9,8 +9,8 @@ ghost use Rattle.vlog_read.specs.Answers.{Finds, Before, Closes, NoSign};
 use crate::list::comma_list;
 use crate::part::{Found, Part};
 use std::alloc::Global;
-use vlog_lex::ReadFault;
 use vlog_read_expr::{after, identifier, is_sign, read_tree};
+use vlog_read_lex::ReadFault;
 use vlog_tree::{Args, Connection, Expr, Instance, Token};
 
 /// `( expression )` or `()`.

@@ -10,8 +10,8 @@ use crate::list::up_to_end;
 use crate::part::Found;
 use outside::Text;
 use std::alloc::Global;
-use vlog_lex::ReadFault;
 use vlog_read_expr::{after, identifier, is_sign, is_word};
+use vlog_read_lex::ReadFault;
 use vlog_read_stmt::read_stmt;
 use vlog_tree::{Assign, Instance, Item, Parameter, PortKind, Register, Token, Wire};
 

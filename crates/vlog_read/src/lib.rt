@@ -14,4 +14,4 @@ mod read;
 
 pub use module::read_module_list;
 pub use read::read_modules;
-pub use vlog_lex::ReadFault;
+pub use vlog_read_lex::ReadFault;

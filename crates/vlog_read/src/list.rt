@@ -7,8 +7,8 @@ ghost use Rattle.vlog_read.specs.Answers.{Finds, Before, Closes};
 use crate::part::{Found, Part};
 use sqlite_items::Items;
 use std::alloc::Global;
-use vlog_lex::ReadFault;
 use vlog_read_expr::{after, is_sign, is_word};
+use vlog_read_lex::ReadFault;
 use vlog_tree::Token;
 
 /// Parts with commas between.

@@ -12,8 +12,8 @@ use crate::part::Found;
 use outside::Text;
 use sqlite_items::Items;
 use std::alloc::{AllocError, Global};
-use vlog_lex::ReadFault;
 use vlog_read_expr::{after, identifier, is_sign, is_word};
+use vlog_read_lex::ReadFault;
 use vlog_tree::{HeaderParameter, Item, Module, Ports, Token};
 
 const MAX_HEIGHT: usize = 500;

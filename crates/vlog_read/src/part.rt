@@ -4,7 +4,7 @@ ghost use Rattle.vlog_tree.specs.declared.token.Token.{Token};
 ghost use Rattle.vlog_read.specs.Answers.{Finds, Before, Follows};
 
 use std::alloc::Global;
-use vlog_lex::ReadFault;
+use vlog_read_lex::ReadFault;
 use vlog_tree::Token;
 
 /// What is read at a place, the greatest height of a node in it, and the place after it.

@@ -10,8 +10,8 @@ ghost use Rattle.vlog_read.specs.Answers.{Finds, Before, Follows, NoSign, Plain}
 use crate::part::{Found, Part};
 use outside::Text;
 use std::alloc::Global;
-use vlog_lex::ReadFault;
 use vlog_read_expr::{after, identifier, is_sign, is_word, read_tree};
+use vlog_read_lex::ReadFault;
 use vlog_read_stmt::read_lval;
 use vlog_tree::{Assign, Expr, Lval, Parameter, Range, Register, Shape, Token, Wire};
 

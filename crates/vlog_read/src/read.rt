@@ -2,12 +2,12 @@
 ghost use Rattle.std.specs.Prelude.{ℕ, ◌≤◌, IfOk, IfErr, List, length};
 ghost use Rattle.vlog_tree.specs.declared.token.Token.{Token};
 ghost use Rattle.vlog_tree.specs.Modules.{SpellsFile, file_height};
-ghost use Rattle.vlog_lex.specs.Tokens.{LieWithin, NamesByte};
+ghost use Rattle.vlog_read_lex.specs.Tokens.{LieWithin, NamesByte};
 ghost use Rattle.vlog_read.specs.Texts.{SpellsModules, RefusesTokens, RefusesText};
 
 use crate::module::read_module_list;
 use std::alloc::Global;
-use vlog_lex::{ReadFault, byte_of, read_tokens};
+use vlog_read_lex::{ReadFault, byte_of, read_tokens};
 use vlog_tree::{Module, Token};
 
 /// A fault with the place of a byte, of one with the place of a token.

@@ -8,18 +8,18 @@ use Rattle.vlog_tree.specs.declared.expr.Expr.TheBlock.{shape-the_row-Expr-0, hi
 use denote.Hole.Carrier
 use Rattle.vlog_tree.specs.Signs.{IsSign}
 use Rattle.vlog_tree.specs.Spelling.{height, heights, Spells, SpellsList, SpellsMore, Reads, NoSuffix}
-use Rattle.vlog_spell.proofs.Rows.{list_of, list_of-hidden}
-use Rattle.vlog_spell.proofs.Tokens.{first_brace, Stops, stops_brace, stops_comma, stops_open_brace}
-use Rattle.vlog_spell.proofs.Forms.{length_of, ConcatForm, RepeatForm, Begun, begun}
-use Rattle.vlog_spell.proofs.Compare.{infix_low, no_open}
-use Rattle.vlog_spell.proofs.Reading.{level_pos, unique, stop_ends}
-use Rattle.vlog_lex.specs.declared.error.ReadFault.{ReadFault}
+use Rattle.vlog_read_spelling.proofs.Rows.{list_of, list_of-hidden}
+use Rattle.vlog_read_spelling.proofs.Tokens.{first_brace, Stops, stops_brace, stops_comma, stops_open_brace}
+use Rattle.vlog_read_spelling.proofs.Forms.{length_of, ConcatForm, RepeatForm, Begun, begun}
+use Rattle.vlog_read_spelling.proofs.Compare.{infix_low, no_open}
+use Rattle.vlog_read_spelling.proofs.Reading.{level_pos, unique, stop_ends}
+use Rattle.vlog_read_lex.specs.declared.error.ReadFault.{ReadFault}
 use Rattle.vlog_read_expr.specs.declared.expr.Parsed.{Parsed}
 use Rattle.vlog_read_expr.specs.declared.expr.Listed.{Listed}
 use Rattle.vlog_read_expr.specs.Answers.{Refusal, Refuses, IsRead, ReadsTrees, IsListed}
 use Rattle.vlog_tree.specs.Lists.{Comma, highest}
-use Rattle.vlog_spell.specs.Growing.{ReadsMore}
-use Rattle.vlog_spell.proofs.Lists.{one_list, Started, starts, stops, grows, another, highest-append}
+use Rattle.vlog_read_spelling.specs.Growing.{ReadsMore}
+use Rattle.vlog_read_spelling.proofs.Lists.{one_list, Started, starts, stops, grows, another, highest-append}
 use Rattle.vlog_read_expr.proofs.Steps.{Has, passes}
 
 module _ (set : Bool) (ts : List Token) where

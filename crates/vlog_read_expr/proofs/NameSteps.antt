@@ -8,11 +8,11 @@ use Rattle.vlog_tree.specs.declared.expr.Name.{Name}
 use Rattle.vlog_tree.specs.Signs.{kind_at, IsSign}
 use Rattle.vlog_tree.specs.Lists.{Separated}
 use Rattle.vlog_tree.specs.Spelling.{IsIdentifier, IsNamed, Dot, dotted, after_dots, IsPath, IsOffset}
-use Rattle.vlog_spell.specs.Growing.{NoPath, ReadsList, ReadsMore}
-use Rattle.vlog_spell.proofs.Lists.{Started, starts, stops, grows, another, reads_more}
-use Rattle.vlog_spell.proofs.Names.{one_named, one_path, offset_no_dot, as_read}
-use Rattle.vlog_lex.specs.declared.error.ReadFault.{ReadFault}
-use Rattle.vlog_lex.specs.declared.error.ReadFault.TheVariants as f
+use Rattle.vlog_read_spelling.specs.Growing.{NoPath, ReadsList, ReadsMore}
+use Rattle.vlog_read_spelling.proofs.Lists.{Started, starts, stops, grows, another, reads_more}
+use Rattle.vlog_read_spelling.proofs.Names.{one_named, one_path, offset_no_dot, as_read}
+use Rattle.vlog_read_lex.specs.declared.error.ReadFault.{ReadFault}
+use Rattle.vlog_read_lex.specs.declared.error.ReadFault.TheVariants as f
 use Rattle.vlog_read_expr.specs.Names.{Lacks, RefusesIdentifier, ReadsPath, ReadsOffset, ReadsName}
 
 pub after_dots-append : (xs ys : List (List ℕ)) → after_dots (xs ++ ys) ≡ after_dots xs ++ after_dots ys

@@ -12,15 +12,15 @@ use Rattle.vlog_tree.specs.declared.expr.Expr.{Expr}
 use Rattle.vlog_tree.specs.declared.expr.Expr.TheVariants as e
 use Rattle.vlog_tree.specs.Signs.{kind_at, IsSign, IsWord, unary_at, cast_of, cast_at, on_word, span_at}
 use Rattle.vlog_tree.specs.Spelling.{height, IsIdentifier, IsName, NoSuffix, Spells, Ends, Reads}
-use Rattle.vlog_spell.specs.Growing.{NoPath}
-use Rattle.vlog_spell.proofs.Names.{bracket_no_path, one_name as same_name, name_begins, name_long}
+use Rattle.vlog_read_spelling.specs.Growing.{NoPath}
+use Rattle.vlog_read_spelling.proofs.Names.{bracket_no_path, one_name as same_name, name_begins, name_long}
 use Rattle.vlog_read_expr.specs.Names.{Lacks, ReadsName}
-use Rattle.vlog_spell.proofs.Tokens.{First, number, word, paren, unary, nothing, first_at, first_number, first_word, first_paren, first_unary, stops_paren, stops_bracket, stops_span, no_span, word_of}
-use Rattle.vlog_spell.proofs.Forms.{length_of, select_of, part_of, cast_tree, paren_of, unary_tree, SelectForm, PartForm, CastForm, NamedForm, ParenForm, UnaryForm, Begun, begun}
-use Rattle.vlog_spell.proofs.Compare.{infix_low, named_no_cast, no_cast, suffix_path}
-use Rattle.vlog_spell.proofs.Reading.{level_pos, unique, stop_ends}
-use Rattle.vlog_lex.specs.declared.error.ReadFault.{ReadFault}
-use Rattle.vlog_lex.specs.declared.error.ReadFault.TheVariants as f
+use Rattle.vlog_read_spelling.proofs.Tokens.{First, number, word, paren, unary, nothing, first_at, first_number, first_word, first_paren, first_unary, stops_paren, stops_bracket, stops_span, no_span, word_of}
+use Rattle.vlog_read_spelling.proofs.Forms.{length_of, select_of, part_of, cast_tree, paren_of, unary_tree, SelectForm, PartForm, CastForm, NamedForm, ParenForm, UnaryForm, Begun, begun}
+use Rattle.vlog_read_spelling.proofs.Compare.{infix_low, named_no_cast, no_cast, suffix_path}
+use Rattle.vlog_read_spelling.proofs.Reading.{level_pos, unique, stop_ends}
+use Rattle.vlog_read_lex.specs.declared.error.ReadFault.{ReadFault}
+use Rattle.vlog_read_lex.specs.declared.error.ReadFault.TheVariants as f
 use Rattle.vlog_read_expr.specs.declared.expr.Parsed.{Parsed}
 use Rattle.vlog_read_expr.specs.Answers.{Refusal, Refuses, IsRead, Closed, IsClosed}
 use Rattle.vlog_read_expr.proofs.Steps.{Has, passes}

@@ -8,13 +8,13 @@ use Rattle.vlog_tree.specs.declared.expr.Binary.{Binary}
 use Rattle.vlog_tree.specs.declared.expr.Expr.{Expr}
 use Rattle.vlog_tree.specs.Signs.{IsSign, infix_at, infix_level, binary_level}
 use Rattle.vlog_tree.specs.Spelling.{level, height, NoSuffix, Spells, Reads}
-use Rattle.vlog_spell.specs.Growing.{Takes}
-use Rattle.vlog_spell.proofs.Tokens.{binary_high}
-use Rattle.vlog_spell.proofs.Forms.{height_pos, length_of, within, binary_of, choice_of}
-use Rattle.vlog_spell.proofs.Compare.{Outcome, infix_low, infix_high}
-use Rattle.vlog_spell.proofs.Reading.{outcome, unique, begins, NextBinary, NextChoice, Next, next}
-use Rattle.vlog_lex.specs.declared.error.ReadFault.{ReadFault}
-use Rattle.vlog_lex.specs.declared.error.ReadFault.TheVariants as f
+use Rattle.vlog_read_spelling.specs.Growing.{Takes}
+use Rattle.vlog_read_spelling.proofs.Tokens.{binary_high}
+use Rattle.vlog_read_spelling.proofs.Forms.{height_pos, length_of, within, binary_of, choice_of}
+use Rattle.vlog_read_spelling.proofs.Compare.{Outcome, infix_low, infix_high}
+use Rattle.vlog_read_spelling.proofs.Reading.{outcome, unique, begins, NextBinary, NextChoice, Next, next}
+use Rattle.vlog_read_lex.specs.declared.error.ReadFault.{ReadFault}
+use Rattle.vlog_read_lex.specs.declared.error.ReadFault.TheVariants as f
 use Rattle.vlog_read_expr.specs.declared.expr.Parsed.{Parsed}
 use Rattle.vlog_read_expr.specs.Answers.{Refusal, Refuses, IsRead, Grown}
 

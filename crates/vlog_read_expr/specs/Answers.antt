@@ -6,9 +6,9 @@ use Rattle.vlog_tree.specs.declared.expr.Infix.{Infix}
 use Rattle.vlog_tree.specs.Signs.{IsSign, infix_at, infix_level}
 use Rattle.vlog_tree.specs.Spelling.{level, height, Spells, Reads, NoSuffix}
 use Rattle.vlog_tree.specs.Lists.{Comma, highest}
-use Rattle.vlog_spell.specs.Growing.{Loose, ReadsList}
-use Rattle.vlog_lex.specs.declared.error.ReadFault.{ReadFault}
-use Rattle.vlog_lex.specs.declared.error.ReadFault.TheVariants as f
+use Rattle.vlog_read_spelling.specs.Growing.{Loose, ReadsList}
+use Rattle.vlog_read_lex.specs.declared.error.ReadFault.{ReadFault}
+use Rattle.vlog_read_lex.specs.declared.error.ReadFault.TheVariants as f
 use Rattle.vlog_read_expr.specs.declared.expr.Parsed.{Parsed}
 use Rattle.vlog_read_expr.specs.declared.expr.Listed.{Listed}
 

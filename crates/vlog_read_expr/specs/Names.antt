@@ -3,9 +3,9 @@ use Rattle.std.specs.Prelude.{ℕ, ◌≡◌, List, Bool, Result, Ok, Err}
 use Rattle.vlog_tree.specs.declared.token.Token.{Token}
 use Rattle.vlog_tree.specs.declared.expr.Name.{Name}
 use Rattle.vlog_tree.specs.Spelling.{IsIdentifier, IsPath, IsOffset, IsName, Dot}
-use Rattle.vlog_spell.specs.Growing.{NoPath}
-use Rattle.vlog_lex.specs.declared.error.ReadFault.{ReadFault}
-use Rattle.vlog_lex.specs.declared.error.ReadFault.TheVariants as f
+use Rattle.vlog_read_spelling.specs.Growing.{NoPath}
+use Rattle.vlog_read_lex.specs.declared.error.ReadFault.{ReadFault}
+use Rattle.vlog_read_lex.specs.declared.error.ReadFault.TheVariants as f
 use Rattle.vlog_read_expr.specs.declared.name.Named.{Named}
 use Rattle.vlog_read_expr.specs.declared.name.Path.{Path}
 use Rattle.vlog_read_expr.specs.declared.name.Offset.{Offset}

@@ -10,7 +10,7 @@ use crate::name::{Named, read_name};
 use crate::tokens::{after, infix_at, is_alone, is_sign, kind_at, span_at};
 use sqlite_items::{Boxed, Items};
 use std::alloc::Global;
-use vlog_lex::ReadFault;
+use vlog_read_lex::ReadFault;
 use vlog_tree::{Binary, Cast, Expr, Infix, Kind, Number, Span, Token, Unary, is};
 
 // Where a reading fails, the trees that were read before are dropped by a call: dropped in place, each would be proved anew at

@@ -6,7 +6,7 @@ ghost use Rattle.vlog_read_expr.specs.Names.{RefusesIdentifier, NameAnswers, Pat
 use crate::tokens::{after, ends_name, is_sign, kind_at};
 use outside::Text;
 use std::alloc::Global;
-use vlog_lex::ReadFault;
+use vlog_read_lex::ReadFault;
 use vlog_tree::{Kind, Name, Token, is_reserved};
 
 /// A name and the place after it.

@@ -3,7 +3,7 @@ ghost use Rattle.std.specs.Prelude.{◌≡◌, ◌+◌, ◌↔◌, ◌<◌, ◌�
 ghost use Rattle.std.specs.Option.{option_copied};
 ghost use Rattle.vlog_tree.specs.Signs.{kind_at, IsSign, IsWord, infix_at, span_at};
 ghost use Rattle.vlog_tree.specs.Spelling.{NoSuffix};
-ghost use Rattle.vlog_spell.specs.Growing.{NoPath};
+ghost use Rattle.vlog_read_spelling.specs.Growing.{NoPath};
 
 use vlog_tree::{Infix, Kind, Span, Token, is};
 

@@ -12,9 +12,9 @@ use Rattle.vlog_tree.specs.Signs.{IsWord}
 use Rattle.vlog_tree.specs.Lists.{highest, Sequence}
 use Rattle.vlog_tree.specs.Spelling.{height}
 use Rattle.vlog_tree.specs.Statements.{SpellsCases, case_word, case_heights, defaults, defaults_in, labels_height, stmt_height}
-use Rattle.vlog_spell.proofs.Tokens.{stops_paren}
-use Rattle.vlog_spell.proofs.Statements.{choice, head_at, by_kind, formed_as, CaseForm, cases_of, listed_cases, case_of, cases_no_else, item_no_end, no_colon}
-use Rattle.vlog_lex.specs.declared.error.ReadFault.{ReadFault}
+use Rattle.vlog_read_spelling.proofs.Tokens.{stops_paren}
+use Rattle.vlog_read_spelling.proofs.Statements.{choice, head_at, by_kind, formed_as, CaseForm, cases_of, listed_cases, case_of, cases_no_else, item_no_end, no_colon}
+use Rattle.vlog_read_lex.specs.declared.error.ReadFault.{ReadFault}
 use Rattle.vlog_read_expr.specs.declared.expr.Parsed.{Parsed}
 use Rattle.vlog_read_expr.specs.Answers.{Refusal}
 use Rattle.vlog_read_expr.proofs.Steps.{passes}

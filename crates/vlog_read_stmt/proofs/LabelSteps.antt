@@ -13,15 +13,15 @@ use Rattle.vlog_tree.specs.Signs.{kind_at, IsSign, IsWord, is_reserved, cast_of,
 use Rattle.vlog_tree.specs.Lists.{More, Separated, Comma, highest}
 use Rattle.vlog_tree.specs.Spelling.{Reads, height}
 use Rattle.vlog_tree.specs.Statements.{SpellsLabel, SpellsLabels, labels_height, defaults_in}
-use Rattle.vlog_spell.specs.Growing.{ReadsMore}
-use Rattle.vlog_spell.proofs.Tokens.{Stops, kind_within, stops_comma, stops_colon, two_signs, first_number, first_word}
-use Rattle.vlog_spell.proofs.Names.{name_begins}
-use Rattle.vlog_spell.proofs.Forms.{height_pos, length_of, within, NamedForm, CastForm, Begun, begun}
-use Rattle.vlog_spell.proofs.Reading.{unique, begins}
-use Rattle.vlog_spell.proofs.Lists.{one_list, Started, starts, stops, grows, another, highest-append}
-use Rattle.vlog_spell.proofs.Statements.{no_word, reserved_default}
-use Rattle.vlog_lex.specs.declared.error.ReadFault.{ReadFault}
-use Rattle.vlog_lex.specs.declared.error.ReadFault.TheVariants as f
+use Rattle.vlog_read_spelling.specs.Growing.{ReadsMore}
+use Rattle.vlog_read_spelling.proofs.Tokens.{Stops, kind_within, stops_comma, stops_colon, two_signs, first_number, first_word}
+use Rattle.vlog_read_spelling.proofs.Names.{name_begins}
+use Rattle.vlog_read_spelling.proofs.Forms.{height_pos, length_of, within, NamedForm, CastForm, Begun, begun}
+use Rattle.vlog_read_spelling.proofs.Reading.{unique, begins}
+use Rattle.vlog_read_spelling.proofs.Lists.{one_list, Started, starts, stops, grows, another, highest-append}
+use Rattle.vlog_read_spelling.proofs.Statements.{no_word, reserved_default}
+use Rattle.vlog_read_lex.specs.declared.error.ReadFault.{ReadFault}
+use Rattle.vlog_read_lex.specs.declared.error.ReadFault.TheVariants as f
 use Rattle.vlog_read_expr.specs.declared.expr.Parsed.{Parsed}
 use Rattle.vlog_read_expr.specs.Answers.{IsRead, Refusal, Refuses}
 use Rattle.vlog_read_expr.proofs.Steps.{Has, passes}

@@ -12,13 +12,13 @@ use Rattle.vlog_tree.specs.Lists.{More, Separated, Comma, highest}
 use Rattle.vlog_tree.specs.declared.expr.Expr.{Expr}
 use Rattle.vlog_tree.specs.Spelling.{IsIdentifier, height, Reads}
 use Rattle.vlog_tree.specs.Statements.{SpellsLval, SpellsLvals, SpellsMoreLvals, lval_height, lval_heights}
-use Rattle.vlog_spell.specs.Growing.{ReadsMore}
-use Rattle.vlog_spell.proofs.Tokens.{kind_within, stops_bracket, stops_span, no_span, two_signs}
-use Rattle.vlog_spell.proofs.Forms.{length_of}
-use Rattle.vlog_spell.proofs.Reading.{unique}
-use Rattle.vlog_spell.proofs.Lists.{one_list, Started, starts, stops, grows, another, highest-append}
-use Rattle.vlog_spell.proofs.Lvals.{list_of, listed, one_lval, Form, form, name, select, part, concat, no_brace}
-use Rattle.vlog_lex.specs.declared.error.ReadFault.{ReadFault}
+use Rattle.vlog_read_spelling.specs.Growing.{ReadsMore}
+use Rattle.vlog_read_spelling.proofs.Tokens.{kind_within, stops_bracket, stops_span, no_span, two_signs}
+use Rattle.vlog_read_spelling.proofs.Forms.{length_of}
+use Rattle.vlog_read_spelling.proofs.Reading.{unique}
+use Rattle.vlog_read_spelling.proofs.Lists.{one_list, Started, starts, stops, grows, another, highest-append}
+use Rattle.vlog_read_spelling.proofs.Lvals.{list_of, listed, one_lval, Form, form, name, select, part, concat, no_brace}
+use Rattle.vlog_read_lex.specs.declared.error.ReadFault.{ReadFault}
 use Rattle.vlog_read_expr.specs.declared.expr.Parsed.{Parsed}
 use Rattle.vlog_read_expr.specs.Answers.{IsRead, Refusal, Refuses}
 use Rattle.vlog_read_expr.specs.Names.{RefusesIdentifier}

@@ -4,10 +4,10 @@ use Rattle.vlog_tree.specs.declared.token.Token.{Token}
 use Rattle.vlog_tree.specs.declared.expr.Expr.{Expr}
 use Rattle.vlog_tree.specs.Lists.{Sequence, highest}
 use Rattle.vlog_tree.specs.Spelling.{Spells, Reads}
-use Rattle.vlog_spell.proofs.Tokens.{Stops}
-use Rattle.vlog_spell.proofs.Reading.{stop_ends, level_pos}
-use Rattle.vlog_lex.specs.declared.error.ReadFault.{ReadFault}
-use Rattle.vlog_lex.specs.declared.error.ReadFault.TheVariants as f
+use Rattle.vlog_read_spelling.proofs.Tokens.{Stops}
+use Rattle.vlog_read_spelling.proofs.Reading.{stop_ends, level_pos}
+use Rattle.vlog_read_lex.specs.declared.error.ReadFault.{ReadFault}
+use Rattle.vlog_read_lex.specs.declared.error.ReadFault.TheVariants as f
 use Rattle.vlog_read_expr.specs.Answers.{Refusal}
 use Rattle.vlog_read_expr.specs.Names.{Lacks}
 

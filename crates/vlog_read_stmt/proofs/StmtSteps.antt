@@ -13,12 +13,12 @@ use Rattle.vlog_tree.specs.Signs.{IsSign, IsWord}
 use Rattle.vlog_tree.specs.Lists.{highest, Maybe, Sequence}
 use Rattle.vlog_tree.specs.Spelling.{IsIdentifier, Reads, height}
 use Rattle.vlog_tree.specs.Statements.{SpellsStmt, SpellsSeq, SpellsLabelled, SpellsAssigned, IsOpen, stmt_height, stmt_heights, lval_height}
-use Rattle.vlog_spell.proofs.Tokens.{kind_within, stops_paren, stops_semicolon, two_signs}
-use Rattle.vlog_spell.proofs.Reading.{unique}
-use Rattle.vlog_spell.proofs.Statements.{Outcome, compare, no_else, no_colon, no_end_start, opening, conditional, by_kind, formed_as, BlockForm, IfForm, AssignForm}
-use Rattle.vlog_spell.proofs.Forms.{length_of}
+use Rattle.vlog_read_spelling.proofs.Tokens.{kind_within, stops_paren, stops_semicolon, two_signs}
+use Rattle.vlog_read_spelling.proofs.Reading.{unique}
+use Rattle.vlog_read_spelling.proofs.Statements.{Outcome, compare, no_else, no_colon, no_end_start, opening, conditional, by_kind, formed_as, BlockForm, IfForm, AssignForm}
+use Rattle.vlog_read_spelling.proofs.Forms.{length_of}
 use Rattle.vlog_read_expr.specs.declared.expr.Parsed.{Parsed}
-use Rattle.vlog_lex.specs.declared.error.ReadFault.{ReadFault}
+use Rattle.vlog_read_lex.specs.declared.error.ReadFault.{ReadFault}
 use Rattle.vlog_read_expr.specs.Answers.{IsRead, Refusal, Refuses}
 use Rattle.vlog_read_expr.specs.Names.{Lacks, RefusesIdentifier}
 use Rattle.vlog_read_expr.proofs.Steps.{Has, passes}

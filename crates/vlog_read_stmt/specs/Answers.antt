@@ -15,8 +15,8 @@ use Rattle.vlog_tree.specs.Lists.{Comma, Sequence, highest}
 use Rattle.vlog_tree.specs.Spelling.{height, Reads}
 use Rattle.vlog_tree.specs.Statements.{SpellsLval, lval_height, SpellsStmt, stmt_height, IsOpen, SpellsLabelled, IsWild, labels_height, defaults_in, case_word}
 use Rattle.vlog_tree.specs.declared.stmt.CaseKind.TheVariants as c
-use Rattle.vlog_spell.specs.Growing.{ReadsList}
-use Rattle.vlog_lex.specs.declared.error.ReadFault.{ReadFault}
+use Rattle.vlog_read_spelling.specs.Growing.{ReadsList}
+use Rattle.vlog_read_lex.specs.declared.error.ReadFault.{ReadFault}
 use Rattle.vlog_read_expr.specs.declared.expr.Parsed.{Parsed}
 use Rattle.vlog_read_expr.specs.Answers.{Refusal}
 use Rattle.vlog_read_expr.specs.Names.{Lacks}

@@ -4,8 +4,8 @@ ghost use Rattle.vlog_read_stmt.specs.Answers.{IsWildAt, AnswersLabel, AnswersLa
 
 use sqlite_items::Items;
 use std::alloc::Global;
-use vlog_lex::ReadFault;
 use vlog_read_expr::{Parsed, after, is_sign, is_word, kind_at, read_tree};
+use vlog_read_lex::ReadFault;
 use vlog_tree::{CaseKind, Expr, Kind, Labels, Number, Token};
 
 /// Labels with commas between, the greatest height among them, and the place after them.

@@ -8,8 +8,8 @@ ghost use Rattle.vlog_read_stmt.specs.Answers.{AnswersLval, AnswersLvals, Begins
 use outside::Text;
 use sqlite_items::Items;
 use std::alloc::Global;
-use vlog_lex::ReadFault;
 use vlog_read_expr::{Parsed, after, identifier, is_sign, read_tree, span_at};
+use vlog_read_lex::ReadFault;
 use vlog_tree::{Lval, Span, Token};
 
 // Where a reading fails, the trees that were read before are dropped by a call: dropped in place, each would be proved anew at

@@ -9,8 +9,8 @@ use crate::lval::{ParsedLval, read_lval};
 use outside::Text;
 use sqlite_items::{Boxed, Items};
 use std::alloc::Global;
-use vlog_lex::ReadFault;
 use vlog_read_expr::{Parsed, after, identifier, is_sign, is_word, read_tree};
+use vlog_read_lex::ReadFault;
 use vlog_tree::{CaseItem, CaseKind, Stmt, Token};
 
 // Where a reading fails, the trees that were read before are dropped by a call: dropped in place, each would be proved anew at

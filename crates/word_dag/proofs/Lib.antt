@@ -14,3 +14,5 @@ pub mod Telling
 pub mod Texts
 pub mod Namings
 pub mod Sources
+pub mod NamingLaws
+pub mod Taken

@@ -1,6 +1,6 @@
 use Rattle.std.proofs.Common.{◌≡◌, ◌∙◌, ◌+◌, ◌<◌, ◌++◌, ◌∷◌, [], List, ap, sym, subst, length, arith, ℕ}
 use Rattle.clause_check.specs.declared.literal.Lit.{Lit}
-use Rattle.bit_circuits.specs.Building.{Makes}
+use Rattle.cnf_build.specs.Building.{Makes}
 use Rattle.cnf_build.specs.Lower.{node_made, free_vars}
 use Rattle.cnf_build.proofs.LowerLoop.{LowerLoop, lower_step}
 use Rattle.cnf_build.proofs.building.lower.Goals as goal

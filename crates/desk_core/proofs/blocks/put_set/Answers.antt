@@ -1,4 +1,4 @@
-use Rattle.check_stages.specs.Texts.{RefusesSet}
+use Rattle.desk_core_stages.specs.Texts.{RefusesSet}
 use Rattle.desk_core.specs.Steps.{PutsSet}
 use Rattle.desk_core.proofs.Refusing.{refused_quietly}
 use Rattle.desk_core.proofs.blocks.put_set.Goals as goal

@@ -1,4 +1,4 @@
-use Rattle.http_connection.proofs.Sent.{serves_asked, serves_idly}
+use Rattle.desk_http_connection.proofs.Sent.{serves_asked, serves_idly}
 use Rattle.proof_store.specs.Provers.{limits_of}
 use Rattle.desk_http.specs.Serving.{Acts}
 use Rattle.desk_http.proofs.Acting.{acts, acts_keep}

@@ -1,8 +1,8 @@
 use Rattle.std.proofs.Common.{[], map, refl, ap, ◌∙◌}
-use Rattle.vlog_runs.specs.Scopes.{place_of}
-use Rattle.flat_laws.specs.Flattened.{moved_block}
-use Rattle.flat_scopes.specs.Borrowed.{block_meant}
-use Rattle.flat_instances.specs.Unfolding.{scope_meant}
+use Rattle.vlog_tree_runs.specs.Scopes.{place_of}
+use Rattle.elab_flat_laws.specs.Flattened.{moved_block}
+use Rattle.elab_flat_scopes.specs.Borrowed.{block_meant}
+use Rattle.elab_flat_instances.specs.Unfolding.{scope_meant}
 use Rattle.elab_flat.specs.Scoped.{placed}
 use Rattle.elab_flat.proofs.Making.{next_made}
 use Rattle.elab_flat.proofs.block.add_blocks.Goals as goal

@@ -1,8 +1,8 @@
 use Rattle.std.proofs.Common.{◌≡◌, ◌++◌, drop, map}
-use Rattle.vlog_runs.specs.Scopes.{place_of}
-use Rattle.flat_laws.specs.Flattened.{moved_block, flat_blocks}
-use Rattle.flat_scopes.specs.Borrowed.{block_meant}
-use Rattle.flat_instances.specs.Unfolding.{scope_meant}
+use Rattle.vlog_tree_runs.specs.Scopes.{place_of}
+use Rattle.elab_flat_laws.specs.Flattened.{moved_block, flat_blocks}
+use Rattle.elab_flat_scopes.specs.Borrowed.{block_meant}
+use Rattle.elab_flat_instances.specs.Unfolding.{scope_meant}
 use Rattle.elab_flat.proofs.block.add_blocks.Given as goal
 
 abbrev pub invariant-loop-block : goal.invariant-loop-block

@@ -1,7 +1,7 @@
 use Rattle.std.proofs.Common.{map, refl}
 use Rattle.std.specs.List.{flat_map}
-use Rattle.flat_laws.specs.Flattened.{flat_blocks}
-use Rattle.flat_instances.specs.Unfolding.{scope_meant}
+use Rattle.elab_flat_laws.specs.Flattened.{flat_blocks}
+use Rattle.elab_flat_instances.specs.Unfolding.{scope_meant}
 use Rattle.elab_flat.proofs.Making.{next_parts}
 use Rattle.elab_flat.proofs.block.blocks_of.Goals as goal
 

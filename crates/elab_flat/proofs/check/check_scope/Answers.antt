@@ -1,11 +1,11 @@
 use Rattle.std.proofs.Common.{◌≡◌, inl, ap, subst, ◌∙◌}
-use Rattle.vlog_runs.specs.Places.{Name}
-use Rattle.flat_faults.specs.declared.fault.FlatFault.TheVariants as f
-use Rattle.flat_bounds.specs.Texts.{StandsAround}
-use Rattle.flat_instances.specs.Naming.{prefix_name}
-use Rattle.flat_instances.specs.Unfolding.{scope_meant, StandsIn}
-use Rattle.flat_instances.proofs.Children.{refuses_map}
-use Rattle.flat_checked.specs.Checked.{HasFitLengths}
+use Rattle.vlog_tree_runs.specs.Places.{Name}
+use Rattle.elab_flat_faults.specs.declared.flattening.FlatFault.TheVariants as f
+use Rattle.elab_flat_widths.specs.Texts.{StandsAround}
+use Rattle.elab_flat_instances.specs.Naming.{prefix_name}
+use Rattle.elab_flat_instances.specs.Unfolding.{scope_meant, StandsIn}
+use Rattle.elab_flat_instances.proofs.Children.{refuses_map}
+use Rattle.elab_flat.specs.Checked.{HasFitLengths}
 use Rattle.elab_flat.proofs.check.check_scope.Goals as goal
 
 pub returns-in-Err-clause-err : goal.returns-in-Err-clause-err

@@ -1,13 +1,13 @@
 use Rattle.std.proofs.Common.{◌≤◌, length, map, refl, arith}
-use Rattle.vlog_runs.specs.Places.{Among}
-use Rattle.flat_faults.specs.Stands.{Stands}
-use Rattle.flat_bounds.specs.Texts.{StandsAround}
-use Rattle.flat_instances.specs.Naming.{prefix_name}
-use Rattle.flat_instances.specs.Unfolding.{scope_meant}
-use Rattle.flat_instances.proofs.Children.{refuses_map}
-use Rattle.flat_checked.specs.Checked.{IsChecked}
-use Rattle.flat_checked.proofs.Sound.{is_sound}
-use Rattle.elab_drive.proofs.Naming.{meant_at}
+use Rattle.vlog_tree_runs.specs.Places.{Among}
+use Rattle.elab_flat_faults.specs.FlatStands.{Stands}
+use Rattle.elab_flat_widths.specs.Texts.{StandsAround}
+use Rattle.elab_flat_instances.specs.Naming.{prefix_name}
+use Rattle.elab_flat_instances.specs.Unfolding.{scope_meant}
+use Rattle.elab_flat_instances.proofs.Children.{refuses_map}
+use Rattle.elab_flat.specs.Checked.{IsChecked}
+use Rattle.elab_flat.proofs.Sound.{is_sound}
+use Rattle.elab_flat_drivers.proofs.Naming.{meant_at}
 use Rattle.elab_flat.proofs.Making.{held_next, held_all}
 use Rattle.elab_flat.proofs.Standing.{around_stands}
 use Rattle.elab_flat.proofs.check.check_scopes.Goals as goal

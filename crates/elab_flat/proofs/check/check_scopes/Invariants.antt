@@ -1,5 +1,5 @@
-use Rattle.flat_instances.specs.Unfolding.{scope_meant}
-use Rattle.flat_checked.specs.Checked.{IsChecked}
+use Rattle.elab_flat_instances.specs.Unfolding.{scope_meant}
+use Rattle.elab_flat.specs.Checked.{IsChecked}
 use Rattle.elab_flat.proofs.Making.{HeldTo}
 use Rattle.elab_flat.proofs.check.check_scopes.Given as goal
 

@@ -1,15 +1,15 @@
 use Rattle.std.proofs.Common.{◌≡◌, List, Option, Some, map, sym, subst}
 use Rattle.std.specs.Prelude.{◌↔◌}
-use Rattle.vlog_runs.specs.declared.flat.Async.{Async}
-use Rattle.vlog_runs.specs.Places.{Name, Among}
-use Rattle.flat_faults.specs.Stands.{Stands, IsClockOf}
-use Rattle.flat_instances.specs.Unfolding.{scope_meant}
-use Rattle.flat_instances.proofs.Children.{refuses_map}
-use Rattle.flat_ready.specs.Handed.{IsResetOf}
-use Rattle.flat_checked.proofs.Following.{are_followed}
-use Rattle.flat_checked.proofs.Flattening.{has_ports, none_stands}
-use Rattle.flat_timing.specs.Passing.{StandsAmong}
-use Rattle.flat_timing.proofs.Tabled.{among_stands}
+use Rattle.vlog_tree_runs.specs.declared.flat.Async.{Async}
+use Rattle.vlog_tree_runs.specs.Places.{Name, Among}
+use Rattle.elab_flat_faults.specs.FlatStands.{Stands, IsClockOf}
+use Rattle.elab_flat_instances.specs.Unfolding.{scope_meant}
+use Rattle.elab_flat_instances.proofs.Children.{refuses_map}
+use Rattle.elab_flat_faults.specs.Handed.{IsResetOf}
+use Rattle.elab_flat.proofs.Following.{are_followed}
+use Rattle.elab_flat.proofs.Flattening.{has_ports, none_stands}
+use Rattle.elab_flat_clocks.specs.Passing.{StandsAmong}
+use Rattle.elab_flat_clocks.proofs.Tabled.{among_stands}
 use Rattle.elab_flat.proofs.Whole.{is_flattened}
 use Rattle.elab_flat.proofs.hierarchy.flat_of.Goals as goal
 

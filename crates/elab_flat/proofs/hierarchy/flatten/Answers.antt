@@ -1,14 +1,14 @@
 use Rattle.std.proofs.Common.{List, inl, map, sym, subst, ◌∙◌}
 use Rattle.std.specs.Prelude.{IfOk, IfErr}
 use Rattle.vlog_tree.specs.declared.module.Module.{Module}
-use Rattle.flat_faults.specs.declared.fault.FlatFault.{FlatFault}
-use Rattle.flat_faults.specs.Declaring.{Repeats}
-use Rattle.flat_faults.specs.Stands.{Stands, Refuses}
-use Rattle.flat_laws.specs.Flattened.{KeepsRuns}
-use Rattle.flat_scopes.specs.Finding.{module_name}
-use Rattle.flat_instances.specs.Unfolding.{IsOfWhole}
-use Rattle.flat_names.proofs.Searches.{if_ok, one_found}
-use Rattle.flat_ready.specs.Handed.{IsFlattened}
+use Rattle.elab_flat_faults.specs.declared.flattening.FlatFault.{FlatFault}
+use Rattle.elab_flat_faults.specs.Declaring.{Repeats}
+use Rattle.elab_flat_faults.specs.FlatStands.{Stands, Refuses}
+use Rattle.elab_flat_laws.specs.Flattened.{KeepsRuns}
+use Rattle.elab_flat_scopes.specs.Finding.{module_name}
+use Rattle.elab_flat_instances.specs.Unfolding.{IsOfWhole}
+use Rattle.elab_flat_names.proofs.Searches.{if_ok, one_found}
+use Rattle.elab_flat_faults.specs.Handed.{IsFlattened}
 use Rattle.elab_flat.proofs.Whole.{flattened_runs}
 use Rattle.elab_flat.proofs.hierarchy.flatten.Goals as goal
 

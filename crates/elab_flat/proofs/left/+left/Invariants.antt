@@ -1,6 +1,6 @@
 use Rattle.std.proofs.Common.{◌≡◌, ◌++◌, drop, map}
-use Rattle.vlog_runs.specs.Scopes.{left_of}
-use Rattle.flat_laws.specs.Moved.{moved_left}
+use Rattle.vlog_tree_runs.specs.Scopes.{left_of}
+use Rattle.elab_flat_laws.specs.Moved.{moved_left}
 use Rattle.elab_flat.proofs.left.+left.Given as goal
 
 abbrev pub invariant-lefts_of-loop-expr : goal.invariant-lefts_of-loop-expr

@@ -1,9 +1,9 @@
 use Rattle.std.proofs.Common.{◌≡◌, ◌++◌, Some, drop, map}
 use Rattle.std.specs.List.{flat_map}
-use Rattle.vlog_runs.specs.Scopes.{connection, connections, place_of}
-use Rattle.flat_laws.specs.Flattened.{moved_link}
-use Rattle.flat_scopes.specs.Borrowed.{given_meant, inner_meant}
-use Rattle.flat_instances.specs.Unfolding.{scope_meant}
+use Rattle.vlog_tree_runs.specs.Scopes.{connection, connections, place_of}
+use Rattle.elab_flat_laws.specs.Flattened.{moved_link}
+use Rattle.elab_flat_scopes.specs.Borrowed.{given_meant, inner_meant}
+use Rattle.elab_flat_instances.specs.Unfolding.{scope_meant}
 use Rattle.elab_flat.proofs.link.add_connections.Given as goal
 
 abbrev pub invariant-loop-gift : goal.invariant-loop-gift

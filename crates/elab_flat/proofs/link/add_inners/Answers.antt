@@ -1,9 +1,9 @@
 use Rattle.std.proofs.Common.{◌≡◌, ◌<◌, ◌≤◌, ℕ, length, get_or, map, refl, ap, ◌∙◌, arith}
 use Rattle.std.specs.List.{flat_map}
-use Rattle.vlog_runs.specs.Scopes.{inner_links}
-use Rattle.flat_laws.specs.Flattened.{moved_link}
-use Rattle.flat_scopes.specs.Borrowed.{inner_meant}
-use Rattle.flat_instances.specs.Unfolding.{scope_meant}
+use Rattle.vlog_tree_runs.specs.Scopes.{inner_links}
+use Rattle.elab_flat_laws.specs.Flattened.{moved_link}
+use Rattle.elab_flat_scopes.specs.Borrowed.{inner_meant}
+use Rattle.elab_flat_instances.specs.Unfolding.{scope_meant}
 use Rattle.elab_flat.proofs.Linking.{rest_child, next_links}
 use Rattle.elab_flat.proofs.Making.{all_made}
 use Rattle.elab_flat.proofs.link.add_inners.Goals as goal

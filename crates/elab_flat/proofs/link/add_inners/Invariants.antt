@@ -1,10 +1,10 @@
 use Rattle.std.proofs.Common.{◌≡◌, ◌++◌, List, Some, drop, map}
 use Rattle.std.specs.List.{flat_map}
 use Rattle.vlog_tree.specs.declared.module.Module.{Module}
-use Rattle.vlog_runs.specs.Scopes.{child, inner_links}
-use Rattle.flat_laws.specs.Flattened.{moved_link}
-use Rattle.flat_scopes.specs.Borrowed.{inner_meant}
-use Rattle.flat_instances.specs.Unfolding.{scope_meant}
+use Rattle.vlog_tree_runs.specs.Scopes.{child, inner_links}
+use Rattle.elab_flat_laws.specs.Flattened.{moved_link}
+use Rattle.elab_flat_scopes.specs.Borrowed.{inner_meant}
+use Rattle.elab_flat_instances.specs.Unfolding.{scope_meant}
 use Rattle.elab_flat.proofs.link.add_inners.Given as goal
 
 abbrev pub invariant-loop-instance : goal.invariant-loop-instance

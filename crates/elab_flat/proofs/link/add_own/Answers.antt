@@ -1,8 +1,8 @@
 use Rattle.std.proofs.Common.{map, refl, ◌∙◌}
-use Rattle.vlog_runs.specs.Scopes.{own_link, place_of}
-use Rattle.flat_laws.specs.Flattened.{moved_link}
-use Rattle.flat_scopes.specs.Borrowed.{assigned_meant}
-use Rattle.flat_instances.specs.Unfolding.{scope_meant}
+use Rattle.vlog_tree_runs.specs.Scopes.{own_link, place_of}
+use Rattle.elab_flat_laws.specs.Flattened.{moved_link}
+use Rattle.elab_flat_scopes.specs.Borrowed.{assigned_meant}
+use Rattle.elab_flat_instances.specs.Unfolding.{scope_meant}
 use Rattle.elab_flat.specs.Scoped.{placed}
 use Rattle.elab_flat.proofs.Making.{next_made}
 use Rattle.elab_flat.proofs.link.add_own.Goals as goal

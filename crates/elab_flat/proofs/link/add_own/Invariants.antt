@@ -1,9 +1,9 @@
 use Rattle.std.proofs.Common.{◌≡◌, ◌++◌, drop, map}
-use Rattle.vlog_runs.specs.Contents.{assigns_in}
-use Rattle.vlog_runs.specs.Scopes.{own_link, place_of}
-use Rattle.flat_laws.specs.Flattened.{moved_link}
-use Rattle.flat_scopes.specs.Borrowed.{assigned_meant}
-use Rattle.flat_instances.specs.Unfolding.{scope_meant}
+use Rattle.vlog_tree_runs.specs.Contents.{assigns_in}
+use Rattle.vlog_tree_runs.specs.Scopes.{own_link, place_of}
+use Rattle.elab_flat_laws.specs.Flattened.{moved_link}
+use Rattle.elab_flat_scopes.specs.Borrowed.{assigned_meant}
+use Rattle.elab_flat_instances.specs.Unfolding.{scope_meant}
 use Rattle.elab_flat.proofs.link.add_own.Given as goal
 
 abbrev pub invariant-loop-assigned : goal.invariant-loop-assigned

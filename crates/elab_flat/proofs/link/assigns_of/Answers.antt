@@ -1,12 +1,12 @@
 use Rattle.std.proofs.Common.{◌≡◌, ◌≤◌, ◌+◌, ◌++◌, ℕ, List, Some, drop, length, map, slice_range, vec_len, refl, sym, ap, subst, ◌∙◌, arith, rules}
 use Rattle.std.specs.List.{flat_map}
 use Rattle.vlog_tree.specs.declared.item.Assign.{Assign}
-use Rattle.vlog_runs.specs.Contents.{Inner, instances_in}
-use Rattle.vlog_runs.specs.Scopes.{child, inner_links}
-use Rattle.flat_laws.specs.Flattened.{moved_link, flat_assigns}
-use Rattle.flat_scopes.specs.Borrowed.{inner_meant}
-use Rattle.flat_instances.specs.Unfolding.{scope_meant}
-use Rattle.flat_checked.specs.Following.{inner_scopes}
+use Rattle.vlog_tree_runs.specs.Contents.{Inner, instances_in}
+use Rattle.vlog_tree_runs.specs.Scopes.{child, inner_links}
+use Rattle.elab_flat_laws.specs.Flattened.{moved_link, flat_assigns}
+use Rattle.elab_flat_scopes.specs.Borrowed.{inner_meant}
+use Rattle.elab_flat_instances.specs.Unfolding.{scope_meant}
+use Rattle.elab_flat.specs.Following.{inner_scopes}
 use Rattle.elab_flat.proofs.Linking.{some_scope, behind_first, room, slice_length, these_views, those_views, next_assigns}
 use Rattle.elab_flat.proofs.Making.{all_made}
 use Rattle.elab_flat.proofs.link.assigns_of.Goals as goal

@@ -1,9 +1,9 @@
 use Rattle.std.proofs.Common.{◌≡◌, ◌≤◌, ◌++◌, List, Some, drop, length, map}
 use Rattle.std.specs.List.{flat_map}
 use Rattle.vlog_tree.specs.declared.module.Module.{Module}
-use Rattle.flat_laws.specs.Flattened.{flat_assigns}
-use Rattle.flat_instances.specs.Unfolding.{scope_meant}
-use Rattle.flat_checked.specs.Following.{inner_scopes, AreFollowed}
+use Rattle.elab_flat_laws.specs.Flattened.{flat_assigns}
+use Rattle.elab_flat_instances.specs.Unfolding.{scope_meant}
+use Rattle.elab_flat.specs.Following.{inner_scopes, AreFollowed}
 use Rattle.elab_flat.proofs.link.assigns_of.Given as goal
 
 abbrev pub invariant-loop-scope : goal.invariant-loop-scope

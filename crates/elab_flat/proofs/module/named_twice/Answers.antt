@@ -1,11 +1,11 @@
 use Rattle.std.proofs.Common.{◌≡◌, ◌∷◌, ◌||◌, true, false, inl, map, drop, ◌+◌, add-one, refl, sym, ap, subst, ◌∙◌}
 use Rattle.std.specs.Str.{bytes_eq}
-use Rattle.vlog_runs.specs.Contents.{is_among}
-use Rattle.flat_scopes.specs.Finding.{module_name}
-use Rattle.flat_scopes.proofs.Finding.{cut}
-use Rattle.flat_scopes.proofs.Joining.{was_new, was_there, cond_or}
-use Rattle.elab_drive.proofs.Naming.{among_of}
-use Rattle.flat_names.proofs.Searches.{Again, one_on, one_back, not_among}
+use Rattle.vlog_tree_runs.specs.Contents.{is_among}
+use Rattle.elab_flat_scopes.specs.Finding.{module_name}
+use Rattle.elab_flat_scopes.proofs.Finding.{cut}
+use Rattle.elab_flat_scopes.proofs.Joining.{was_new, was_there, cond_or}
+use Rattle.elab_flat_drivers.proofs.Naming.{among_of}
+use Rattle.elab_flat_names.proofs.Searches.{Again, one_on, one_back, not_among}
 use Rattle.elab_flat.proofs.module.named_twice.Goals as goal
 
 pub returns-then-not-branch : goal.returns-then-not-branch

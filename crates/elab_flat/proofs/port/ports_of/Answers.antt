@@ -1,9 +1,9 @@
 use Rattle.std.proofs.Common.{◌≡◌, List, Bor, map, filter, refl, ap, ◌∙◌}
-use Rattle.vlog_runs.specs.Places.{Name}
-use Rattle.vlog_runs.specs.Contents.{Decl, decls_in, is_among}
-use Rattle.flat_scopes.specs.Borrowed.{name_meant, decl_meant}
-use Rattle.flat_scopes.specs.Finding.{decl_name}
-use Rattle.flat_ready.specs.Handed.{top_port}
+use Rattle.vlog_tree_runs.specs.Places.{Name}
+use Rattle.vlog_tree_runs.specs.Contents.{Decl, decls_in, is_among}
+use Rattle.elab_flat_scopes.specs.Borrowed.{name_meant, decl_meant}
+use Rattle.elab_flat_scopes.specs.Finding.{decl_name}
+use Rattle.elab_flat_faults.specs.Handed.{top_port}
 use Rattle.elab_flat.proofs.Making.{next_made}
 use Rattle.elab_flat.proofs.Ports.{port_is}
 use Rattle.elab_flat.proofs.port.ports_of.Goals as goal

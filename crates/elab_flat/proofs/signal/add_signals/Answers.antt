@@ -1,7 +1,7 @@
-use Rattle.vlog_runs.specs.Contents.{signals_in}
-use Rattle.flat_scopes.specs.Borrowed.{decl_meant}
-use Rattle.elab_drive.proofs.Naming.{meant_at}
-use Rattle.flat_names.proofs.Words.{signals_as}
+use Rattle.vlog_tree_runs.specs.Contents.{signals_in}
+use Rattle.elab_flat_scopes.specs.Borrowed.{decl_meant}
+use Rattle.elab_flat_drivers.proofs.Naming.{meant_at}
+use Rattle.elab_flat_names.proofs.Words.{signals_as}
 use Rattle.elab_flat.proofs.signal.add_signals.Goals as goal
 
 pub declared_signal-requires : goal.declared_signal-requires

@@ -1,12 +1,12 @@
 use Rattle.std.proofs.Common.{map, refl}
 use Rattle.std.specs.List.{flat_map}
-use Rattle.vlog_runs.specs.Places.{Among}
-use Rattle.flat_laws.specs.Flattened.{flat_signals}
-use Rattle.flat_instances.specs.Unfolding.{scope_meant}
-use Rattle.flat_instances.proofs.Children.{refuses_map}
-use Rattle.flat_names.specs.Rows.{StandsAlone}
-use Rattle.elab_drive.proofs.Naming.{meant_at}
-use Rattle.flat_timing.specs.Passing.{StandsAmong}
+use Rattle.vlog_tree_runs.specs.Places.{Among}
+use Rattle.elab_flat_laws.specs.Flattened.{flat_signals}
+use Rattle.elab_flat_instances.specs.Unfolding.{scope_meant}
+use Rattle.elab_flat_instances.proofs.Children.{refuses_map}
+use Rattle.elab_flat_names.specs.Rows.{StandsAlone}
+use Rattle.elab_flat_drivers.proofs.Naming.{meant_at}
+use Rattle.elab_flat_clocks.specs.Passing.{StandsAmong}
 use Rattle.elab_flat.proofs.Making.{next_parts}
 use Rattle.elab_flat.proofs.signal.signals_of.Goals as goal
 

@@ -1,7 +1,7 @@
 use Rattle.std.proofs.Common.{◌≡◌, ◌++◌, drop, map}
 use Rattle.std.specs.List.{flat_map}
-use Rattle.flat_laws.specs.Flattened.{flat_signals}
-use Rattle.flat_instances.specs.Unfolding.{scope_meant}
+use Rattle.elab_flat_laws.specs.Flattened.{flat_signals}
+use Rattle.elab_flat_instances.specs.Unfolding.{scope_meant}
 use Rattle.elab_flat.proofs.signal.signals_of.Given as goal
 
 abbrev pub invariant-loop-scope : goal.invariant-loop-scope

@@ -1,5 +1,5 @@
 use Rattle.std.proofs.Common.{rules}
-use Rattle.asked_lines.proofs.Settling.{are_settled}
+use Rattle.desk_core_goals.proofs.Settling.{are_settled}
 use Rattle.proof_store.proofs.Turns.{proceeds_same}
 use Rattle.meet_lines.proofs.Bound.{no_keeper}
 use Rattle.meet_lines.proofs.Telling.{goals_decided, lines_decided, same_ended}

@@ -1,7 +1,7 @@
 use Rattle.std.proofs.Common.{◌≡◌, ◌<◌, ◌≤◌, List, get_or, length, ap, sym, ◌∙◌, subst, arith}
 use Rattle.std.specs.List.{All}
 use Rattle.set_tree.specs.declared.set.Set.{Set}
-use Rattle.binding.specs.Binding.{Fits}
+use Rattle.unroll_binding.specs.Binding.{Fits}
 use Rattle.twin_tests.proofs.Handing.{get_again}
 use Rattle.unroll.proofs.Rowing.{design_is}
 use Rattle.meet_lines.specs.declared.line.MeetLine.{MeetLine}

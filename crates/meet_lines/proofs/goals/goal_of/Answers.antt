@@ -1,6 +1,6 @@
 use Rattle.std.proofs.Common.{◌∙◌, refl}
 use Rattle.set_tree.specs.Formulas.{meaning_of}
-use Rattle.word_names.proofs.Taken.{obligations_have_one_word_each, widths_are_kept}
+use Rattle.word_dag.proofs.Taken.{obligations_have_one_word_each, widths_are_kept}
 use Rattle.meet_lines.specs.Lines.{IsOf}
 use Rattle.meet_lines.proofs.Testing.{obligations_decide, tests_are_of_lines}
 use Rattle.meet_lines.proofs.goals.goal_of.Goals as goal

@@ -1,5 +1,5 @@
 use Rattle.std.proofs.Common.{◌≡◌, List, map, option_map, subst}
-use Rattle.reports.specs.declared.book.Line.{Line as Told}
+use Rattle.desk_core_reports.specs.declared.book.Line.{Line as Told}
 use Rattle.proof_store.proofs.Turns.{proceeds_well}
 use Rattle.meet_lines.specs.Meetings.{is_complete, meet_text}
 use Rattle.meet_lines.proofs.Bound.{is_report}

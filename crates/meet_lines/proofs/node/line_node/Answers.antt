@@ -3,7 +3,7 @@ use Rattle.std.proofs.lemmas.Result.{IfOk-weaker}
 use Rattle.set_tree.specs.declared.set.Property.{Property}
 use Rattle.set_tree.specs.Formulas.{meaning_of}
 use Rattle.set_tree.specs.Parts.{IsPosition, largest_window, window_of}
-use Rattle.segment_laws.specs.Tests.{segment_rows}
+use Rattle.unroll_laws.specs.Tests.{segment_rows}
 use Rattle.twin_tests.specs.Building.{Shows, Tests}
 use Rattle.meet_lines.specs.declared.line.MeetLine.{MeetLine}
 use Rattle.meet_lines.specs.Lines.{SpeaksOf}

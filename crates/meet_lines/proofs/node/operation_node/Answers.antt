@@ -1,10 +1,10 @@
 use Rattle.std.specs.Prelude.{◌&&◌}
 use Rattle.std.proofs.lemmas.Result.{IfOk-weaker}
-use Rattle.elab_node.proofs.Kept.{keeps_then}
-use Rattle.line_laws.specs.Tests.{meets_constraints}
+use Rattle.elab_step_expr.proofs.Kept.{keeps_then}
+use Rattle.twin_tests_laws.specs.Tests.{meets_constraints}
 use Rattle.set_tree.specs.Formulas.{meaning_of}
 use Rattle.set_tree.specs.Parts.{assumed}
-use Rattle.segment_laws.specs.Tests.{meets_invariants}
+use Rattle.unroll_laws.specs.Tests.{meets_invariants}
 use Rattle.twin_tests.proofs.Standing.{leaves_later}
 use Rattle.unroll.proofs.Joining.{joined}
 use Rattle.meet_lines.proofs.node.operation_node.Goals as goal

@@ -2,8 +2,8 @@ use Rattle.std.proofs.Common.{◌≡◌, ◌∙◌, ap, subst}
 use Rattle.std.proofs.lemmas.Result.{IfOk-weaker}
 use Rattle.set_tree.specs.declared.set.Set.{Set}
 use Rattle.set_tree.specs.Formulas.{meaning_of}
-use Rattle.word_design.specs.Designs.{IsDesign}
-use Rattle.word_names.specs.Names.{naming_from}
+use Rattle.elab_step_design.specs.Designs.{IsDesign}
+use Rattle.word_dag.specs.Names.{naming_from}
 use Rattle.replay.specs.Segments.{ShowsNamed}
 use Rattle.meet_lines.specs.Shown.{last_cycle, resets_of}
 use Rattle.meet_lines.proofs.Showing.{shows_meeting, values_meet}

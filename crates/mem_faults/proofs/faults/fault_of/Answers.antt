@@ -1,7 +1,7 @@
 use Rattle.std.proofs.Common.{◌≡◌, sym, ◌∙◌, subst, refl}
 use Rattle.std.specs.Prelude.{IfSome}
 use Rattle.std.proofs.lemmas.Result.{IfOk-weaker}
-use Rattle.elab_drive.proofs.Kinding.{some_at, none_is}
+use Rattle.elab_flat_drivers.proofs.Kinding.{some_at, none_is}
 use Rattle.mem_faults.specs.Faults.{IsFirstFault}
 use Rattle.mem_faults.proofs.Faulty.{first_twice, first_whole, first_nested, first_kind, first_uses, faultless, tells_whole, lacks_whole, tells_nested, lacks_nested, tells_kind, lacks_kind, tells_uses, lacks_uses}
 use Rattle.mem_faults.proofs.faults.fault_of.Goals as goal

@@ -1,7 +1,7 @@
 use Rattle.std.proofs.Common.{map, sym, ap, ◌∙◌, subst}
-use Rattle.vlog_runs.specs.Places.{Among}
-use Rattle.flat_scopes.specs.Borrowed.{name_meant}
-use Rattle.elab_drive.proofs.Kinding.{some_then, none_then}
+use Rattle.vlog_tree_runs.specs.Places.{Among}
+use Rattle.elab_flat_scopes.specs.Borrowed.{name_meant}
+use Rattle.elab_flat_drivers.proofs.Kinding.{some_then, none_then}
 use Rattle.mem_faults.proofs.Telling.{otherwise_is, is_otherwise}
 use Rattle.mem_faults.proofs.kept.otherwise.Goals as goal
 

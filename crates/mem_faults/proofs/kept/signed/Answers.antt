@@ -1,6 +1,6 @@
 use Rattle.std.proofs.Common.{sym, ap, ◌∙◌, subst}
-use Rattle.vlog_runs.specs.Places.{Among}
-use Rattle.elab_drive.proofs.Kinding.{made, some_then, none_then}
+use Rattle.vlog_tree_runs.specs.Places.{Among}
+use Rattle.elab_flat_drivers.proofs.Kinding.{made, some_then, none_then}
 use Rattle.mem_faults.specs.Kept.{signed_names}
 use Rattle.mem_faults.proofs.Telling.{signed_is, is_signed}
 use Rattle.mem_faults.proofs.kept.signed.Goals as goal

@@ -1,7 +1,7 @@
 use Rattle.std.proofs.Common.{map, sym, ap, ◌∙◌, subst}
 use Rattle.std.specs.List.{flat_map}
-use Rattle.vlog_runs.specs.Places.{Among}
-use Rattle.elab_drive.proofs.Kinding.{some_then, none_then}
+use Rattle.vlog_tree_runs.specs.Places.{Among}
+use Rattle.elab_flat_drivers.proofs.Kinding.{some_then, none_then}
 use Rattle.mem_faults.specs.Used.{memory_names}
 use Rattle.mem_faults.proofs.Telling.{assigned_is, is_assigned}
 use Rattle.mem_faults.proofs.kept.unassigned.Goals as goal

@@ -1,6 +1,6 @@
 use Rattle.std.proofs.Common.{drop}
 use Rattle.std.specs.List.{flat_map}
-use Rattle.vlog_runs.specs.Places.{Name, Among}
+use Rattle.vlog_tree_runs.specs.Places.{Name, Among}
 use Rattle.mem_faults.specs.Used.{memory_names}
 use Rattle.mem_faults.proofs.kept.unassigned_in.Given as goal
 

@@ -1,7 +1,7 @@
 use Rattle.std.proofs.Common.{sym, ◌∙◌, subst}
 use Rattle.std.proofs.lemmas.Result.{IfOk-weaker}
-use Rattle.vlog_runs.specs.Places.{Among}
-use Rattle.elab_drive.proofs.Kinding.{some_at, none_is, some_then, none_then}
+use Rattle.vlog_tree_runs.specs.Places.{Among}
+use Rattle.elab_flat_drivers.proofs.Kinding.{some_at, none_is, some_then, none_then}
 use Rattle.mem_faults.proofs.Telling.{signed_kept, unassigned_kept, otherwise_kept, rightly_kept}
 use Rattle.mem_faults.proofs.kept.wrongly_kept.Goals as goal
 

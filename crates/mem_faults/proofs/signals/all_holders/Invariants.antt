@@ -1,6 +1,6 @@
 use Rattle.std.proofs.Common.{◌≡◌, ◌++◌, drop}
 use Rattle.std.specs.List.{flat_map}
-use Rattle.vlog_runs.specs.Places.{holders}
+use Rattle.vlog_tree_runs.specs.Places.{holders}
 use Rattle.mem_faults.proofs.signals.all_holders.Given as goal
 
 abbrev pub invariant-loop-signal : goal.invariant-loop-signal

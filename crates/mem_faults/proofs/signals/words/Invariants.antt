@@ -1,5 +1,5 @@
 use Rattle.std.proofs.Common.{◌≡◌, ◌++◌, ◌-◌}
-use Rattle.vlog_runs.specs.Places.{words_from}
+use Rattle.vlog_tree_runs.specs.Places.{words_from}
 use Rattle.mem_faults.proofs.signals.words.Given as goal
 
 abbrev pub invariant-loop-word : goal.invariant-loop-word

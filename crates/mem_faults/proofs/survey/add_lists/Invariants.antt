@@ -1,6 +1,6 @@
 use Rattle.std.proofs.Common.{◌≡◌, ◌++◌, drop, map}
 use Rattle.std.specs.List.{flat_map}
-use Rattle.flat_scopes.specs.Borrowed.{name_meant}
+use Rattle.elab_flat_scopes.specs.Borrowed.{name_meant}
 use Rattle.mem_faults.specs.Used.{block_listed}
 use Rattle.mem_faults.proofs.survey.add_lists.Given as goal
 

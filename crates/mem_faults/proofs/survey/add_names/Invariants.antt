@@ -1,5 +1,5 @@
 use Rattle.std.proofs.Common.{◌≡◌, ◌++◌, drop, map}
-use Rattle.flat_scopes.specs.Borrowed.{name_meant}
+use Rattle.elab_flat_scopes.specs.Borrowed.{name_meant}
 use Rattle.mem_faults.proofs.survey.add_names.Given as goal
 
 abbrev pub invariant-loop-name : goal.invariant-loop-name

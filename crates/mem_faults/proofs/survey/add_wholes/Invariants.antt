@@ -1,7 +1,7 @@
 use Rattle.std.proofs.Common.{◌≡◌, ◌++◌, drop, map}
 use Rattle.std.specs.List.{flat_map}
-use Rattle.flat_scopes.specs.Borrowed.{name_meant}
-use Rattle.elab_drive.specs.Parts.{part_meant}
+use Rattle.elab_flat_scopes.specs.Borrowed.{name_meant}
+use Rattle.elab_flat_drivers.specs.Parts.{part_meant}
 use Rattle.mem_faults.specs.Used.{whole_names}
 use Rattle.mem_faults.proofs.survey.add_wholes.Given as goal
 

@@ -1,6 +1,6 @@
 use Rattle.std.proofs.Common.{◌≡◌, true, sym, ap, ◌∙◌}
-use Rattle.vlog_runs.specs.Contents.{is_among}
-use Rattle.elab_drive.proofs.Naming.{among_of, of_among, here, passed, dropped}
+use Rattle.vlog_tree_runs.specs.Contents.{is_among}
+use Rattle.elab_flat_drivers.proofs.Naming.{among_of, of_among, here, passed, dropped}
 use Rattle.mem_faults.proofs.survey.first_among.Goals as goal
 
 pub returns-then-has-clause-some : goal.returns-then-has-clause-some

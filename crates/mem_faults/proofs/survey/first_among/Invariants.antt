@@ -1,6 +1,6 @@
 use Rattle.std.proofs.Common.{drop, map}
-use Rattle.vlog_runs.specs.Places.{Name, Among}
-use Rattle.flat_scopes.specs.Borrowed.{name_meant}
+use Rattle.vlog_tree_runs.specs.Places.{Name, Among}
+use Rattle.elab_flat_scopes.specs.Borrowed.{name_meant}
 use Rattle.mem_faults.proofs.survey.first_among.Given as goal
 
 abbrev pub invariant-loop-name : goal.invariant-loop-name

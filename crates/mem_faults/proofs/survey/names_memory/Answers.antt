@@ -1,8 +1,8 @@
 use Rattle.std.proofs.Common.{◌≡◌, true, false, map, sym, ap, ◌∙◌}
 use Rattle.std.specs.List.{flat_map, list_any}
-use Rattle.vlog_runs.specs.Blocks.{left_names}
-use Rattle.vlog_runs.specs.Contents.{is_among}
-use Rattle.elab_drive.specs.Parts.{part_meant}
+use Rattle.vlog_tree_runs.specs.Blocks.{left_names}
+use Rattle.vlog_tree_runs.specs.Contents.{is_among}
+use Rattle.elab_flat_drivers.specs.Parts.{part_meant}
 use Rattle.mem_faults.proofs.Surveying.{any_here, any_later, any_nowhere}
 use Rattle.mem_faults.proofs.Wholes.{reads_names}
 use Rattle.mem_faults.proofs.survey.names_memory.Goals as goal

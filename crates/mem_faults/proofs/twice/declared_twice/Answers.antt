@@ -1,9 +1,9 @@
 use Rattle.std.proofs.Common.{◌≡◌, sym, ap, ◌∙◌, subst}
 use Rattle.std.proofs.lemmas.Result.{IfOk-weaker}
 use Rattle.std.specs.List.{flat_map}
-use Rattle.vlog_runs.specs.Places.{Among}
-use Rattle.flat_faults.specs.Declaring.{words_of}
-use Rattle.elab_drive.proofs.Kinding.{some_then, none_then}
+use Rattle.vlog_tree_runs.specs.Places.{Among}
+use Rattle.elab_flat_faults.specs.Declaring.{words_of}
+use Rattle.elab_flat_drivers.proofs.Kinding.{some_then, none_then}
 use Rattle.mem_faults.proofs.Repeating.{twice_by, by_twice}
 use Rattle.mem_faults.proofs.twice.declared_twice.Goals as goal
 

@@ -1,7 +1,7 @@
 use Rattle.std.proofs.Common.{◌≡◌, true, false, refl, sym, ap, ◌∙◌}
-use Rattle.vlog_runs.specs.declared.flat.Signal.{Signal}
-use Rattle.vlog_runs.specs.Contents.{is_among}
-use Rattle.elab_drive.proofs.Naming.{among_of, meant_at}
+use Rattle.vlog_tree_runs.specs.declared.flat.Signal.{Signal}
+use Rattle.vlog_tree_runs.specs.Contents.{is_among}
+use Rattle.elab_flat_drivers.proofs.Naming.{among_of, meant_at}
 use Rattle.mem_faults.proofs.Repeating.{name_later, no_name_later}
 use Rattle.mem_faults.proofs.twice.first_named.Goals as goal
 

@@ -1,6 +1,6 @@
 use Rattle.std.proofs.Common.{drop, map}
-use Rattle.vlog_runs.specs.declared.flat.Signal.{Signal}
-use Rattle.vlog_runs.specs.Places.{Name, Among}
+use Rattle.vlog_tree_runs.specs.declared.flat.Signal.{Signal}
+use Rattle.vlog_tree_runs.specs.Places.{Name, Among}
 use Rattle.mem_faults.proofs.twice.first_named.Given as goal
 
 abbrev pub invariant-loop-signal : goal.invariant-loop-signal

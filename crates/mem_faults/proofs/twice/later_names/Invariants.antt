@@ -1,5 +1,5 @@
 use Rattle.std.proofs.Common.{◌≡◌, ◌++◌, drop, map}
-use Rattle.flat_scopes.specs.Borrowed.{name_meant}
+use Rattle.elab_flat_scopes.specs.Borrowed.{name_meant}
 use Rattle.mem_faults.specs.Repeated.{entry_name, later_names}
 use Rattle.mem_faults.proofs.twice.later_names.Given as goal
 

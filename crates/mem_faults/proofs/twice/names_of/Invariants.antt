@@ -1,5 +1,5 @@
 use Rattle.std.proofs.Common.{◌≡◌, ◌++◌, drop, map}
-use Rattle.flat_scopes.specs.Borrowed.{name_meant}
+use Rattle.elab_flat_scopes.specs.Borrowed.{name_meant}
 use Rattle.mem_faults.specs.Repeated.{entry_name}
 use Rattle.mem_faults.proofs.twice.names_of.Given as goal
 

@@ -1,9 +1,9 @@
 use Rattle.std.proofs.Common.{◌≡◌, map, sym, ap, ◌∙◌, subst}
 use Rattle.std.specs.List.{flat_map}
-use Rattle.vlog_runs.specs.declared.flat.Signal.{Signal}
-use Rattle.vlog_runs.specs.Places.{Among}
-use Rattle.flat_faults.specs.Declaring.{words_of}
-use Rattle.elab_drive.proofs.Kinding.{some_at, none_is}
+use Rattle.vlog_tree_runs.specs.declared.flat.Signal.{Signal}
+use Rattle.vlog_tree_runs.specs.Places.{Among}
+use Rattle.elab_flat_faults.specs.Declaring.{words_of}
+use Rattle.elab_flat_drivers.proofs.Kinding.{some_at, none_is}
 use Rattle.mem_faults.proofs.Repeating.{word_here, word_later, no_word_later}
 use Rattle.mem_faults.proofs.twice.word_among.Goals as goal
 

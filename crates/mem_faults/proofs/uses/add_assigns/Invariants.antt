@@ -1,6 +1,6 @@
 use Rattle.std.proofs.Common.{◌≡◌, ◌++◌, drop, map}
 use Rattle.std.specs.List.{flat_map}
-use Rattle.elab_drive.specs.Parts.{part_meant}
+use Rattle.elab_flat_drivers.specs.Parts.{part_meant}
 use Rattle.mem_faults.specs.Used.{assign_uses}
 use Rattle.mem_faults.proofs.uses.add_assigns.Given as goal
 

@@ -1,11 +1,11 @@
 use Rattle.std.proofs.Common.{◌++◌, map, refl, ap, ◌∙◌}
 use Rattle.std.specs.List.{flat_map}
-use Rattle.flat_scopes.specs.Borrowed.{name_meant}
-use Rattle.elab_drive.specs.declared.names.Form.TheVariants as m
-use Rattle.elab_drive.specs.Names.{action_names}
-use Rattle.elab_drive.specs.Pieces.{piece_meant}
-use Rattle.elab_drive.proofs.Growing.{ended}
-use Rattle.elab_drive.proofs.Naming.{actions_names}
+use Rattle.elab_flat_scopes.specs.Borrowed.{name_meant}
+use Rattle.elab_flat_drivers.specs.declared.names.Form.TheVariants as m
+use Rattle.elab_flat_drivers.specs.Names.{action_names}
+use Rattle.elab_flat_drivers.specs.Pieces.{piece_meant}
+use Rattle.elab_flat_drivers.proofs.Growing.{ended}
+use Rattle.elab_flat_drivers.proofs.Naming.{actions_names}
 use Rattle.mem_flat.proofs.idle.add_body.Goals as goal
 
 pub returns : goal.returns

@@ -1,9 +1,9 @@
 use Rattle.std.proofs.Common.{◌≡◌, ◌++◌, drop, map}
 use Rattle.std.specs.List.{flat_map}
-use Rattle.flat_scopes.specs.Borrowed.{name_meant}
-use Rattle.elab_drive.specs.declared.names.Form.TheVariants as m
-use Rattle.elab_drive.specs.Names.{action_names}
-use Rattle.elab_drive.specs.Pieces.{piece_meant}
+use Rattle.elab_flat_scopes.specs.Borrowed.{name_meant}
+use Rattle.elab_flat_drivers.specs.declared.names.Form.TheVariants as m
+use Rattle.elab_flat_drivers.specs.Names.{action_names}
+use Rattle.elab_flat_drivers.specs.Pieces.{piece_meant}
 use Rattle.mem_flat.proofs.idle.add_body.Given as goal
 
 abbrev pub invariant-loop-piece : goal.invariant-loop-piece

@@ -1,7 +1,7 @@
 use Rattle.std.proofs.Common.{◌++◌, map, refl, ◌∙◌}
 use Rattle.std.specs.List.{flat_map}
-use Rattle.vlog_runs.specs.declared.flat.Signal.{Signal}
-use Rattle.flat_faults.specs.Declaring.{words_of}
+use Rattle.vlog_tree_runs.specs.declared.flat.Signal.{Signal}
+use Rattle.elab_flat_faults.specs.Declaring.{words_of}
 use Rattle.mem_laws.specs.Spread.{assigned_in, keeper}
 use Rattle.mem_faults.specs.Held.{idle_of}
 use Rattle.mem_faults.proofs.Growing.{next, ended}

@@ -1,6 +1,6 @@
 use Rattle.std.proofs.Common.{◌≡◌, ◌++◌, drop, map}
 use Rattle.std.specs.List.{flat_map}
-use Rattle.flat_faults.specs.Declaring.{words_of}
+use Rattle.elab_flat_faults.specs.Declaring.{words_of}
 use Rattle.mem_laws.specs.Spread.{assigned_in, keeper}
 use Rattle.mem_faults.specs.Held.{idle_of}
 use Rattle.mem_flat.proofs.idle.keepers.Given as goal

@@ -1,6 +1,6 @@
 use Rattle.std.proofs.Common.{◌≡◌, nat_eq, length, drop}
 use Rattle.std.specs.List.{flat_map}
-use Rattle.flat_faults.specs.Texts.{names_in}
+use Rattle.elab_flat_faults.specs.Texts.{names_in}
 use Rattle.mem_flat.proofs.index.+constant.Given as goal
 
 abbrev pub invariant-are_constant-loop-expr : goal.invariant-are_constant-loop-expr

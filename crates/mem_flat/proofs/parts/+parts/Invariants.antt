@@ -1,6 +1,6 @@
 use Rattle.std.proofs.Common.{◌≡◌, ◌++◌, drop, map}
 use Rattle.std.specs.List.{flat_map}
-use Rattle.elab_faults.specs.Drivers.{parts_of}
+use Rattle.elab_flat_faults.specs.Drivers.{parts_of}
 use Rattle.mem_flat.specs.Borrowed.{left_meant}
 use Rattle.mem_flat.proofs.parts.+parts.Given as goal
 

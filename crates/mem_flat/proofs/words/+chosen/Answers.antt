@@ -1,7 +1,7 @@
 use Rattle.std.proofs.Common.{◌≡◌, Ok, ap, ◌∙◌, sym}
 use Rattle.std.proofs.lemmas.Result.{IfOk-weaker, IfOk-at_ok}
 use Rattle.mem_laws.specs.Spread.{chosen}
-use Rattle.flat_move.proofs.Pairs.{made}
+use Rattle.elab_flat_move.proofs.Pairs.{made}
 use Rattle.mem_flat.proofs.Forms.{chosen_made, first_and_rest}
 use Rattle.mem_flat.proofs.words.+chosen.Goals as goal
 

@@ -1,5 +1,5 @@
 use Rattle.vlog_tree.specs.declared.expr.Expr.TheVariants as e
-use Rattle.flat_move.proofs.Pairs.{made}
+use Rattle.elab_flat_move.proofs.Pairs.{made}
 use Rattle.mem_flat.proofs.words.binary.Goals as goal
 
 pub returns : goal.returns

@@ -1,7 +1,7 @@
 use Rattle.std.proofs.Common.{◌≡◌, Ok}
 use Rattle.std.proofs.lemmas.Result.{IfOk-at_ok}
 use Rattle.vlog_tree.specs.declared.expr.Expr.TheVariants as e
-use Rattle.flat_move.proofs.Pairs.{made}
+use Rattle.elab_flat_move.proofs.Pairs.{made}
 use Rattle.mem_flat.proofs.words.choice.Goals as goal
 
 pub returns : goal.returns

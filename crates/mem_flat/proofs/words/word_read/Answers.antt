@@ -1,6 +1,6 @@
 use Rattle.std.proofs.Common.{◌≡◌, Ok, ap, ◌∙◌}
 use Rattle.std.proofs.lemmas.Result.{IfOk-at_ok}
-use Rattle.flat_move.proofs.Pairs.{made}
+use Rattle.elab_flat_move.proofs.Pairs.{made}
 use Rattle.mem_laws.specs.Spread.{number}
 use Rattle.mem_flat.proofs.Forms.{read_made}
 use Rattle.mem_flat.proofs.words.word_read.Goals as goal

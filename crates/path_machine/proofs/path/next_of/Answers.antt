@@ -1,5 +1,5 @@
 use Rattle.std.proofs.Common.{arith, get_or}
-use Rattle.completeness.proofs.Chain.{window-le}
+use Rattle.set_tree_completeness.proofs.Chain.{window-le}
 use Rattle.path_machine.proofs.Walking.{successor_at}
 use Rattle.path_machine.proofs.path.next_of.Goals as goal
 

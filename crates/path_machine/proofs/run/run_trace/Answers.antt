@@ -2,11 +2,11 @@ use Rattle.std.proofs.Common.{◌≡◌, ◌+◌, ◌-◌, List, ap, sym, ◌∙
 use Rattle.set_tree.specs.declared.set.Set.{Set}
 use Rattle.set_tree.specs.Meaning.{Row}
 use Rattle.set_tree.specs.Traces.{IsTrace}
-use Rattle.word_design.specs.Designs.{IsDesign}
-use Rattle.word_design.specs.Laws.{word_design}
+use Rattle.elab_step_design.specs.Designs.{IsDesign}
+use Rattle.elab_step_design.specs.Laws.{word_design}
 use Rattle.replay.specs.declared.shown.Trace.{Trace}
-use Rattle.segment_laws.specs.Tests.{rows_from}
-use Rattle.segment_laws.proofs.Running.{rows_fit}
+use Rattle.unroll_laws.specs.Tests.{rows_from}
+use Rattle.unroll_laws.proofs.Running.{rows_fit}
 use Rattle.path_machine.specs.Rows.{inputs_of}
 use Rattle.path_machine.specs.Runs.{IsRunTrace}
 use Rattle.path_machine.specs.Stimuli.{IsGivenBy, name_of, stimulus}

@@ -1,6 +1,6 @@
 use Rattle.std.proofs.Common.{ap, sym, ◌∙◌}
 use Rattle.std.specs.Prelude.{unwrap_or}
-use Rattle.flat_scopes.proofs.Finding.{got}
+use Rattle.elab_flat_scopes.proofs.Finding.{got}
 use Rattle.path_machine.proofs.Driving.{given_nowhere, given_there, index_is}
 use Rattle.path_machine.proofs.stimulus.given.Goals as goal
 

@@ -1,6 +1,6 @@
 use Rattle.std.proofs.Common.{◌≡◌, map, take}
 use Rattle.std.specs.List.{filter}
-use Rattle.flat_scopes.specs.Borrowed.{name_meant}
+use Rattle.elab_flat_scopes.specs.Borrowed.{name_meant}
 use Rattle.set_tree.specs.declared.set.Name.{Name}
 use Rattle.set_tree.specs.Parts.{is_input}
 use Rattle.path_machine.specs.Stimuli.{name_of}

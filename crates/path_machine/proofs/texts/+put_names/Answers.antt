@@ -1,5 +1,5 @@
 use Rattle.std.proofs.Common.{ℕ, List, ◌∷◌, ◌++◌, map, ap, ◌∙◌}
-use Rattle.line_laws.specs.Names.{property_name}
+use Rattle.twin_tests_laws.specs.Names.{property_name}
 use Rattle.word_dag.specs.Text.{spaced}
 use Rattle.replay.proofs.Putting.{head_refused, rest_of, same_refused, tail_refused}
 use Rattle.path_machine.proofs.Splitting.{split_names}

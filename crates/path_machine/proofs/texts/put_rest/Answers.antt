@@ -1,6 +1,6 @@
 use Rattle.std.proofs.Common.{[], ◌∷◌, map}
 use Rattle.std.specs.Prelude.{codes}
-use Rattle.line_laws.specs.Names.{property_name}
+use Rattle.twin_tests_laws.specs.Names.{property_name}
 use Rattle.word_dag.specs.Text.{spaced}
 use Rattle.replay.proofs.Putting.{head_refused, tail_put, tail_refused}
 use Rattle.path_machine.specs.Texts.{length_text}

@@ -1,6 +1,6 @@
 use Rattle.std.proofs.Common.{ℕ, List, [], ◌∷◌, ◌++◌, ap, ◌∙◌}
 use Rattle.std.specs.Fmt.{decimal}
-use Rattle.line_laws.specs.Names.{property_name}
+use Rattle.twin_tests_laws.specs.Names.{property_name}
 use Rattle.replay.proofs.Putting.{head_refused, same_put, same_refused, tail_put, tail_refused}
 use Rattle.path_machine.proofs.Splitting.{step_is}
 use Rattle.path_machine.proofs.texts.put_step.Goals as goal

@@ -1,7 +1,7 @@
 use Rattle.std.proofs.Common.{◌≡◌, List, length, ap, subst, arith, rules}
 use Rattle.std.specs.Prelude.{true}
 use Rattle.clause_check.specs.declared.formula.Step.{Step}
-use Rattle.step_records.specs.Records.{Fits, IsRecord, version_2}
+use Rattle.proof_store_records.specs.Records.{Fits, IsRecord, version_2}
 use Rattle.proof_store.proofs.keeping.row_of.Goals as goal
 
 pub returns : goal.returns

@@ -2,8 +2,8 @@ use Rattle.std.proofs.Common.{◌≡◌, ◌<◌, false, Some, sym, ap, ◌∙�
 use Rattle.std.specs.Option.{option_map}
 use Rattle.std.specs.Str.{bytes_eq}
 use Rattle.set_tree.specs.declared.set.Set.{Set}
-use Rattle.word_design.specs.Designs.{Parts}
-use Rattle.segment_laws.specs.Tests.{register_at}
+use Rattle.elab_step_design.specs.Designs.{Parts}
+use Rattle.unroll_laws.specs.Tests.{register_at}
 use Rattle.replay.specs.Segments.{register_next}
 use Rattle.replay.proofs.Cycling.{at_free, at_register, no_register}
 use Rattle.replay.proofs.cycle.held.Goals as goal

@@ -1,8 +1,8 @@
 use Rattle.std.proofs.Common.{◌∙◌, ap, sym}
 use Rattle.word_core.specs.Words.{Bits}
-use Rattle.word_design.specs.Designs.{naming_of}
+use Rattle.elab_step_design.specs.Designs.{naming_of}
 use Rattle.word_dag.proofs.Widths.{width-node_value}
-use Rattle.segment_laws.specs.Tests.{held}
+use Rattle.unroll_laws.specs.Tests.{held}
 use Rattle.replay.proofs.Cycling.{not_free}
 use Rattle.replay.proofs.cycle.node_word.Goals as goal
 

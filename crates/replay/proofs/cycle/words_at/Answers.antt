@@ -1,8 +1,8 @@
 use Rattle.std.proofs.Common.{◌≡◌, ◌∙◌, List, ap}
 use Rattle.word_core.specs.Words.{Bits}
 use Rattle.word_dag.specs.Nodes.{named, node_value}
-use Rattle.word_design.specs.Designs.{Parts, naming_of}
-use Rattle.segment_laws.specs.Tests.{held}
+use Rattle.elab_step_design.specs.Designs.{Parts, naming_of}
+use Rattle.unroll_laws.specs.Tests.{held}
 use Rattle.replay.proofs.Cycling.{words_step}
 use Rattle.replay.proofs.cycle.words_at.Goals as goal
 

@@ -2,8 +2,8 @@ use Rattle.std.proofs.Common.{◌≡◌, ◌∙◌, ap, subst}
 use Rattle.set_tree.specs.declared.set.Set.{Set}
 use Rattle.replay.specs.Segments.{ShowsNamed, last_cycle, resets_of}
 use Rattle.set_tree.specs.Formulas.{meaning_of}
-use Rattle.word_design.specs.Designs.{IsDesign}
-use Rattle.word_names.specs.Names.{naming_from}
+use Rattle.elab_step_design.specs.Designs.{IsDesign}
+use Rattle.word_dag.specs.Names.{naming_from}
 use Rattle.unroll.specs.Named.{line_of}
 use Rattle.replay.proofs.Showing.{shows_segment, values_violate}
 use Rattle.replay.proofs.segment.replay.Goals as goal

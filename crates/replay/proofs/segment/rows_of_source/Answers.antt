@@ -1,7 +1,7 @@
 use Rattle.std.proofs.Common.{◌≡◌, ◌∙◌, List, ap, map, arith}
 use Rattle.word_core.specs.Words.{Bits}
 use Rattle.word_dag.specs.Nodes.{word_at}
-use Rattle.segment_laws.specs.Tests.{rows_from}
+use Rattle.unroll_laws.specs.Tests.{rows_from}
 use Rattle.replay.proofs.Cycling.{segment_step}
 use Rattle.replay.proofs.segment.rows_of_source.Goals as goal
 

@@ -1,10 +1,10 @@
 use Rattle.std.proofs.Common.{◌≡◌, ◌∙◌, List, ap, map, refl, subst}
-use Rattle.segment_laws.specs.Tests.{rows_from}
+use Rattle.unroll_laws.specs.Tests.{rows_from}
 use Rattle.replay.specs.Segments.{named_start}
 use Rattle.replay.specs.Windows.{declared_names}
-use Rattle.word_design.specs.Designs.{IsDesign, Parts}
+use Rattle.elab_step_design.specs.Designs.{IsDesign, Parts}
 use Rattle.word_dag.specs.declared.node.Node.{Node}
-use Rattle.word_names.specs.Names.{naming_from}
+use Rattle.word_dag.specs.Names.{naming_from}
 use Rattle.replay.specs.Values.{AreOf}
 use Rattle.replay.proofs.Showing.{registers_wide}
 use Rattle.replay.proofs.segment.shown_segment.Goals as goal

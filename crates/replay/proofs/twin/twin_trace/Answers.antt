@@ -3,8 +3,8 @@ use Rattle.set_tree.specs.declared.set.Property.{Property}
 use Rattle.set_tree.specs.declared.set.Set.{Set}
 use Rattle.set_tree.specs.Parts.{property_at}
 use Rattle.word_dag.specs.declared.node.Node.{Node}
-use Rattle.line_laws.specs.Laws.{property_of}
-use Rattle.word_names.specs.Names.{naming_from}
+use Rattle.twin_tests_laws.specs.Laws.{property_of}
+use Rattle.word_dag.specs.Names.{naming_from}
 use Rattle.twin_tests.specs.Ordering.{line_of}
 use Rattle.replay.specs.Values.{AreOf}
 use Rattle.replay.specs.Windows.{AreNamedWindows, ViolatesAt}

@@ -1,7 +1,7 @@
 use Rattle.std.proofs.Common.{ℕ, ◌<◌, ◌≤◌}
 use Rattle.set_tree.specs.Parts.{property_at}
-use Rattle.line_laws.specs.Laws.{property_of}
-use Rattle.word_names.specs.Names.{naming_from}
+use Rattle.twin_tests_laws.specs.Laws.{property_of}
+use Rattle.word_dag.specs.Names.{naming_from}
 use Rattle.twin_tests.specs.Ordering.{line_of}
 use Rattle.replay.specs.Windows.{ViolatesAt}
 use Rattle.replay.proofs.twin.twin_trace.Given as goal

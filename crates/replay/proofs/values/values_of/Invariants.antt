@@ -1,7 +1,7 @@
 use Rattle.std.proofs.Common.{◌≡◌, drop}
 use Rattle.std.specs.HashMap.{get}
 use Rattle.std.specs.Prelude.{unwrap_or}
-use Rattle.word_names.specs.Names.{naming_from}
+use Rattle.word_dag.specs.Names.{naming_from}
 use Rattle.replay.specs.declared.values.Word.{Word}
 use Rattle.replay.specs.Values.{same_word}
 use Rattle.replay.proofs.values.values_of.Given as goal

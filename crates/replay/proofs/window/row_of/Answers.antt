@@ -1,4 +1,4 @@
-use Rattle.line_laws.specs.Windows.{named_value}
+use Rattle.twin_tests_laws.specs.Windows.{named_value}
 use Rattle.replay.proofs.Rowing.{map_next}
 use Rattle.replay.proofs.window.row_of.Goals as goal
 

@@ -1,6 +1,6 @@
 use Rattle.std.proofs.Common.{◌≡◌, map, take}
 use Rattle.word_dag.specs.Nodes.{Naming}
-use Rattle.line_laws.specs.Windows.{named_value}
+use Rattle.twin_tests_laws.specs.Windows.{named_value}
 use Rattle.replay.specs.Values.{AreOf}
 use Rattle.replay.proofs.window.row_of.Given as goal
 

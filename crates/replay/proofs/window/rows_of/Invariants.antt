@@ -1,6 +1,6 @@
 use Rattle.std.proofs.Common.{◌≡◌}
 use Rattle.word_dag.specs.Nodes.{Naming}
-use Rattle.line_laws.specs.Windows.{rows_from}
+use Rattle.twin_tests_laws.specs.Windows.{rows_from}
 use Rattle.replay.specs.Values.{AreOf}
 use Rattle.replay.proofs.window.rows_of.Given as goal
 

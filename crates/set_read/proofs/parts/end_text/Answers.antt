@@ -1,6 +1,6 @@
 use Rattle.std.proofs.Common.{arith}
 use Rattle.vlog_read_expr.proofs.SignTests.{yes_by, no_by}
-use Rattle.vlog_spell.proofs.Tokens.{kind_within}
+use Rattle.vlog_read_spelling.proofs.Tokens.{kind_within}
 use Rattle.std.proofs.lemmas.Result.{err_from_is_err_and}
 use Rattle.set_read.proofs.PartSteps.{after_end, no_end}
 use Rattle.set_read.proofs.parts.end_text.Goals as goal

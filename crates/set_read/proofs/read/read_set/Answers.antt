@@ -1,5 +1,5 @@
 use Rattle.std.proofs.Common.{length, sym, subst, true}
-use Rattle.vlog_lex.specs.Tokens.{Lexes, LieWithin}
+use Rattle.vlog_read_lex.specs.Tokens.{Lexes, LieWithin}
 use Rattle.set_read.specs.Read.{NamesByte, Refuses}
 use Rattle.set_read.proofs.PlainNumbers.{small_at}
 use Rattle.set_read.proofs.Answers.{lex_names, lex_refuses, tokens_err}

@@ -1,5 +1,5 @@
 use Rattle.vlog_read_expr.proofs.SignTests.{yes_by, no_by}
-use Rattle.vlog_spell.proofs.Tokens.{kind_within}
+use Rattle.vlog_read_spelling.proofs.Tokens.{kind_within}
 use Rattle.set_read.proofs.tokens.word.Goals as goal
 
 pub after-requires : goal.after-requires

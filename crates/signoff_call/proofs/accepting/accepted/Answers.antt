@@ -1,5 +1,5 @@
 use Rattle.std.proofs.Common.{◌≡◌, Err, subst}
-use Rattle.line_clauses.specs.declared.fault.KeepFault.{KeepFault}
+use Rattle.desk_core_goals.specs.declared.keep_fault.KeepFault.{KeepFault}
 use Rattle.signoff_call.proofs.Walking.{kept_first, later_keeper, not_accepted, not_kept_keeper, twice_kept, twice_same}
 use Rattle.signoff_call.proofs.accepting.accepted.Goals as goal
 

@@ -1,5 +1,5 @@
 use Rattle.std.proofs.Common.{ℕ, List, ap, ◌∙◌}
-use Rattle.reports.specs.declared.book.Verdict.{Verdict}
+use Rattle.desk_core_reports.specs.declared.book.Verdict.{Verdict}
 use Rattle.signoff_call.specs.Answers.{reported}
 use Rattle.signoff_call.specs.Tasks.{Reports}
 use Rattle.signoff_call.proofs.Walking.{says_one}

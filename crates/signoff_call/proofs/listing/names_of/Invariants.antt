@@ -1,7 +1,7 @@
 use Rattle.std.proofs.Common.{◌≡◌, ◌++◌, ◌∷◌, [], take}
 use Rattle.std.specs.List.{flat_map}
 use Rattle.set_tree.specs.declared.line.Line.{Line}
-use Rattle.line_laws.specs.Names.{line_name}
+use Rattle.twin_tests_laws.specs.Names.{line_name}
 use Rattle.signoff_call.proofs.listing.names_of.Given as goal
 
 -- the names so far

@@ -1,4 +1,4 @@
-use Rattle.check_stages.specs.Stages.{Refuses as RefusesStage}
+use Rattle.desk_core_stages.specs.Stages.{Refuses as RefusesStage}
 use Rattle.signoff_call.proofs.Answering.{adds_none, turned_answered}
 use Rattle.signoff_call.proofs.Walking.{bound_as, refuses_as, walk_answered}
 use Rattle.signoff_call.proofs.paths.walk_of.Goals as goal

@@ -1,7 +1,7 @@
 use Rattle.std.proofs.Common.{Global, Some, ap, refl, sym, map, ◌∙◌}
 use Rattle.std.specs.Prelude.{string_bytes}
-use Rattle.command_words.specs.declared.action.Command.{Command}
-use Rattle.command_words.specs.Commands.{command_of}
+use Rattle.signoff_words.specs.declared.action.Command.{Command}
+use Rattle.signoff_words.specs.Commands.{command_of}
 use Rattle.desk_http.specs.Serving.{line, state, state_of}
 use Rattle.signoff_call.specs.Run.{around}
 use Rattle.signoff_call.proofs.Answering.{demo_ran, job_port, job_ran, leaves_all, leaves_job, move_port, move_ran}

@@ -1,6 +1,6 @@
 use Rattle.std.proofs.Common.{◌≡◌, Global, map, arith}
 use Rattle.std.specs.Prelude.{string_bytes}
-use Rattle.command_words.specs.Commands.{command_of}
+use Rattle.signoff_words.specs.Commands.{command_of}
 use Rattle.signoff_call.proofs.Answering.{delivered, delivered_7, is_read, no_7}
 use Rattle.signoff_call.proofs.run.signoff.Goals as goal
 

@@ -1,6 +1,6 @@
 use Rattle.std.proofs.Common.{◌≡◌, ◌+◌, ◌≤◌, drop}
 use Rattle.std.specs.Prelude.{count_by}
-use Rattle.reports.specs.Lines.{is_proved}
+use Rattle.desk_core_reports.specs.Lines.{is_proved}
 use Rattle.signoff_call.specs.Answers.{is_refuted, is_spent}
 use Rattle.signoff_call.proofs.texts.count_verdicts.Given as goal
 

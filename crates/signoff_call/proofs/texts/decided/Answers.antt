@@ -1,6 +1,6 @@
 use Rattle.std.proofs.Common.{◌≡◌, ℕ, List, ap, ◌∙◌, subst, inr, refl, Err}
-use Rattle.check_faults.specs.declared.fault.CheckFault.{CheckFault}
-use Rattle.reports.specs.declared.book.Verdict.{Verdict}
+use Rattle.desk_core_faults.specs.declared.fault.CheckFault.{CheckFault}
+use Rattle.desk_core_reports.specs.declared.book.Verdict.{Verdict}
 use Rattle.desk_core.specs.Checks.{AreObsOfTexts, IsReport, Refuses}
 use Rattle.signoff_call.specs.Answers.{reported}
 use Rattle.signoff_call.proofs.Answering.{left_of, reported_keeper, turned_answered, turned_keeper}

@@ -1,5 +1,5 @@
 use Rattle.std.proofs.Common.{◌≡◌, ℕ, List, option_map, subst, inr, Err}
-use Rattle.check_faults.specs.declared.fault.CheckFault.{CheckFault}
+use Rattle.desk_core_faults.specs.declared.fault.CheckFault.{CheckFault}
 use Rattle.meet_lines.specs.Meetings.{AreObsOfTexts, IsMeetReport, Refuses}
 use Rattle.signoff_call.proofs.Answering.{left_met, met_keeper, turned_answered, turned_keeper}
 use Rattle.signoff_call.proofs.texts.met_in.Goals as goal

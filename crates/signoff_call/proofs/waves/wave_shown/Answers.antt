@@ -1,6 +1,6 @@
 use Rattle.std.proofs.Common.{ℕ, List, ap, ◌∙◌}
-use Rattle.reports.specs.declared.book.Line.{Line}
-use Rattle.reports.specs.declared.book.Verdict.{Verdict}
+use Rattle.desk_core_reports.specs.declared.book.Line.{Line}
+use Rattle.desk_core_reports.specs.declared.book.Verdict.{Verdict}
 use Rattle.signoff_call.specs.Answers.{reported}
 use Rattle.signoff_call.specs.Bound.{SaysWave}
 use Rattle.signoff_call.specs.Waves.{first_waved}

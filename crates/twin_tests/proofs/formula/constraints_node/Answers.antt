@@ -1,10 +1,10 @@
 use Rattle.std.proofs.Common.{◌+◌, ◌-◌, ◌<◌, ◌≤◌, List, length, take, drop, get_or, refl, ap, ◌∙◌, arith}
 use Rattle.std.specs.List.{list_all}
-use Rattle.line_laws.specs.Tests.{all_below}
+use Rattle.twin_tests_laws.specs.Tests.{all_below}
 use Rattle.set_tree.specs.declared.set.Rule.{Rule}
 use Rattle.set_tree.specs.Formulas.{largest_offset, meaning_of}
 use Rattle.set_tree.specs.Meaning.{Row, holds}
-use Rattle.set_sound.specs.Condition.{IsFormula}
+use Rattle.set_tree_structure.specs.Condition.{IsFormula}
 use Rattle.twin_tests.specs.Building.{Shows}
 use Rattle.twin_tests.proofs.Loops.{and_step, builds_start, builds_end, all_more, all_taken, member_is}
 use Rattle.twin_tests.proofs.Readings.{constraints_formed, rule_readable}

@@ -1,6 +1,6 @@
 use Rattle.std.proofs.Common.{◌-◌, length, take, drop}
 use Rattle.std.specs.List.{list_all}
-use Rattle.line_laws.specs.Tests.{all_below}
+use Rattle.twin_tests_laws.specs.Tests.{all_below}
 use Rattle.set_tree.specs.Formulas.{largest_offset, meaning_of}
 use Rattle.set_tree.specs.Meaning.{holds}
 use Rattle.twin_tests.specs.Building.{Shows}

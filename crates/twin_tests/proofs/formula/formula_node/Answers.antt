@@ -1,8 +1,8 @@
 use Rattle.std.proofs.Common.{◌+◌, List, take, sym, subst}
 use Rattle.set_tree.specs.Formulas.{largest_offset}
-use Rattle.elab_node.specs.declared.leaves.Leaf.{Leaf}
-use Rattle.elab_node.specs.Leaves.{AreReady}
-use Rattle.elab_node.specs.Terms.{IsAlone}
+use Rattle.elab_step_expr.specs.declared.leaves.Leaf.{Leaf}
+use Rattle.elab_step_expr.specs.Leaves.{AreReady}
+use Rattle.elab_step_expr.specs.Terms.{IsAlone}
 use Rattle.twin_tests.specs.Leaves.{leaves_from}
 use Rattle.twin_tests.proofs.Read.{ready_read, alone_read}
 use Rattle.twin_tests.proofs.Naming.{leaves_are, longs, read_leaves, rows_ready, formula_alone, formula_counts, made_wide}

@@ -1,5 +1,5 @@
 use Rattle.std.proofs.Common.{drop}
-use Rattle.line_laws.specs.Tests.{all_below}
+use Rattle.twin_tests_laws.specs.Tests.{all_below}
 use Rattle.set_tree.specs.Formulas.{meaning_of}
 use Rattle.set_tree.specs.Meaning.{holds}
 use Rattle.twin_tests.specs.Building.{Shows}

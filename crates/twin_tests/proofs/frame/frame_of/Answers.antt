@@ -1,10 +1,10 @@
 use Rattle.std.proofs.Common.{ap, ◌∙◌, length, sym, subst, List, ℕ}
 use Rattle.set_tree.specs.declared.set.Name.{Name}
 use Rattle.word_dag.proofs.Valued.{grows_kept}
-use Rattle.elab_node.specs.Nodes.{AddsFrees}
-use Rattle.elab_node.proofs.Kept.{frees_kept, grows_then}
+use Rattle.elab_step_expr.specs.Nodes.{AddsFrees}
+use Rattle.elab_step_expr.proofs.Kept.{frees_kept, grows_then}
 use Rattle.twin_tests.specs.Framing.{IsWindowWord}
-use Rattle.line_laws.specs.Windows.{rows_from}
+use Rattle.twin_tests_laws.specs.Windows.{rows_from}
 use Rattle.twin_tests.specs.Building.{Shows}
 use Rattle.twin_tests.proofs.Framed.{window_count, window_shows}
 use Rattle.twin_tests.proofs.Standing.{shows_later}

@@ -1,5 +1,5 @@
 use Rattle.std.proofs.Common.{arith}
-use Rattle.elab_node.proofs.Kept.{frees_then, grows_then}
+use Rattle.elab_step_expr.proofs.Kept.{frees_then, grows_then}
 use Rattle.twin_tests.specs.Framing.{IsWindowWord}
 use Rattle.twin_tests.proofs.Framed.{frame_grown}
 use Rattle.twin_tests.proofs.frame.frames_of.Goals as goal

@@ -1,5 +1,5 @@
 use Rattle.std.proofs.Common.{◌+◌, ◌<◌, length, sym, subst, arith}
-use Rattle.line_laws.specs.Windows.{named_rows}
+use Rattle.twin_tests_laws.specs.Windows.{named_rows}
 use Rattle.twin_tests.specs.Building.{AreLeaves, Shows}
 use Rattle.twin_tests.proofs.Framed.{met_step, shown_to}
 use Rattle.twin_tests.proofs.Standing.{leaves_later, leaves_take, shows_later}

@@ -1,7 +1,7 @@
 use Rattle.std.proofs.Common.{Option, ◌≡◌, sym, ◌∙◌, ap, subst, arith}
 use Rattle.std.specs.Prelude.{IfOk, ◌<◌, length}
-use Rattle.elab_node.specs.declared.leaves.Leaf.{Leaf}
-use Rattle.elab_node.specs.Leaves.{leaf_at}
+use Rattle.elab_step_expr.specs.declared.leaves.Leaf.{Leaf}
+use Rattle.elab_step_expr.specs.Leaves.{leaf_at}
 use Rattle.twin_tests.specs.Leaves.{row_leaves}
 use Rattle.twin_tests.proofs.Finding.{past_rows, row_at}
 use Rattle.twin_tests.proofs.leaves.leaf_in.Goals as goal

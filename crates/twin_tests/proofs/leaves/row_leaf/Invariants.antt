@@ -1,5 +1,5 @@
 use Rattle.std.proofs.Common.{◌≡◌, drop}
-use Rattle.elab_node.specs.Leaves.{leaf_at}
+use Rattle.elab_step_expr.specs.Leaves.{leaf_at}
 use Rattle.twin_tests.specs.Leaves.{row_leaves}
 use Rattle.twin_tests.proofs.leaves.row_leaf.Given as goal
 

@@ -1,7 +1,7 @@
 use Rattle.std.proofs.Common.{◌∙◌}
 use Rattle.std.proofs.lemmas.Result.{IfOk-weaker}
-use Rattle.line_laws.proofs.Roots.{tests_are_of_lines}
-use Rattle.word_names.proofs.Taken.{obligations_have_one_word_each}
+use Rattle.twin_tests_laws.proofs.Roots.{tests_are_of_lines}
+use Rattle.word_dag.proofs.Taken.{obligations_have_one_word_each}
 use Rattle.twin_tests.proofs.Told.{ok_two}
 use Rattle.twin_tests.proofs.obligation.obligation_of.Goals as goal
 

@@ -4,7 +4,7 @@ use Rattle.set_tree.specs.declared.line.Line.{Line}
 use Rattle.set_tree.specs.declared.line.Line.TheVariants.{Reset}
 use Rattle.set_tree.specs.declared.set.Set.{Set}
 use Rattle.set_tree.specs.Report.{set_lines}
-use Rattle.word_names.proofs.Taken.{widths_are_kept}
+use Rattle.word_dag.proofs.Taken.{widths_are_kept}
 use Rattle.twin_tests.specs.Framing.{SpeaksOf}
 use Rattle.twin_tests.specs.declared.set_line.SetLine.{SetLine}
 use Rattle.twin_tests.specs.Named.{IsNamedOf, set_line}

@@ -7,7 +7,7 @@ use Rattle.set_tree.specs.Meaning.{all_hold}
 use Rattle.set_tree.specs.Parts.{assumed, committed, property_at}
 use Rattle.twin_tests.proofs.Loops.{same_test}
 use Rattle.twin_tests.proofs.Readings.{commitments_read}
-use Rattle.elab_node.proofs.Kept.{keeps_then}
+use Rattle.elab_step_expr.proofs.Kept.{keeps_then}
 use Rattle.twin_tests.proofs.Standing.{leaves_later, shows_later, tests_later}
 use Rattle.twin_tests.proofs.property.starts_node.Goals as goal
 

@@ -2,8 +2,8 @@ use Rattle.std.proofs.Common.{ap, ◌∙◌, ℕ}
 use Rattle.std.specs.Prelude.{nat_lt}
 use Rattle.std.proofs.lemmas.Result.{IfOk-weaker}
 use Rattle.word_core.specs.Words.{Bits}
-use Rattle.segment_laws.specs.Segments.{cycle_number}
-use Rattle.segment_laws.specs.Tests.{level}
+use Rattle.unroll_laws.specs.Segments.{cycle_number}
+use Rattle.unroll_laws.specs.Tests.{level}
 use Rattle.unroll.proofs.Leaving.{chosen_word, level_fits}
 use Rattle.unroll.proofs.leaves.input_node.Goals as goal
 

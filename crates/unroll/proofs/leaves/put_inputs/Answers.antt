@@ -2,10 +2,10 @@ use Rattle.std.proofs.Common.{◌∙◌, ap, refl, subst, map, arith}
 use Rattle.std.specs.Prelude.{nat_lt, if◌then◌else◌}
 use Rattle.std.specs.Str.{bytes_eq}
 use Rattle.set_tree.specs.declared.set.Set.{Set}
-use Rattle.word_design.specs.Designs.{source}
-use Rattle.segment_laws.specs.Segments.{cycle_number}
-use Rattle.segment_laws.specs.Tests.{level}
-use Rattle.segment_laws.proofs.Holding.{input_source}
+use Rattle.elab_step_design.specs.Designs.{source}
+use Rattle.unroll_laws.specs.Segments.{cycle_number}
+use Rattle.unroll_laws.specs.Tests.{level}
+use Rattle.unroll_laws.proofs.Holding.{input_source}
 use Rattle.unroll.specs.Copies.{IsWordAt}
 use Rattle.unroll.proofs.Leaving.{input_held, inputs_more, item_among, leaf_start, leaf_step, registers_among, source_below, source_wide}
 use Rattle.unroll.proofs.leaves.put_inputs.Goals as goal

@@ -1,5 +1,5 @@
 use Rattle.std.proofs.Common.{◌++◌, map, take}
-use Rattle.word_design.specs.Designs.{source}
+use Rattle.elab_step_design.specs.Designs.{source}
 use Rattle.unroll.proofs.Leaving.{LeafLoop}
 use Rattle.unroll.proofs.leaves.put_inputs.Given as goal
 

@@ -1,6 +1,6 @@
 use Rattle.std.proofs.Common.{◌∙◌, ap, refl, arith}
-use Rattle.word_design.specs.Designs.{source}
-use Rattle.segment_laws.proofs.Holding.{register_source}
+use Rattle.elab_step_design.specs.Designs.{source}
+use Rattle.unroll_laws.proofs.Holding.{register_source}
 use Rattle.unroll.proofs.Leaving.{copied_later, item_among, leaf_step, registers_more, source_below}
 use Rattle.unroll.proofs.leaves.put_registers.Goals as goal
 

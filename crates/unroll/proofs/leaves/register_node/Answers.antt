@@ -1,8 +1,8 @@
 use Rattle.std.proofs.Common.{◌≡◌, ℕ, List, subst, arith}
 use Rattle.std.proofs.lemmas.Result.{IfOk-weaker}
-use Rattle.word_design.specs.Designs.{source}
-use Rattle.segment_laws.specs.Segments.{cycle_number}
-use Rattle.segment_laws.proofs.Holding.{register_source}
+use Rattle.elab_step_design.specs.Designs.{source}
+use Rattle.unroll_laws.specs.Segments.{cycle_number}
+use Rattle.unroll_laws.proofs.Holding.{register_source}
 use Rattle.unroll.specs.Copies.{IsWordAt}
 use Rattle.unroll.proofs.Leaving.{register_begun, register_stepped, source_wide}
 use Rattle.unroll.proofs.leaves.register_node.Goals as goal

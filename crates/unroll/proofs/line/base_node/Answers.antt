@@ -1,8 +1,8 @@
 use Rattle.std.specs.Prelude.{slice_get}
 use Rattle.std.proofs.lemmas.Result.{IfOk-weaker}
-use Rattle.line_laws.specs.Tests.{meets_constraints}
+use Rattle.twin_tests_laws.specs.Tests.{meets_constraints}
 use Rattle.set_tree.specs.Formulas.{meaning_of}
-use Rattle.segment_laws.specs.Tests.{fails}
+use Rattle.unroll_laws.specs.Tests.{fails}
 use Rattle.twin_tests.proofs.Standing.{leaves_later}
 use Rattle.unroll.proofs.Joining.{joined}
 use Rattle.unroll.proofs.line.base_node.Goals as goal

@@ -1,11 +1,11 @@
 use Rattle.std.proofs.Common.{not}
 use Rattle.std.specs.Prelude.{◌&&◌}
 use Rattle.std.proofs.lemmas.Result.{IfOk-weaker}
-use Rattle.line_laws.specs.Tests.{meets_constraints}
+use Rattle.twin_tests_laws.specs.Tests.{meets_constraints}
 use Rattle.set_tree.specs.Formulas.{meaning_of}
 use Rattle.set_tree.specs.Parts.{assumed, committed}
-use Rattle.segment_laws.specs.Tests.{meets_invariants}
-use Rattle.elab_node.proofs.Kept.{keeps_then}
+use Rattle.unroll_laws.specs.Tests.{meets_invariants}
+use Rattle.elab_step_expr.proofs.Kept.{keeps_then}
 use Rattle.twin_tests.proofs.Standing.{leaves_later}
 use Rattle.unroll.proofs.Joining.{joined}
 use Rattle.unroll.proofs.line.operation_node.Goals as goal

@@ -1,6 +1,6 @@
 use Rattle.std.proofs.Common.{not}
 use Rattle.std.proofs.lemmas.Result.{IfOk-weaker}
-use Rattle.line_laws.specs.Tests.{meets_constraints}
+use Rattle.twin_tests_laws.specs.Tests.{meets_constraints}
 use Rattle.set_tree.specs.Formulas.{meaning_of}
 use Rattle.set_tree.specs.Parts.{committed}
 use Rattle.twin_tests.proofs.Standing.{leaves_later}

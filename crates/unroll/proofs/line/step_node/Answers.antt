@@ -1,9 +1,9 @@
 use Rattle.std.proofs.Common.{drop}
 use Rattle.std.specs.Prelude.{◌&&◌, slice_get}
 use Rattle.std.proofs.lemmas.Result.{IfOk-weaker}
-use Rattle.line_laws.specs.Tests.{meets_constraints}
+use Rattle.twin_tests_laws.specs.Tests.{meets_constraints}
 use Rattle.set_tree.specs.Formulas.{meaning_of}
-use Rattle.segment_laws.specs.Tests.{fails, meets_invariants}
+use Rattle.unroll_laws.specs.Tests.{fails, meets_invariants}
 use Rattle.twin_tests.proofs.Framed.{after_shows}
 use Rattle.unroll.proofs.Joining.{joined, leaves_after}
 use Rattle.unroll.proofs.line.step_node.Goals as goal

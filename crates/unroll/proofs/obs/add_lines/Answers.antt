@@ -1,6 +1,6 @@
 use Rattle.std.proofs.Common.{◌<◌, length, arith}
 use Rattle.unroll.specs.declared.design_line.DesignLine.TheVariants.{Base}
-use Rattle.elab_node.proofs.Kept.{keeps_same, keeps_then}
+use Rattle.elab_step_expr.proofs.Kept.{keeps_same, keeps_then}
 use Rattle.unroll.proofs.Rowing.{segments_later}
 use Rattle.unroll.proofs.obs.add_lines.Goals as goal
 

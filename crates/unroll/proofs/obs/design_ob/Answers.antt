@@ -4,8 +4,8 @@ use Rattle.set_tree.specs.declared.line.Line.{Line}
 use Rattle.set_tree.specs.declared.line.Line.TheVariants as l
 use Rattle.set_tree.specs.declared.set.Set.{Set}
 use Rattle.set_tree.specs.Report.{design_lines}
-use Rattle.binding.specs.Binding.{Fits}
-use Rattle.word_names.proofs.Taken.{widths_are_kept}
+use Rattle.unroll_binding.specs.Binding.{Fits}
+use Rattle.word_dag.proofs.Taken.{widths_are_kept}
 use Rattle.twin_tests.specs.Framing.{SpeaksOf}
 use Rattle.twin_tests.proofs.Listed.{counted, first_are, line_is}
 use Rattle.unroll.specs.declared.design_line.DesignLine.{DesignLine}

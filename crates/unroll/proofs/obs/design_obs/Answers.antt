@@ -5,7 +5,7 @@ use Rattle.std.proofs.lemmas.List.{length-map, take_all}
 use Rattle.set_tree.specs.declared.line.Line.{Line}
 use Rattle.set_tree.specs.declared.set.Set.{Set}
 use Rattle.set_tree.specs.Report.{design_lines}
-use Rattle.binding.specs.Binding.{Fits}
+use Rattle.unroll_binding.specs.Binding.{Fits}
 use Rattle.twin_tests.specs.Framing.{SpeaksOf}
 use Rattle.twin_tests.proofs.Handing.{get_again}
 use Rattle.twin_tests.proofs.Listed.{each_is}

@@ -3,7 +3,7 @@ use Rattle.std.proofs.lemmas.Result.{IfOk-weaker}
 use Rattle.set_tree.specs.declared.set.Property.{Property}
 use Rattle.set_tree.specs.Formulas.{meaning_of}
 use Rattle.set_tree.specs.Parts.{IsPosition, window_of}
-use Rattle.segment_laws.specs.Tests.{line_test, segment_rows}
+use Rattle.unroll_laws.specs.Tests.{line_test, segment_rows}
 use Rattle.twin_tests.specs.Building.{Tests}
 use Rattle.twin_tests.specs.Framing.{SpeaksOf}
 use Rattle.unroll.specs.declared.design_line.DesignLine.{DesignLine}

@@ -1,8 +1,8 @@
 use Rattle.std.proofs.Common.{ap, ◌∙◌}
 use Rattle.set_tree.specs.Formulas.{meaning_of}
-use Rattle.line_laws.specs.Names.{line_name}
-use Rattle.segment_laws.proofs.Testing.{tests_are_of_lines}
-use Rattle.word_names.proofs.Taken.{obligations_have_one_word_each, widths_are_kept}
+use Rattle.twin_tests_laws.specs.Names.{line_name}
+use Rattle.unroll_laws.proofs.Testing.{tests_are_of_lines}
+use Rattle.word_dag.proofs.Taken.{obligations_have_one_word_each, widths_are_kept}
 use Rattle.unroll.specs.Named.{line_of}
 use Rattle.unroll.proofs.obs.named_ob.Goals as goal
 

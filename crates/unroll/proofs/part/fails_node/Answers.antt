@@ -4,7 +4,7 @@ use Rattle.std.proofs.lemmas.Result.{IfOk-weaker}
 use Rattle.set_tree.specs.declared.set.Rule.{Rule}
 use Rattle.set_tree.specs.Formulas.{meaning_of}
 use Rattle.set_tree.specs.Meaning.{holds}
-use Rattle.segment_laws.specs.Tests.{fails}
+use Rattle.unroll_laws.specs.Tests.{fails}
 use Rattle.twin_tests.proofs.Loops.{same_test}
 use Rattle.unroll.proofs.Invariant.{got, invariant_readable, none_got}
 use Rattle.unroll.proofs.part.fails_node.Goals as goal

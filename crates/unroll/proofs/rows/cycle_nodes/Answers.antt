@@ -1,6 +1,6 @@
 use Rattle.std.proofs.Common.{List, ℕ, subst, sym}
-use Rattle.segment_laws.specs.Tests.{held}
-use Rattle.word_design.specs.Designs.{Parts}
+use Rattle.unroll_laws.specs.Tests.{held}
+use Rattle.elab_step_design.specs.Designs.{Parts}
 use Rattle.twin_tests.proofs.Told.{ok_two}
 use Rattle.unroll.specs.Copies.{AreCopies, AreLeaves, FitCopies}
 use Rattle.unroll.proofs.rows.cycle_nodes.Goals as goal

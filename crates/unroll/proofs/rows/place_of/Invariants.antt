@@ -1,5 +1,5 @@
 use Rattle.std.specs.Prelude.{◌≡◌, drop}
-use Rattle.binding.specs.Binding.{net_at}
+use Rattle.unroll_binding.specs.Binding.{net_at}
 use Rattle.unroll.proofs.rows.place_of.Given as goal
 
 abbrev pub invariant-loop-net : goal.invariant-loop-net

@@ -1,5 +1,5 @@
 use Rattle.std.proofs.Common.{◌≡◌, ◌+◌, ℕ, suc, subst, arith}
-use Rattle.elab_node.proofs.Kept.{grows_then}
+use Rattle.elab_step_expr.proofs.Kept.{grows_then}
 use Rattle.unroll.specs.Copies.{CopiedBefore}
 use Rattle.unroll.specs.Unrolled.{IsSourceWord}
 use Rattle.unroll.proofs.Sourcing.{frees_again}

@@ -1,5 +1,5 @@
 use Rattle.word_dag.specs.Adding.{Grows}
-use Rattle.elab_node.specs.Nodes.{AddsFrees}
+use Rattle.elab_step_expr.specs.Nodes.{AddsFrees}
 use Rattle.unroll.specs.Copies.{CopiedBefore}
 use Rattle.unroll.specs.Unrolled.{IsSourceWord}
 use Rattle.unroll.proofs.rows.reset_nodes.Given as goal

@@ -1,8 +1,8 @@
 use Rattle.std.proofs.Common.{◌≡◌, ◌∙◌, Some, ap, refl, sym, subst}
 use Rattle.std.specs.Option.{IsSome}
 use Rattle.set_tree.specs.declared.set.Set.{Set}
-use Rattle.word_design.specs.Designs.{Parts}
-use Rattle.segment_laws.proofs.Fitting.{name_there}
+use Rattle.elab_step_design.specs.Designs.{Parts}
+use Rattle.unroll_laws.proofs.Fitting.{name_there}
 use Rattle.unroll.specs.Copies.{IsPlaceOf}
 use Rattle.unroll.proofs.Leaving.{item_among}
 use Rattle.unroll.proofs.Rowing.{place_found, zip_more}

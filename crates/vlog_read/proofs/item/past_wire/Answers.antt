@@ -1,5 +1,5 @@
 use Rattle.std.proofs.Common.{true, false, arith, refl, sym, ◌∙◌}
-use Rattle.vlog_spell.proofs.Tokens.{kind_within}
+use Rattle.vlog_read_spelling.proofs.Tokens.{kind_within}
 use Rattle.vlog_read_expr.proofs.SignTests.{yes_by, no_by}
 use Rattle.vlog_read.proofs.EventSteps.{wire_only, no_wire_only}
 use Rattle.vlog_read.proofs.item.past_wire.Goals as goal

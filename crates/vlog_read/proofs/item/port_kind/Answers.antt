@@ -2,7 +2,7 @@ use Rattle.std.proofs.Common.{arith, refl, subst, sym}
 use Rattle.std.specs.Prelude.{codes}
 use Rattle.vlog_tree.specs.Signs.{IsWord}
 use Rattle.vlog_tree.specs.Lists.{Flag}
-use Rattle.vlog_spell.proofs.Tokens.{kind_within}
+use Rattle.vlog_read_spelling.proofs.Tokens.{kind_within}
 use Rattle.vlog_read_expr.proofs.SignTests.{yes_by, no_by}
 use Rattle.vlog_read.proofs.EventSteps.{input_wire, output_wire, output_reg, no_direction}
 use Rattle.vlog_read.proofs.item.port_kind.Goals as goal

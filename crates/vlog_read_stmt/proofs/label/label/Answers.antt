@@ -1,6 +1,6 @@
 use Rattle.std.proofs.Common.{arith, refl}
-use Rattle.vlog_spell.proofs.Tokens.{kind_within}
-use Rattle.vlog_spell.proofs.Forms.{height_pos}
+use Rattle.vlog_read_spelling.proofs.Tokens.{kind_within}
+use Rattle.vlog_read_spelling.proofs.Forms.{height_pos}
 use Rattle.vlog_read_stmt.proofs.LabelSteps.{wild_read}
 use Rattle.vlog_read_stmt.proofs.label.label.Goals as goal
 

@@ -1,6 +1,6 @@
 use Rattle.std.proofs.Common.{refl}
 use Rattle.std.proofs.lemmas.Result.{err_from_is_err_and}
-use Rattle.vlog_spell.proofs.Tokens.{kind_within}
+use Rattle.vlog_read_spelling.proofs.Tokens.{kind_within}
 use Rattle.vlog_read_expr.proofs.SignTests.{yes_by, no_by}
 use Rattle.vlog_read_stmt.proofs.LabelSteps.{list_refuses, list_open, list_read}
 use Rattle.vlog_read_stmt.proofs.label.labels.Goals as goal

@@ -1,5 +1,5 @@
 use Rattle.std.proofs.Common.{◌≡◌, [], ◌∷◌, ◌++◌, arith, refl, ◌∙◌, ap}
-use Rattle.vlog_spell.proofs.Tokens.{kind_within}
+use Rattle.vlog_read_spelling.proofs.Tokens.{kind_within}
 use Rattle.std.proofs.lemmas.Result.{err_from_is_err_and}
 use Rattle.vlog_read_expr.proofs.SignTests.{yes_by, no_by}
 use Rattle.vlog_read_stmt.proofs.LvalSteps.{lval_span, lval_height_pos, past_end, concat_spelt, concat_refuses, concat_open, list_begins, list_ends, list_grows, list_refuses, item_refuses}

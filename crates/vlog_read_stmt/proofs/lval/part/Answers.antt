@@ -1,6 +1,6 @@
 use Rattle.std.proofs.Common.{arith, refl}
-use Rattle.vlog_spell.proofs.Tokens.{kind_within}
-use Rattle.vlog_spell.proofs.Forms.{span_within}
+use Rattle.vlog_read_spelling.proofs.Tokens.{kind_within}
+use Rattle.vlog_read_spelling.proofs.Forms.{span_within}
 use Rattle.vlog_read_expr.proofs.SignTests.{yes_by, no_by}
 use Rattle.vlog_read_stmt.proofs.LvalSteps.{part_spelt, part_refuses, part_open}
 use Rattle.vlog_read_stmt.proofs.lval.part.Goals as goal

@@ -2,7 +2,7 @@ use Rattle.std.proofs.Common.{arith, rules, refl, sym, subst}
 use Rattle.std.specs.Prelude.{codes}
 use Rattle.vlog_tree.specs.Signs.{IsWord}
 use Rattle.std.proofs.lemmas.Result.{err_from_is_err_and}
-use Rattle.vlog_spell.proofs.Tokens.{kind_within}
+use Rattle.vlog_read_spelling.proofs.Tokens.{kind_within}
 use Rattle.vlog_read_expr.proofs.SignTests.{yes_by, no_by}
 use Rattle.vlog_read_stmt.proofs.StmtSteps.{Begun_seq, past_end, stmt_height_pos, label_refuses, block_refuses, condition_refuses, part_refuses, else_refuses, seq_refuses, if_made, if_else_made, span, seq_begins, seq_ends, seq_grows, empty_read, block_read, if_read, if_else_read}
 use Rattle.vlog_read_stmt.proofs.CaseSteps.{Begun_cases, item_span, labels_refuse, body_refuses, item_read, cases_begin, cases_empty, case_refuses, second_default, few, cases_end, cases_grow, value_refuses, cases_refuse, case_read}

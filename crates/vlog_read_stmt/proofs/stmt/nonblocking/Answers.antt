@@ -1,5 +1,5 @@
 use Rattle.std.proofs.Common.{arith, refl}
-use Rattle.vlog_spell.proofs.Tokens.{kind_within}
+use Rattle.vlog_read_spelling.proofs.Tokens.{kind_within}
 use Rattle.vlog_read_stmt.proofs.StmtSteps.{nonblocking_read, right_refuses}
 use Rattle.vlog_read_stmt.proofs.stmt.nonblocking.Goals as goal
 

@@ -1,4 +1,4 @@
-use Rattle.desk_commands.specs.declared.command.Command.TheVariants as command
+use Rattle.desk_core_commands.specs.declared.command.Command.TheVariants as command
 use Rattle.std.proofs.Common.{ℕ, List, sym, ap, ap₂, ◌∙◌}
 use Rattle.desk_core.proofs.Carrying.{carried}
 use Rattle.desk_core.proofs.checker.Checker.carry_out.Goals as goal

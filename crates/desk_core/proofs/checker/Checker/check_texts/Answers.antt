@@ -1,5 +1,5 @@
 use Rattle.std.proofs.Common.{Some, List, ℕ, map, sym, subst, ap, ◌∙◌}
-use Rattle.asked_lines.specs.Settled.{AreSettled}
+use Rattle.desk_core_goals.specs.Settled.{AreSettled}
 use Rattle.proof_store.proofs.Turns.{proceeds_on}
 use Rattle.desk_core.proofs.Checked.{left_after, left_then, refuses_texts, reports}
 use Rattle.desk_core.proofs.checker.Checker.check_texts.Goals as goal

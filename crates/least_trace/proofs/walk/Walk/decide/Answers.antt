@@ -2,7 +2,7 @@ use Rattle.std.proofs.Common.{◌≡◌, ℕ, ◌+◌, ◌-◌, ◌^◌, ◌≤�
 use Rattle.std.specs.List.{All}
 use Rattle.std.proofs.lemmas.Nat.Bits.{bit_at-lt}
 use Rattle.std.proofs.lemmas.Option.{slice_get-get_or}
-use Rattle.bit_circuits.specs.Literals.{plus, minus}
+use Rattle.cnf_build.specs.Literals.{plus, minus}
 use Rattle.std.proofs.Math.Seq.{take-append_seam}
 use Rattle.clause_check.specs.declared.literal.Lit.{Lit}
 use Rattle.cdcl.specs.declared.solver.End.{End}

@@ -1,5 +1,5 @@
 use Rattle.std.proofs.Common.{ap, ◌∙◌, map, filter, length, arith}
-use Rattle.elab_drive.specs.Parts.{part_meant}
+use Rattle.elab_flat_drivers.specs.Parts.{part_meant}
 use Rattle.mem_faults.specs.Used.{is_indexed}
 use Rattle.mem_faults.proofs.Surveying.{one_passed, all_counted}
 use Rattle.mem_faults.proofs.survey.Survey.indexed.Goals as goal

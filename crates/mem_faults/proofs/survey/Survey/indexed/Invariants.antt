@@ -1,5 +1,5 @@
 use Rattle.std.proofs.Common.{◌≡◌, ◌+◌, ◌≤◌, map, drop, filter, length}
-use Rattle.elab_drive.specs.Parts.{part_meant}
+use Rattle.elab_flat_drivers.specs.Parts.{part_meant}
 use Rattle.mem_faults.specs.Used.{is_indexed}
 use Rattle.mem_faults.proofs.survey.Survey.indexed.Given as goal
 

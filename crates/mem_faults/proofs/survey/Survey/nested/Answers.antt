@@ -1,7 +1,7 @@
 use Rattle.std.proofs.Common.{◌≡◌, true, false, map, refl, sym, ap, ◌∙◌, subst}
-use Rattle.vlog_runs.specs.Places.{Among}
-use Rattle.elab_drive.specs.Parts.{part_meant}
-use Rattle.elab_drive.proofs.Naming.{meant_at}
+use Rattle.vlog_tree_runs.specs.Places.{Among}
+use Rattle.elab_flat_drivers.specs.Parts.{part_meant}
+use Rattle.elab_flat_drivers.proofs.Naming.{meant_at}
 use Rattle.mem_faults.specs.Used.{is_nested}
 use Rattle.mem_faults.proofs.Surveying.{part_later, part_nowhere}
 use Rattle.mem_faults.proofs.survey.Survey.nested.Goals as goal

@@ -1,7 +1,7 @@
 use Rattle.std.proofs.Common.{◌≡◌, true, map, drop}
 use Rattle.vlog_tree.specs.declared.stmt.Lval.{Lval}
-use Rattle.vlog_runs.specs.Places.{Among}
-use Rattle.elab_drive.specs.Parts.{part_meant}
+use Rattle.vlog_tree_runs.specs.Places.{Among}
+use Rattle.elab_flat_drivers.specs.Parts.{part_meant}
 use Rattle.mem_faults.specs.Used.{is_nested}
 use Rattle.mem_faults.proofs.survey.Survey.nested.Given as goal
 

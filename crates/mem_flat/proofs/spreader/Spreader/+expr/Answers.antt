@@ -2,7 +2,7 @@ use Rattle.std.proofs.Common.{◌≡◌, Ok, refl, rules}
 use Rattle.std.proofs.lemmas.Result.{IfOk-weaker, IfOk-at_ok}
 use Rattle.vlog_tree.specs.declared.expr.Expr.{the_lemmas}
 use Rattle.mem_flat.proofs.Exprs.{concat_spread, repeat_spread, select_spread, part_spread, constant_select_spread, constant_part_spread, cast_spread, paren_spread, unary_spread, binary_spread, choice_spread, select_asked, part_asked, constant_select_asked, constant_part_asked, cast_asked, paren_asked, concat_asked, repeat_asked, unary_asked, binary_asked, choice_asked, each_asked}
-use Rattle.flat_move.proofs.Pairs.{made}
+use Rattle.elab_flat_move.proofs.Pairs.{made}
 use Rattle.mem_flat.proofs.spreader.Spreader.+expr.Goals as goal
 
 pub expr-returns-in_ok-spread-in-Select : goal.expr-returns-in_ok-spread-in-Select

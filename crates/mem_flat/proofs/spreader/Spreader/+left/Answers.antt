@@ -2,7 +2,7 @@ use Rattle.std.proofs.Common.{◌≡◌, Ok, refl, rules}
 use Rattle.std.proofs.lemmas.Result.{IfOk-at_ok}
 use Rattle.vlog_tree.specs.declared.stmt.Lval.{the_lemmas}
 use Rattle.mem_flat.proofs.Lefts.{name_spread, select_spread, part_spread, concat_spread, select_asked, part_asked, concat_asked, each_asked}
-use Rattle.flat_move.proofs.Pairs.{made}
+use Rattle.elab_flat_move.proofs.Pairs.{made}
 use Rattle.mem_flat.proofs.spreader.Spreader.+left.Goals as goal
 
 pub left-returns-in_ok-copy-in-Name : goal.left-returns-in_ok-copy-in-Name

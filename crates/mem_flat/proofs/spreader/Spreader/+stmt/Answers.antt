@@ -3,7 +3,7 @@ use Rattle.std.proofs.lemmas.Result.{IfOk-weaker, IfOk-at_ok}
 use Rattle.vlog_tree.specs.declared.stmt.Stmt.{the_lemmas}
 use Rattle.vlog_tree.specs.declared.stmt.Stmt.TheVariants as s
 use Rattle.mem_flat.proofs.Stmts.{block_spread, case_spread, if_spread, if_else_spread, blocking_spread, nonblocking_spread, block_asked, if_asked, if_else_asked, case_asked, each_asked, each_case_asked}
-use Rattle.flat_move.proofs.Pairs.{made}
+use Rattle.elab_flat_move.proofs.Pairs.{made}
 use Rattle.mem_flat.proofs.spreader.Spreader.+stmt.Goals as goal
 
 pub stmt-returns-in-Block : goal.stmt-returns-in-Block

@@ -1,5 +1,5 @@
 use Rattle.vlog_tree.specs.declared.stmt.Stmt.TheVariants as s
-use Rattle.flat_move.proofs.Pairs.{made}
+use Rattle.elab_flat_move.proofs.Pairs.{made}
 use Rattle.mem_flat.proofs.spreader.Spreader.blocking.Goals as goal
 
 pub returns : goal.returns

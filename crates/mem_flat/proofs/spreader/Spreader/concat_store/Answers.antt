@@ -1,6 +1,6 @@
 use Rattle.std.proofs.Common.{◌≡◌, map, sym, ap, ◌∙◌, subst}
 use Rattle.std.proofs.lemmas.Result.{IfOk-at_ok}
-use Rattle.elab_faults.specs.Drivers.{parts_of}
+use Rattle.elab_flat_faults.specs.Drivers.{parts_of}
 use Rattle.mem_faults.specs.Asked.{EachEvaluableLeft}
 use Rattle.mem_flat.specs.Borrowed.{left_meant}
 use Rattle.mem_flat.proofs.Parting.{parts_asked}

@@ -1,5 +1,5 @@
 use Rattle.std.proofs.lemmas.Result.{IfOk-weaker}
-use Rattle.vlog_runs.specs.Places.{read}
+use Rattle.vlog_tree_runs.specs.Places.{read}
 use Rattle.mem_laws.specs.Spread.{spread}
 use Rattle.mem_flat.proofs.Stores.{index_same}
 use Rattle.mem_flat.proofs.spreader.Spreader.indexed_store.Goals as goal

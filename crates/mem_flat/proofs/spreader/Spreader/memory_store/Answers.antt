@@ -1,6 +1,6 @@
 use Rattle.std.proofs.Common.{map, ap, ◌∙◌}
 use Rattle.vlog_tree.specs.Valuation.{depth_of}
-use Rattle.vlog_runs.specs.Places.{read}
+use Rattle.vlog_tree_runs.specs.Places.{read}
 use Rattle.mem_laws.specs.Spread.{word_store}
 use Rattle.mem_flat.proofs.Stores.{memory_store_made}
 use Rattle.mem_flat.proofs.spreader.Spreader.memory_store.Goals as goal

@@ -1,6 +1,6 @@
 use Rattle.std.proofs.Common.{◌∙◌}
-use Rattle.flat_move.proofs.Pairs.{made}
-use Rattle.vlog_runs.specs.Places.{read}
+use Rattle.elab_flat_move.proofs.Pairs.{made}
+use Rattle.vlog_tree_runs.specs.Places.{read}
 use Rattle.mem_flat.proofs.Stores.{word_store_made}
 use Rattle.mem_flat.proofs.spreader.Spreader.word_store.Goals as goal
 

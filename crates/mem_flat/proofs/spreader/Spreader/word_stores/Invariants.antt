@@ -1,5 +1,5 @@
 use Rattle.std.proofs.Common.{◌≡◌, ◌++◌, drop, map}
-use Rattle.vlog_runs.specs.Places.{read}
+use Rattle.vlog_tree_runs.specs.Places.{read}
 use Rattle.mem_laws.specs.Spread.{word_store}
 use Rattle.mem_flat.proofs.spreader.Spreader.word_stores.Given as goal
 

@@ -1,6 +1,6 @@
 use Rattle.std.proofs.Common.{◌<◌, length, arith}
 use Rattle.twin_tests.specs.declared.set_line.SetLine.TheVariants.{End}
-use Rattle.elab_node.proofs.Kept.{keeps_same, keeps_then}
+use Rattle.elab_step_expr.proofs.Kept.{keeps_same, keeps_then}
 use Rattle.twin_tests.proofs.Framed.{frames_later}
 use Rattle.twin_tests.proofs.twins.Twins.add_lines.Goals as goal
 

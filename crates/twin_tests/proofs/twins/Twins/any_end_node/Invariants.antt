@@ -1,6 +1,6 @@
 use Rattle.std.proofs.Common.{◌-◌}
-use Rattle.line_laws.specs.Laws.{property_of}
-use Rattle.line_laws.specs.Tests.{any_from}
+use Rattle.twin_tests_laws.specs.Laws.{property_of}
+use Rattle.twin_tests_laws.specs.Tests.{any_from}
 use Rattle.set_tree.specs.Parts.{property_at}
 use Rattle.twin_tests.specs.Framing.{end_test}
 use Rattle.twin_tests.specs.Ordering.{line_of}

@@ -1,11 +1,11 @@
 use Rattle.std.proofs.Common.{◌≡◌, ◌+◌, ◌-◌, ◌<◌, ◌≤◌, drop, not, sym, subst, arith}
-use Rattle.line_laws.specs.Tests.{any_from, determined}
+use Rattle.twin_tests_laws.specs.Tests.{any_from, determined}
 use Rattle.set_tree.specs.Formulas.{meaning_of}
 use Rattle.twin_tests.specs.Building.{AreLeaves, Shows}
 use Rattle.twin_tests.proofs.Ends.{any_next, any_none, any_same}
 use Rattle.twin_tests.proofs.Handing.{some_left}
 use Rattle.twin_tests.proofs.Loops.{Pair, ShowBoth, or_step, builds_start, builds_end}
-use Rattle.elab_node.proofs.Kept.{keeps_then}
+use Rattle.elab_step_expr.proofs.Kept.{keeps_then}
 use Rattle.twin_tests.proofs.Standing.{has_later, leaves_drop, leaves_later, shows_drop, shows_later}
 use Rattle.twin_tests.proofs.twins.Twins.apart_node.Goals as goal
 

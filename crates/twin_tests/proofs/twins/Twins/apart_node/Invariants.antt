@@ -1,5 +1,5 @@
 use Rattle.std.proofs.Common.{◌-◌, drop, not}
-use Rattle.line_laws.specs.Tests.{any_from, determined}
+use Rattle.twin_tests_laws.specs.Tests.{any_from, determined}
 use Rattle.set_tree.specs.Formulas.{meaning_of}
 use Rattle.twin_tests.proofs.Loops.{Builds, ShowBoth}
 use Rattle.twin_tests.proofs.twins.Twins.apart_node.Given as goal

@@ -1,16 +1,16 @@
 use Rattle.std.proofs.Common.{◌≡◌, Bool, not, drop}
 use Rattle.std.specs.Prelude.{◌&&◌}
 use Rattle.std.proofs.lemmas.Result.{IfOk-weaker}
-use Rattle.line_laws.specs.Lines.{edge_end}
-use Rattle.line_laws.specs.Tests.{pairs_to}
-use Rattle.line_laws.specs.Windows.{named_rows}
+use Rattle.twin_tests_laws.specs.Lines.{edge_end}
+use Rattle.twin_tests_laws.specs.Tests.{pairs_to}
+use Rattle.twin_tests_laws.specs.Windows.{named_rows}
 use Rattle.set_tree.specs.Formulas.{meaning_of}
 use Rattle.set_tree.specs.Parts.{assumed}
 use Rattle.word_dag.specs.Nodes.{Naming}
 use Rattle.twin_tests.specs.declared.shared.Predicate.TheVariants.{Pairs, AssumedFirst, AssumedSecond}
 use Rattle.twin_tests.proofs.Framed.{frames_later}
 use Rattle.twin_tests.proofs.Sharing.{hold_edge, made_later, room_for, test_of}
-use Rattle.elab_node.proofs.Kept.{keeps_then}
+use Rattle.elab_step_expr.proofs.Kept.{keeps_then}
 use Rattle.twin_tests.proofs.Standing.{has_later, tests_later}
 use Rattle.twin_tests.proofs.twins.Twins.choose_node.Goals as goal
 

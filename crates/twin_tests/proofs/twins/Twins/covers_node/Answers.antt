@@ -1,6 +1,6 @@
 use Rattle.std.proofs.Common.{◌≡◌, ◌+◌, ◌-◌, ◌<◌, ◌≤◌, List, length, take, drop, get_or, not, refl, ap, ◌∙◌, arith}
 use Rattle.std.specs.List.{Contains, list_any}
-use Rattle.line_laws.specs.Tests.{any_from, determined}
+use Rattle.twin_tests_laws.specs.Tests.{any_from, determined}
 use Rattle.set_tree.specs.declared.set.Cover.{Cover}
 use Rattle.set_tree.specs.declared.set.Property.{Property}
 use Rattle.set_tree.specs.declared.set.To.TheVariants.{At}

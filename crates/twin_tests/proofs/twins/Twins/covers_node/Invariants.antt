@@ -1,6 +1,6 @@
 use Rattle.std.proofs.Common.{◌-◌, drop, not, take}
 use Rattle.std.specs.List.{list_any}
-use Rattle.line_laws.specs.Tests.{any_from, determined}
+use Rattle.twin_tests_laws.specs.Tests.{any_from, determined}
 use Rattle.set_tree.specs.declared.set.Cover.{Cover}
 use Rattle.set_tree.specs.Formulas.{meaning_of}
 use Rattle.set_tree.specs.Parts.{cover_end}

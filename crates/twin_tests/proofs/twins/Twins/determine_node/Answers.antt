@@ -1,8 +1,8 @@
 use Rattle.std.proofs.Common.{◌≡◌, ◌-◌, ◌<◌, ◌≤◌, Bool, not, drop, length, ap, arith}
 use Rattle.std.specs.List.{list_any}
 use Rattle.std.proofs.lemmas.Result.{IfOk-weaker}
-use Rattle.line_laws.specs.Tests.{any_from, pairs_to, determined}
-use Rattle.line_laws.specs.Windows.{named_rows}
+use Rattle.twin_tests_laws.specs.Tests.{any_from, pairs_to, determined}
+use Rattle.twin_tests_laws.specs.Windows.{named_rows}
 use Rattle.set_tree.specs.declared.set.Cover.{Cover}
 use Rattle.set_tree.specs.declared.set.Property.{Property}
 use Rattle.set_tree.specs.Formulas.{meaning_of}
@@ -11,7 +11,7 @@ use Rattle.word_dag.specs.Nodes.{Naming}
 use Rattle.twin_tests.specs.declared.shared.Predicate.TheVariants.{Pairs}
 use Rattle.twin_tests.proofs.Framed.{first_shows, frames_later, second_shows}
 use Rattle.twin_tests.proofs.Sharing.{made_later, room_for, test_of}
-use Rattle.elab_node.proofs.Kept.{keeps_then}
+use Rattle.elab_step_expr.proofs.Kept.{keeps_then}
 use Rattle.twin_tests.proofs.Standing.{tests_later}
 use Rattle.twin_tests.proofs.twins.Twins.determine_node.Goals as goal
 

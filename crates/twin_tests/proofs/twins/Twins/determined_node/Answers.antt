@@ -1,11 +1,11 @@
 use Rattle.std.proofs.Common.{not}
 use Rattle.std.specs.Prelude.{◌||◌, ◌==◌}
 use Rattle.std.proofs.lemmas.Result.{IfOk-weaker}
-use Rattle.line_laws.specs.Tests.{same}
+use Rattle.twin_tests_laws.specs.Tests.{same}
 use Rattle.set_tree.specs.Formulas.{meaning_of}
 use Rattle.set_tree.specs.Parts.{in_domain, value_of}
 use Rattle.twin_tests.proofs.Handing.{rows_long, value_counts, value_wide}
-use Rattle.elab_node.proofs.Kept.{keeps_then}
+use Rattle.elab_step_expr.proofs.Kept.{keeps_then}
 use Rattle.twin_tests.proofs.Standing.{leaves_later, shows_later, tests_later}
 use Rattle.twin_tests.proofs.twins.Twins.determined_node.Goals as goal
 

@@ -1,6 +1,6 @@
 use Rattle.std.proofs.Common.{◌≡◌, ◌+◌, ◌-◌, ◌<◌, ◌≤◌, length, drop, sym, subst, arith}
 use Rattle.std.proofs.lemmas.List.{length-drop}
-use Rattle.line_laws.specs.Tests.{any_from}
+use Rattle.twin_tests_laws.specs.Tests.{any_from}
 use Rattle.set_tree.specs.Formulas.{meaning_of}
 use Rattle.set_tree.specs.Meaning.{holds}
 use Rattle.twin_tests.specs.Building.{AreLeaves, Shows}

@@ -1,13 +1,13 @@
 use Rattle.std.proofs.Common.{Bool, subst}
 use Rattle.std.proofs.lemmas.Result.{IfOk-weaker}
-use Rattle.line_laws.specs.Tests.{ends_at, same}
-use Rattle.line_laws.specs.Windows.{named_rows}
+use Rattle.twin_tests_laws.specs.Tests.{ends_at, same}
+use Rattle.twin_tests_laws.specs.Windows.{named_rows}
 use Rattle.set_tree.specs.Formulas.{meaning_of}
 use Rattle.set_tree.specs.Parts.{window_of}
 use Rattle.word_dag.specs.Nodes.{Naming}
 use Rattle.twin_tests.specs.Building.{Tests}
 use Rattle.twin_tests.proofs.Framed.{frame_later}
-use Rattle.elab_node.proofs.Kept.{keeps_then}
+use Rattle.elab_step_expr.proofs.Kept.{keeps_then}
 use Rattle.twin_tests.proofs.Standing.{tests_later}
 use Rattle.twin_tests.proofs.twins.Twins.end_apart_node.Goals as goal
 

@@ -1,6 +1,6 @@
 use Rattle.std.proofs.Common.{◌≡◌, ◌<◌, length, ap, arith}
 use Rattle.std.proofs.lemmas.Result.{IfOk-weaker}
-use Rattle.line_laws.specs.Windows.{named_rows}
+use Rattle.twin_tests_laws.specs.Windows.{named_rows}
 use Rattle.set_tree.specs.declared.set.Property.{Property}
 use Rattle.set_tree.specs.Parts.{window_of}
 use Rattle.twin_tests.proofs.Framed.{rows_show}

@@ -2,7 +2,7 @@ use Rattle.std.proofs.Common.{◌≡◌, ◌-◌, ◌≤◌, not, Some, length, 
 use Rattle.std.proofs.lemmas.List.{length-drop}
 use Rattle.std.specs.Prelude.{◌&&◌}
 use Rattle.std.proofs.lemmas.Result.{IfOk-weaker}
-use Rattle.line_laws.specs.Tests.{any_from, ends_at}
+use Rattle.twin_tests_laws.specs.Tests.{any_from, ends_at}
 use Rattle.set_tree.specs.declared.set.Property.{Property}
 use Rattle.set_tree.specs.Formulas.{meaning_of}
 use Rattle.set_tree.specs.Meaning.{holds}
@@ -11,7 +11,7 @@ use Rattle.twin_tests.specs.Building.{AreLeaves, Shows}
 use Rattle.twin_tests.proofs.Ends.{until_end_at}
 use Rattle.twin_tests.proofs.Loops.{same_test}
 use Rattle.twin_tests.proofs.Readings.{reads_window, readable_more}
-use Rattle.elab_node.proofs.Kept.{keeps_then}
+use Rattle.elab_step_expr.proofs.Kept.{keeps_then}
 use Rattle.twin_tests.proofs.Standing.{leaves_drop, leaves_later, shows_drop, shows_later, tests_later}
 use Rattle.twin_tests.proofs.twins.Twins.ends_node.Goals as goal
 

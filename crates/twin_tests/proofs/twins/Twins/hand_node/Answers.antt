@@ -1,15 +1,15 @@
 use Rattle.std.proofs.Common.{◌≡◌, Bool, not, drop}
 use Rattle.std.specs.Prelude.{◌&&◌}
 use Rattle.std.proofs.lemmas.Result.{IfOk-weaker}
-use Rattle.line_laws.specs.Lines.{edge_end}
-use Rattle.line_laws.specs.Tests.{pairs_to, same_hands, starts}
-use Rattle.line_laws.specs.Windows.{named_rows}
+use Rattle.twin_tests_laws.specs.Lines.{edge_end}
+use Rattle.twin_tests_laws.specs.Tests.{pairs_to, same_hands, starts}
+use Rattle.twin_tests_laws.specs.Windows.{named_rows}
 use Rattle.set_tree.specs.Formulas.{meaning_of}
 use Rattle.word_dag.specs.Nodes.{Naming}
 use Rattle.twin_tests.specs.declared.shared.Predicate.TheVariants.{Pairs, StartsFirst, StartsSecond, Hands}
 use Rattle.twin_tests.proofs.Framed.{frames_later}
 use Rattle.twin_tests.proofs.Sharing.{hold_edge, made_later, room_for, test_of}
-use Rattle.elab_node.proofs.Kept.{keeps_then}
+use Rattle.elab_step_expr.proofs.Kept.{keeps_then}
 use Rattle.twin_tests.proofs.Standing.{has_later, tests_later}
 use Rattle.twin_tests.proofs.twins.Twins.hand_node.Goals as goal
 

@@ -1,7 +1,7 @@
 use Rattle.std.proofs.Common.{◌≡◌, Bool, not, ap, sym, subst}
 use Rattle.std.proofs.lemmas.Result.{IfOk-weaker}
-use Rattle.line_laws.specs.Tests.{any_end, line_test, opens, pairs}
-use Rattle.line_laws.specs.Windows.{named_rows}
+use Rattle.twin_tests_laws.specs.Tests.{any_end, line_test, opens, pairs}
+use Rattle.twin_tests_laws.specs.Windows.{named_rows}
 use Rattle.twin_tests.specs.declared.set_line.SetLine.{SetLine}
 use Rattle.twin_tests.specs.declared.set_line.SetLine.TheVariants.{End, SameEnd}
 use Rattle.set_tree.specs.declared.set.Property.{Property}
@@ -13,7 +13,7 @@ use Rattle.twin_tests.specs.Framing.{end_test}
 use Rattle.twin_tests.specs.Ordering.{line_of}
 use Rattle.twin_tests.proofs.Framed.{frame_later, frames_later}
 use Rattle.twin_tests.proofs.Sharing.{made_later}
-use Rattle.elab_node.proofs.Kept.{keeps_then}
+use Rattle.elab_step_expr.proofs.Kept.{keeps_then}
 use Rattle.twin_tests.proofs.Standing.{tests_later}
 use Rattle.twin_tests.proofs.twins.Twins.line_node.Goals as goal
 

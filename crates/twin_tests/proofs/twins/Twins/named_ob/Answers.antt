@@ -1,7 +1,7 @@
 use Rattle.std.proofs.Common.{ap, ◌∙◌}
 use Rattle.set_tree.specs.Formulas.{meaning_of}
-use Rattle.line_laws.specs.Names.{line_name}
-use Rattle.word_names.proofs.Taken.{widths_are_kept}
+use Rattle.twin_tests_laws.specs.Names.{line_name}
+use Rattle.word_dag.proofs.Taken.{widths_are_kept}
 use Rattle.twin_tests.specs.Ordering.{line_of}
 use Rattle.twin_tests.proofs.Spoken.{line_length}
 use Rattle.twin_tests.proofs.twins.Twins.named_ob.Goals as goal

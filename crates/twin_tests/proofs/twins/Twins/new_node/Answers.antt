@@ -1,6 +1,6 @@
 use Rattle.std.proofs.Common.{drop}
 use Rattle.std.proofs.lemmas.Result.{IfOk-weaker}
-use Rattle.line_laws.specs.Windows.{named_rows}
+use Rattle.twin_tests_laws.specs.Windows.{named_rows}
 use Rattle.twin_tests.specs.declared.shared.Predicate.TheVariants.{AssumedFirst, AssumedSecond, StartsFirst, StartsSecond, Hands}
 use Rattle.twin_tests.proofs.Sharing.{first_from, second_from, predicate_is}
 use Rattle.twin_tests.proofs.twins.Twins.new_node.Goals as goal

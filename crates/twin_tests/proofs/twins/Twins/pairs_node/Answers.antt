@@ -1,12 +1,12 @@
 use Rattle.std.proofs.Common.{refl, subst}
 use Rattle.std.specs.Prelude.{◌&&◌}
 use Rattle.std.proofs.lemmas.Result.{IfOk-weaker}
-use Rattle.line_laws.specs.Tests.{opens, same_hands}
-use Rattle.line_laws.specs.Windows.{named_rows}
+use Rattle.twin_tests_laws.specs.Tests.{opens, same_hands}
+use Rattle.twin_tests_laws.specs.Windows.{named_rows}
 use Rattle.set_tree.specs.Formulas.{meaning_of}
 use Rattle.twin_tests.specs.Building.{Tests}
 use Rattle.twin_tests.proofs.Framed.{first_shows, follows_to, frame_later, frames_later, second_shows}
-use Rattle.elab_node.proofs.Kept.{keeps_then}
+use Rattle.elab_step_expr.proofs.Kept.{keeps_then}
 use Rattle.twin_tests.proofs.Standing.{has_later, tests_later}
 use Rattle.twin_tests.proofs.twins.Twins.pairs_node.Goals as goal
 

@@ -8,7 +8,7 @@ use Rattle.set_tree.specs.Parts.{property_at}
 use Rattle.twin_tests.specs.Building.{IsReadable}
 use Rattle.twin_tests.proofs.Loops.{Pair, ShowBoth, and_step, builds_start, builds_end, all_more, all_taken, member_is}
 use Rattle.twin_tests.proofs.Readings.{hands_read}
-use Rattle.elab_node.proofs.Kept.{keeps_then}
+use Rattle.elab_step_expr.proofs.Kept.{keeps_then}
 use Rattle.twin_tests.proofs.Standing.{counts_later, has_later, leaves_later, shows_later, wide_later}
 use Rattle.twin_tests.proofs.twins.Twins.same_hands_node.Goals as goal
 

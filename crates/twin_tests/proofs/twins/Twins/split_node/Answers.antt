@@ -2,9 +2,9 @@ use Rattle.std.proofs.Common.{◌≡◌, ◌<◌, ◌≤◌, Bool, not, List, �
 use Rattle.std.specs.Prelude.{◌&&◌}
 use Rattle.std.specs.List.{All, list_any}
 use Rattle.std.proofs.lemmas.Result.{IfOk-weaker}
-use Rattle.line_laws.specs.Lines.{split_end}
-use Rattle.line_laws.specs.Tests.{ends_at, opens}
-use Rattle.line_laws.specs.Windows.{named_rows}
+use Rattle.twin_tests_laws.specs.Lines.{split_end}
+use Rattle.twin_tests_laws.specs.Tests.{ends_at, opens}
+use Rattle.twin_tests_laws.specs.Windows.{named_rows}
 use Rattle.set_tree.specs.declared.set.Property.{Property}
 use Rattle.set_tree.specs.Formulas.{meaning_of}
 use Rattle.set_tree.specs.Lines.{last_row}
@@ -14,7 +14,7 @@ use Rattle.twin_tests.specs.Building.{Tests}
 use Rattle.twin_tests.specs.Reading.{FollowsWithin}
 use Rattle.twin_tests.proofs.Framed.{after_shows, end_of_property, first_shows, follows_to, frames_later, next_positions, split_reach, taken_long}
 use Rattle.twin_tests.proofs.Readings.{split_follow, split_window}
-use Rattle.elab_node.proofs.Kept.{keeps_then}
+use Rattle.elab_step_expr.proofs.Kept.{keeps_then}
 use Rattle.twin_tests.proofs.Standing.{has_later, tests_later}
 use Rattle.twin_tests.proofs.twins.Twins.split_node.Goals as goal
 

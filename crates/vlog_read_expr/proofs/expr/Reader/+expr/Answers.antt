@@ -1,9 +1,9 @@
 use Rattle.std.proofs.Common.{◌≡◌, ◌+◌, Some, [], ◌∷◌, ◌++◌, subst, arith, rules, refl, sym, ◌∙◌, ap}
 use Rattle.std.proofs.lemmas.Result.{err_from_is_err_and}
-use Rattle.vlog_spell.proofs.Forms.{within, sign_within, span_within, height_pos, length_of}
+use Rattle.vlog_read_spelling.proofs.Forms.{within, sign_within, span_within, height_pos, length_of}
 use Rattle.vlog_tree.specs.Signs.{unary_of, on_sign, cast_of, on_word}
-use Rattle.vlog_spell.proofs.Tokens.{binary_low, first_of, first_other, kind_within}
-use Rattle.vlog_spell.proofs.Made.{part_made, cast_made, paren_made, unary_made, binary_made}
+use Rattle.vlog_read_spelling.proofs.Tokens.{binary_low, first_of, first_other, kind_within}
+use Rattle.vlog_read_spelling.proofs.Made.{part_made, cast_made, paren_made, unary_made, binary_made}
 use Rattle.vlog_read_expr.proofs.SignTests.{yes_by, no_by}
 use Rattle.vlog_read_expr.proofs.Steps.{refuses_operand, low_depth, binary_refuses, binary_grown, binary_deep, choice_refuses_yes, choice_no_colon, choice_refuses_no}
 use Rattle.vlog_read_expr.proofs.Operands.{enclosed_open, enclosed_followed, nothing_begins, paren_refuses, paren_read, unary_refuses, unary_read, name_refuses, name_read, bracket_refuses, part_refuses, part_read, cast_open, cast_refuses, cast_read}

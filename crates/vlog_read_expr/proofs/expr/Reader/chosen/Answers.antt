@@ -1,5 +1,5 @@
 use Rattle.std.proofs.Common.{refl, arith}
-use Rattle.vlog_spell.proofs.Made.{choice_made}
+use Rattle.vlog_read_spelling.proofs.Made.{choice_made}
 use Rattle.vlog_read_expr.proofs.Steps.{choice_grown, choice_deep}
 use Rattle.vlog_read_expr.proofs.expr.Reader.chosen.Goals as goal
 

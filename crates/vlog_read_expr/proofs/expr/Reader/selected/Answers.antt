@@ -1,6 +1,6 @@
 use Rattle.std.proofs.Common.{refl}
-use Rattle.vlog_spell.proofs.Tokens.{kind_within}
-use Rattle.vlog_spell.proofs.Made.{select_made}
+use Rattle.vlog_read_spelling.proofs.Tokens.{kind_within}
+use Rattle.vlog_read_spelling.proofs.Made.{select_made}
 use Rattle.vlog_read_expr.proofs.SignTests.{yes_by, no_by}
 use Rattle.vlog_read_expr.proofs.Operands.{select_open, select_followed, select_read}
 use Rattle.vlog_read_expr.proofs.expr.Reader.selected.Goals as goal

@@ -1,4 +1,4 @@
-use Rattle.vlog_spell.proofs.Tokens.{kind_within}
+use Rattle.vlog_read_spelling.proofs.Tokens.{kind_within}
 use Rattle.vlog_read_expr.proofs.SignTests.{no_by}
 use Rattle.vlog_read_expr.proofs.Operands.{number_followed, number_wild}
 use Rattle.vlog_read_expr.proofs.expr.Reader.whole_number.Goals as goal

@@ -1,5 +1,0 @@
-use Rattle.asked_lines.proofs.Telling.{tell_more}
-use Rattle.asked_lines.proofs.decide.lines_of.Goals as goal
-
-pub loop-one-preserved : goal.loop-one-preserved
-loop-one-preserved c = tell_more c.args.bound.now c.args.decided.items _ _ c.loop-one.lines.items _ c.in-Some.one c.in_ok-line.line c.loop-one.invariant c.in-Some.ensures.steps.0 c.in_ok-line.ensures c.in_ok-push.ensures.items

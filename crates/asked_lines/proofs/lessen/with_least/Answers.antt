@@ -1,6 +1,0 @@
-use Rattle.std.proofs.Common.{refl}
-use Rattle.asked_lines.proofs.Lessening.{kept_replaced}
-use Rattle.asked_lines.proofs.lessen.with_least.Goals as goal
-
-pub returns-then-not-asks_least-clause-replaced : goal.returns-then-not-asks_least-clause-replaced
-returns-then-not-asks_least-clause-replaced c = kept_replaced c.args.budget c.args.decided.items c.args.decided.items c.requires.shown refl

@@ -1,6 +1,0 @@
-pub mod Traces
-pub mod Decided
-pub mod Asked
-pub mod Settled
-pub mod Laws
-pub mod Least

@@ -1,7 +1,0 @@
-use Rattle.std.specs.Prelude.{◌≡◌, drop}
-use Rattle.std.specs.List.{find}
-use Rattle.binding.specs.Binding.{is_missing}
-use Rattle.binding.proofs.find.missing.Given as goal
-
-abbrev pub invariant-loop-name : goal.invariant-loop-name
-invariant-loop-name l = find (is_missing l.design) (drop l.name-index l.names) ≡ find (is_missing l.design) l.names

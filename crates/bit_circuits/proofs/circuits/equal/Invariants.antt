@@ -1,7 +1,0 @@
-use Rattle.std.proofs.Common.{length}
-use Rattle.bit_circuits.specs.Circuits.{equal_from, true_lit}
-use Rattle.bit_circuits.proofs.Loops.{EqualLoop}
-use Rattle.bit_circuits.proofs.circuits.equal.Given as goal
-
-abbrev pub invariant-loop-i : goal.invariant-loop-i
-invariant-loop-i l = EqualLoop l.fn.gates.items l.gates.items l.same (equal_from (length l.fn.gates.items) true_lit l.a l.b) l.a l.b l.i

@@ -1,5 +1,0 @@
-use Rattle.std.proofs.Common.{length}
-use Rattle.bit_circuits.proofs.tidy.+is_tidy.Given as goal
-
-abbrev pub decreases-is_tidy : goal.decreases-is_tidy
-decreases-is_tidy l = length l.lits.now

@@ -1,5 +1,0 @@
-use Rattle.bit_circuits.proofs.Tidying.{HasLoop}
-use Rattle.bit_circuits.proofs.tidy.has.Given as goal
-
-abbrev pub invariant-loop-l : goal.invariant-loop-l
-invariant-loop-l l = HasLoop l.lits l.lit l.l-index

@@ -1,9 +1,0 @@
-//! Two steps of derivations: one that tells propagation something new, and one that doesn't.
-#![tactic(auto)]
-
-ghost use Rattle.chain_examples.specs.Examples.{ExampleSteps};
-
-/// Both examples, with nothing to run.
-pub fn examples_stand()
-    ensures { ExampleSteps }
-{}

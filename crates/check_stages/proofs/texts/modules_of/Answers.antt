@@ -1,5 +1,0 @@
-use Rattle.text_names.proofs.Reading.{texts_plain}
-use Rattle.check_stages.proofs.texts.modules_of.Goals as goal
-
-pub returns-in-Ok-clause-plain : goal.returns-in-Ok-clause-plain
-returns-in-Ok-clause-plain c = texts_plain c.args.text.now c.in-Ok.modules.items c.in-Ok.ensures.ok

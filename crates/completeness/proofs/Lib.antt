@@ -1,9 +1,0 @@
-pub mod Windows
-pub mod Chain
-pub mod Complete
-pub mod Sound
-pub mod Walks
-pub mod ReportLines
-pub mod OnePath
-pub mod Forever
-pub mod SignedOff

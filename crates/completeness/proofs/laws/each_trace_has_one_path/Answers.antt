@@ -1,5 +1,0 @@
-use Rattle.completeness.proofs.laws.each_trace_has_one_path.Goals as goal
-use Rattle.completeness.proofs.OnePath.{one_path}
-
-pub returns : goal.returns
-returns c m set trace sound = one_path m set sound trace

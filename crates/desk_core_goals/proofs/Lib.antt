@@ -1,0 +1,10 @@
+pub mod Carrying
+pub mod Deciding
+pub mod Finding
+pub mod Lessening
+pub mod Promising
+pub mod Showing
+pub mod LinesTold
+pub mod Settling
+pub mod Obliged
+pub mod Reading

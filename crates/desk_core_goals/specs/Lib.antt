@@ -1,0 +1,9 @@
+pub mod Traces
+pub mod Decided
+pub mod Asked
+pub mod Settled
+pub mod Laws
+pub mod Least
+pub mod Obligations
+pub mod Kinds
+pub mod Keeping

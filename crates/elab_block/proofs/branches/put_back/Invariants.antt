@@ -1,6 +1,0 @@
-use Rattle.std.proofs.Common.{◌≡◌, take}
-use Rattle.elab_block.specs.Saving.{put_back}
-use Rattle.elab_block.proofs.branches.put_back.Given as goal
-
-abbrev pub invariant-loop-one : goal.invariant-loop-one
-invariant-loop-one l = l.leaves ≡ put_back l.fn.leaves (take l.one-index l.nodes)

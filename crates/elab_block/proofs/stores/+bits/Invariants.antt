@@ -1,5 +1,0 @@
-use Rattle.std.proofs.Common.{length}
-use Rattle.elab_block.proofs.stores.+bits.Given as goal
-
-abbrev pub decreases-bits : goal.decreases-bits
-decreases-bits l = length l.targets.now

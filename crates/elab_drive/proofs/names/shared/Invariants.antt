@@ -1,7 +1,0 @@
-use Rattle.std.proofs.Common.{drop, map}
-use Rattle.vlog_runs.specs.Places.{Name, Among}
-use Rattle.flat_scopes.specs.Borrowed.{name_meant}
-use Rattle.elab_drive.proofs.names.shared.Given as goal
-
-abbrev pub invariant-loop-name : goal.invariant-loop-name
-invariant-loop-name l = (x : Name) → Among (map name_meant l.names) x → Among l.others x → Among (map name_meant (drop l.name-index l.names)) x

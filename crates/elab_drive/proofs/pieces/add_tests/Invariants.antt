@@ -1,6 +1,0 @@
-use Rattle.std.proofs.Common.{◌≡◌, ◌++◌, drop, map}
-use Rattle.elab_drive.specs.Pieces.{Tests, piece_meant}
-use Rattle.elab_drive.proofs.pieces.add_tests.Given as goal
-
-abbrev pub invariant-loop-expr : goal.invariant-loop-expr
-invariant-loop-expr l = map piece_meant l.all.items ++ map Tests (drop l.expr-index l.exprs) ≡ map piece_meant l.initial.all.items ++ map Tests l.exprs

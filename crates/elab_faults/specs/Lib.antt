@@ -1,3 +1,0 @@
-pub mod Paths
-pub mod Drivers
-pub mod Stands

@@ -1,0 +1,13 @@
+pub mod Paths
+pub mod Tabled
+pub mod Passing
+pub mod Driven
+pub mod Resets
+pub mod Clocking
+pub mod Growing
+pub mod Reading
+pub mod Handing
+pub mod Edges
+pub mod Forms
+pub mod Inputs
+pub mod Below

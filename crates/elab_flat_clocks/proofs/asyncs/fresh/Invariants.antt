@@ -1,0 +1,14 @@
+use Rattle.std.proofs.Common.{◌≡◌, ◌++◌, [], List, drop, map}
+use Rattle.std.specs.Borrow.{Bor}
+use Rattle.std.specs.HashSet.{contains}
+use Rattle.std.specs.Str.{bytes_eq}
+use Rattle.vlog_tree_runs.specs.Places.{Name}
+use Rattle.vlog_tree_runs.specs.Contents.{is_among}
+use Rattle.elab_flat_scopes.specs.Borrowed.{name_meant}
+use Rattle.elab_flat_clocks.specs.Clocking.{fresh}
+use Rattle.elab_flat_clocks.proofs.asyncs.fresh.Given as goal
+
+abbrev pub invariant-loop-name : goal.invariant-loop-name
+invariant-loop-name l =
+    (before : List Name) × ((q : Bor Name) → contains (λ a b. bytes_eq a.now b.now) l.done q ≡ is_among before q.now)
+    × (map name_meant l.all.items ++ fresh before (map name_meant (drop l.name-index l.names)) ≡ fresh [] (map name_meant l.names))

@@ -1,0 +1,8 @@
+use Rattle.std.proofs.Common.{◌≡◌, ◌++◌, drop, map}
+use Rattle.std.specs.List.{flat_map}
+use Rattle.elab_flat_faults.specs.Drivers.{parts_of}
+use Rattle.elab_flat_drivers.specs.Parts.{part_meant}
+use Rattle.elab_flat_drivers.proofs.parts.+parts.Given as goal
+
+abbrev pub invariant-add_row_parts-loop-left : goal.invariant-add_row_parts-loop-left
+invariant-add_row_parts-loop-left l = map part_meant l.all.items ++ flat_map parts_of (drop l.left-index l.lefts) ≡ map part_meant l.initial.all.items ++ flat_map parts_of l.lefts

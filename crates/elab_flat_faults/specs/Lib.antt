@@ -1,0 +1,10 @@
+pub mod Texts
+pub mod Declaring
+pub mod Constants
+pub mod Clocks
+pub mod FlatStands
+pub mod Paths
+pub mod Drivers
+pub mod ElabStands
+pub mod Plain
+pub mod Handed

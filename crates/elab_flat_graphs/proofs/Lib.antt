@@ -1,0 +1,5 @@
+mod Searching
+mod Levelling
+pub mod Turns
+pub mod Rounds
+pub mod Closing

@@ -1,0 +1,5 @@
+pub mod Graphs
+pub mod Searching
+pub mod Walks
+pub mod Search
+pub mod Answer

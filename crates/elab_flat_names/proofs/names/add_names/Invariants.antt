@@ -1,0 +1,6 @@
+use Rattle.std.proofs.Common.{◌≡◌, ◌++◌, drop, map}
+use Rattle.elab_flat_scopes.specs.Borrowed.{name_meant}
+use Rattle.elab_flat_names.proofs.names.add_names.Given as goal
+
+abbrev pub invariant-loop-name : goal.invariant-loop-name
+invariant-loop-name l = map name_meant l.all.items ++ (drop l.name-index l.names) ≡ map name_meant l.initial.all.items ++ l.names

@@ -1,0 +1,4 @@
+pub mod Assignable
+pub mod Rows
+pub mod Searching
+pub mod Exprs

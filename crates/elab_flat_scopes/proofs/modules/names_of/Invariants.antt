@@ -1,0 +1,7 @@
+use Rattle.std.proofs.Common.{◌≡◌, ◌++◌, drop, map}
+use Rattle.elab_flat_scopes.specs.Borrowed.{name_meant}
+use Rattle.elab_flat_scopes.specs.Finding.{module_name}
+use Rattle.elab_flat_scopes.proofs.modules.names_of.Given as goal
+
+abbrev pub invariant-loop-text : goal.invariant-loop-text
+invariant-loop-text l = map name_meant l.names.items ++ map module_name (drop l.text-index l.modules) ≡ map module_name l.modules

@@ -1,0 +1,25 @@
+use Rattle.std.proofs.Common.{refl, map}
+use Rattle.vlog_tree.specs.declared.expr.Expr.{Expr}
+use Rattle.vlog_tree_runs.specs.Places.{Among}
+use Rattle.elab_flat_drivers.proofs.Naming.{meant_at}
+use Rattle.elab_flat_params.specs.Constants.{is_known}
+use Rattle.elab_flat_widths.specs.declared.violation.Violation.{Violation}
+use Rattle.elab_flat_widths.specs.Cases.{expr_meant}
+use Rattle.elab_flat_widths.specs.Taken.{Breaks, taken_at}
+use Rattle.elab_flat_widths.proofs.Takes.{fails_map}
+use Rattle.elab_flat_widths.proofs.Widest.{at_end}
+use Rattle.elab_flat_widths.proofs.cases.common_shape.Goals as goal
+
+pub returns-in-Err-clause-err : goal.returns-in-Err-clause-err
+returns-in-Err-clause-err c = λ n s.
+    let test = is_known c.args.params.now in
+    let v = c.args.rest.now in
+    let a = c.expr-item.result.now in
+    fails_map (Breaks test v (taken_at a n s)) (λ (w : Violation). (x : Expr) × Among (map expr_meant c.args.exprs.now) x × Breaks test v (taken_at x n s) w)
+    (λ w h. (a, meant_at expr_meant c.args.exprs.now c.args.exprs.now _ c.loop-expr.expr-index c.expr-item.result c.loop-expr-test.true c.expr-item.is refl refl, h)) c.in-Err.violation
+    (c.in-Err.ensures.err n s)
+
+pub returns-clause-ok : goal.returns-clause-ok
+returns-clause-ok c =
+    let inv = c.loop-expr.invariant in
+    at_end (is_known c.args.params.now) c.args.rest.now c.args.exprs.now c.loop-expr.expr-index c.loop-expr.longest c.loop-expr.all_signed c.loop-expr-test.false inv.most inv.width inv.sign inv.ready

@@ -1,0 +1,5 @@
+use Rattle.vlog_tree.specs.Value.{width_of, sign_of}
+use Rattle.elab_flat_widths.proofs.taken.check_alone.Goals as goal
+
+pub returns-in-Err-clause-err : goal.returns-in-Err-clause-err
+returns-in-Err-clause-err c = c.in-Err.ensures.err (width_of c.args.rest.now c.args.expr.now) (sign_of c.args.rest.now c.args.expr.now)

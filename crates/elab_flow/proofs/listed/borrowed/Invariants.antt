@@ -1,6 +1,0 @@
-use Rattle.std.proofs.Common.{◌≡◌, ◌++◌, drop, map}
-use Rattle.flat_scopes.specs.Borrowed.{name_meant}
-use Rattle.elab_flow.proofs.listed.borrowed.Given as goal
-
-abbrev pub invariant-loop-text : goal.invariant-loop-text
-invariant-loop-text l = map name_meant l.all.items ++ drop l.text-index l.texts ≡ l.texts

@@ -1,5 +1,0 @@
-use Rattle.elab_node.proofs.Making.{made_not}
-use Rattle.elab_node.proofs.nodes.turned.Goals as goal
-
-pub returns-clause-makes : goal.returns-clause-makes
-returns-clause-makes c = made_not c.args.dag.now c.put.new.dag c.in_ok-number.number c.in_ok-number.ensures.fit c.args.a c.requires c.in_ok-number.ensures.adds

@@ -1,8 +1,0 @@
-use Rattle.elab_node.proofs.Kept.{keeps_then}
-use Rattle.elab_node.proofs.operators.not_less.Goals as goal
-
-pub returns-in_err-number-clause-keeps : goal.returns-in_err-number-clause-keeps
-returns-in_err-number-clause-keeps c = keeps_then c.args.dag.now c.less.new.dag c.inverse.new.dag c.in_ok-below.ensures.keeps c.inverse.ensures.keeps
-
-pub returns-clause-keeps : goal.returns-clause-keeps
-returns-clause-keeps c = keeps_then c.args.dag.now c.less.new.dag c.inverse.new.dag c.in_ok-below.ensures.keeps c.in_ok-number.ensures.keeps

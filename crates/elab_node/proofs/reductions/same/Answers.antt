@@ -1,5 +1,0 @@
-use Rattle.elab_node.proofs.Kept.{made_here}
-use Rattle.elab_node.proofs.reductions.same.Goals as goal
-
-pub returns-clause-makes : goal.returns-clause-makes
-returns-clause-makes c = made_here c.args.dag.now c.args.a.node c.args.a.width c.length_of-width.ensures.fit c.requires

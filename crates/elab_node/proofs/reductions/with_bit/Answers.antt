@@ -1,8 +1,0 @@
-use Rattle.elab_node.proofs.Kept.{keeps_then}
-use Rattle.elab_node.proofs.reductions.with_bit.Goals as goal
-
-pub returns-in_err-number-clause-keeps : goal.returns-in_err-number-clause-keeps
-returns-in_err-number-clause-keeps c = keeps_then c.args.dag.now c.slice.new.dag c.two.new.dag c.in_ok-bit.ensures.keeps c.two.ensures.keeps
-
-pub returns-clause-keeps : goal.returns-clause-keeps
-returns-clause-keeps c = keeps_then c.args.dag.now c.slice.new.dag c.two.new.dag c.in_ok-bit.ensures.keeps c.in_ok-number.ensures.keeps

@@ -1,6 +1,0 @@
-use Rattle.std.proofs.Common.{◌≡◌, take}
-use Rattle.elab_block.specs.Saving.{places_of}
-use Rattle.elab_step.proofs.outcomes.rising_places.Given as goal
-
-abbrev pub invariant-loop-one : goal.invariant-loop-one
-invariant-loop-one l = l.places.items ≡ places_of (take l.one-index l.saved)

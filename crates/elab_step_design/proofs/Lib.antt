@@ -1,0 +1,3 @@
+mod OneCycle
+mod SameRuns
+pub mod Carried

@@ -1,0 +1,8 @@
+use Rattle.elab_step_expr.proofs.Kept.{keeps_then}
+use Rattle.elab_step_expr.proofs.families.chosen.Goals as goal
+
+pub returns-in_err-number-clause-keeps : goal.returns-in_err-number-clause-keeps
+returns-in_err-number-clause-keeps c = keeps_then c.args.dag.now c.is_zero.new.dag c.choice.new.dag c.in_ok-zero.ensures.keeps c.choice.ensures.keeps
+
+pub returns-clause-keeps : goal.returns-clause-keeps
+returns-clause-keeps c = keeps_then c.args.dag.now c.is_zero.new.dag c.choice.new.dag c.in_ok-zero.ensures.keeps c.in_ok-number.ensures.keeps

@@ -1,0 +1,6 @@
+use Rattle.std.proofs.Common.{ℕ, ◌↔◌, ◌⊎◌, take}
+use Rattle.vlog_tree_runs.specs.Places.{Among}
+use Rattle.elab_step_flow.proofs.sets.add_each.Given as goal
+
+abbrev pub invariant-loop-place : goal.invariant-loop-place
+invariant-loop-place l = (i : ℕ) → Among l.all.items i ↔ (Among l.initial.all.items i ⊎ Among (take l.place-index l.places) i)

@@ -1,0 +1,13 @@
+pub mod Solving
+pub mod Fitting
+pub mod Cycles
+pub mod Drivers
+pub mod Elaborating
+pub mod Texts
+pub mod Boards
+pub mod Runs
+pub mod Edges
+pub mod Solutions
+pub mod Leaving
+pub mod Sources
+pub mod Driving

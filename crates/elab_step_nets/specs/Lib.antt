@@ -1,0 +1,5 @@
+pub mod Solving
+pub mod Asked
+pub mod Boards
+pub mod Laws
+pub mod Outcomes

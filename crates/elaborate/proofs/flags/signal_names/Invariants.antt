@@ -1,7 +1,0 @@
-use Rattle.std.proofs.Common.{◌≡◌, ◌++◌, map, drop}
-use Rattle.flat_scopes.specs.Borrowed.{name_meant}
-use Rattle.elaborate.specs.Sources.{signal_names}
-use Rattle.elaborate.proofs.flags.signal_names.Given as goal
-
-abbrev pub invariant-loop-signal : goal.invariant-loop-signal
-invariant-loop-signal l = map name_meant l.all.items ++ signal_names (drop l.signal-index l.signals) ≡ signal_names l.signals

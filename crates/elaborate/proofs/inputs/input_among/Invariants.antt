@@ -1,8 +1,0 @@
-use Rattle.std.proofs.Common.{drop}
-use Rattle.std.specs.List.{flat_map}
-use Rattle.vlog_runs.specs.Places.{Name, Among}
-use Rattle.elaborate.specs.Parts.{input_name}
-use Rattle.elaborate.proofs.inputs.input_among.Given as goal
-
-abbrev pub invariant-loop-port : goal.invariant-loop-port
-invariant-loop-port l = (x : Name) → Among (flat_map input_name l.ports) x → Among l.names x → Among (flat_map input_name (drop l.port-index l.ports)) x

@@ -1,6 +1,0 @@
-use Rattle.std.proofs.Common.{◌≡◌, [], replicate}
-use Rattle.elab_order.specs.Graphs.{graph_of}
-use Rattle.elaborate.proofs.places.no_places.Given as goal
-
-abbrev pub invariant-loop-i : goal.invariant-loop-i
-invariant-loop-i l = graph_of l.all.items ≡ replicate l._i []

@@ -1,7 +1,0 @@
-use Rattle.std.proofs.Common.{◌≡◌, ◌++◌, ◌-◌, map}
-use Rattle.vlog_runs.specs.Places.{words_from}
-use Rattle.flat_bounds.specs.Ranges.{resting_word}
-use Rattle.flat_bounds.proofs.resting.add_words.Given as goal
-
-abbrev pub invariant-loop-index : goal.invariant-loop-index
-invariant-loop-index l = l.rest ++ map resting_word (words_from l.signal l.index (l.signal.depth - l.index)) ≡ l.initial.rest ++ map resting_word (words_from l.signal 0 l.signal.depth)

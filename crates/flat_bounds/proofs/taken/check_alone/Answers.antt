@@ -1,5 +1,0 @@
-use Rattle.vlog_tree.specs.Value.{width_of, sign_of}
-use Rattle.flat_bounds.proofs.taken.check_alone.Goals as goal
-
-pub returns-in-Err-clause-err : goal.returns-in-Err-clause-err
-returns-in-Err-clause-err c = c.in-Err.ensures.err (width_of c.args.rest.now c.args.expr.now) (sign_of c.args.rest.now c.args.expr.now)

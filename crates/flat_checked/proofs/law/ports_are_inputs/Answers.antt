@@ -1,5 +1,0 @@
-use Rattle.flat_checked.proofs.Inputs.{inputs_are}
-use Rattle.flat_checked.proofs.law.ports_are_inputs.Goals as goal
-
-pub returns : goal.returns
-returns c = λ ms top m f there fit ports x. inputs_are ms top m fit there f ports x

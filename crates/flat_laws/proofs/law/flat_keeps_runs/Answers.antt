@@ -1,5 +1,0 @@
-use Rattle.flat_laws.proofs.Keeps.{keeps}
-use Rattle.flat_laws.proofs.law.flat_keeps_runs.Goals as goal
-
-pub returns : goal.returns
-returns c = keeps

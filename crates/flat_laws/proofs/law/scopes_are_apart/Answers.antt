@@ -1,5 +1,0 @@
-use Rattle.flat_laws.proofs.Apart.{are_apart}
-use Rattle.flat_laws.proofs.law.scopes_are_apart.Goals as goal
-
-pub returns : goal.returns
-returns c = are_apart

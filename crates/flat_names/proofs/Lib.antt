@@ -1,8 +1,0 @@
-pub mod Assigning
-pub mod Fitting
-pub mod Ports
-pub mod Searches
-pub mod Seconds
-pub mod Signals
-pub mod Using
-pub mod Words

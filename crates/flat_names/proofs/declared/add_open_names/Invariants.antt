@@ -1,7 +1,0 @@
-use Rattle.std.proofs.Common.{◌≡◌, ◌++◌, drop, map, filter}
-use Rattle.vlog_runs.specs.Contents.{is_open}
-use Rattle.flat_scopes.specs.Borrowed.{name_meant, param_meant, param_name}
-use Rattle.flat_names.proofs.declared.add_open_names.Given as goal
-
-abbrev pub invariant-loop-param : goal.invariant-loop-param
-invariant-loop-param l = map name_meant l.all.items ++ map param_name (filter (is_open l.text) (map param_meant (drop l.param-index l.params))) ≡ map name_meant l.initial.all.items ++ map param_name (filter (is_open l.text) (map param_meant l.params))

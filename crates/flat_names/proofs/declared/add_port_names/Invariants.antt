@@ -1,8 +1,0 @@
-use Rattle.std.proofs.Common.{◌≡◌, ◌++◌, drop, map, filter}
-use Rattle.flat_faults.specs.Declaring.{is_port}
-use Rattle.flat_scopes.specs.Borrowed.{name_meant, decl_meant}
-use Rattle.flat_scopes.specs.Finding.{decl_name}
-use Rattle.flat_names.proofs.declared.add_port_names.Given as goal
-
-abbrev pub invariant-loop-decl : goal.invariant-loop-decl
-invariant-loop-decl l = map name_meant l.all.items ++ map decl_name (filter is_port (map decl_meant (drop l.decl-index l.decls))) ≡ map name_meant l.initial.all.items ++ map decl_name (filter is_port (map decl_meant l.decls))

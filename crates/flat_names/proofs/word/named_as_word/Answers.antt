@@ -1,9 +1,0 @@
-use Rattle.std.proofs.Common.{map, ap, subst, ◌∙◌}
-use Rattle.vlog_runs.specs.Places.{Among}
-use Rattle.flat_scopes.specs.Borrowed.{decl_meant}
-use Rattle.flat_names.proofs.Words.{signals_as}
-use Rattle.flat_names.proofs.word.named_as_word.Goals as goal
-
-pub words_among-requires : goal.words_among-requires
-words_among-requires c = λ d a.
-    signals_as c.args.scope.now.text.now d (subst (λ ds. Among ds d) (ap (map decl_meant) c.deref.ensures.value ∙ c.in_ok-signals.ensures) a)

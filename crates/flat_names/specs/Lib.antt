@@ -1,3 +1,0 @@
-pub mod Assignable
-pub mod Rows
-pub mod Searching

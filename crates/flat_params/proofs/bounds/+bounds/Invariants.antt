@@ -1,6 +1,0 @@
-use Rattle.std.proofs.Common.{drop}
-use Rattle.flat_params.proofs.Divisors.{IsLeft}
-use Rattle.flat_params.proofs.bounds.+bounds.Given as goal
-
-abbrev pub invariant-all_defined-loop-expr : goal.invariant-all_defined-loop-expr
-invariant-all_defined-loop-expr l = IsLeft l.valuation l.exprs (drop l.expr-index l.exprs)

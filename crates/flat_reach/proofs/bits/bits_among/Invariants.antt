@@ -1,8 +1,0 @@
-use Rattle.std.proofs.Common.{◌≡◌, ◌++◌, drop, map, filter}
-use Rattle.flat_scopes.specs.Borrowed.{name_meant, decl_meant}
-use Rattle.flat_scopes.specs.Finding.{decl_name}
-use Rattle.flat_reach.specs.Tables.{is_bit_input}
-use Rattle.flat_reach.proofs.bits.bits_among.Given as goal
-
-abbrev pub invariant-loop-decl : goal.invariant-loop-decl
-invariant-loop-decl l = map name_meant l.all.items ++ map decl_name (filter (is_bit_input l.scope.params) (map decl_meant (drop l.decl-index l.decls))) ≡ map decl_name (filter (is_bit_input l.scope.params) (map decl_meant l.decls))

@@ -1,7 +1,0 @@
-use Rattle.std.proofs.Common.{◌≡◌, ◌++◌, drop, map}
-use Rattle.flat_scopes.specs.Borrowed.{name_meant, given_meant}
-use Rattle.flat_reach.specs.Tables.{link_meant, links}
-use Rattle.flat_reach.proofs.table.links.Given as goal
-
-abbrev pub invariant-loop-name : goal.invariant-loop-name
-invariant-loop-name l = map link_meant l.all.items ++ links l.outer (map given_meant l.given) (map name_meant (drop l.name-index l.bits)) ≡ links l.outer (map given_meant l.given) (map name_meant l.bits)

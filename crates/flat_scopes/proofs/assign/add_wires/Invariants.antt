@@ -1,8 +1,0 @@
-use Rattle.std.proofs.Common.{◌≡◌, ◌++◌, drop, map}
-use Rattle.std.specs.List.{flat_map}
-use Rattle.vlog_runs.specs.Contents.{wire_assign}
-use Rattle.flat_scopes.specs.Borrowed.{assigned_meant}
-use Rattle.flat_scopes.proofs.assign.add_wires.Given as goal
-
-abbrev pub invariant-loop-wire : goal.invariant-loop-wire
-invariant-loop-wire l = map assigned_meant l.all.items ++ flat_map wire_assign (drop l.wire-index l.wires) ≡ map assigned_meant l.initial.all.items ++ flat_map wire_assign l.wires

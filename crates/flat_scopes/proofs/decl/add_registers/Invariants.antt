@@ -1,7 +1,0 @@
-use Rattle.std.proofs.Common.{◌≡◌, ◌++◌, drop, map}
-use Rattle.vlog_runs.specs.Contents.{reg_decl}
-use Rattle.flat_scopes.specs.Borrowed.{decl_meant}
-use Rattle.flat_scopes.proofs.decl.add_registers.Given as goal
-
-abbrev pub invariant-loop-register : goal.invariant-loop-register
-invariant-loop-register l = map decl_meant l.all.items ++ map (reg_decl l.shape) (drop l.register-index l.registers) ≡ map decl_meant l.initial.all.items ++ map (reg_decl l.shape) l.registers

@@ -1,6 +1,0 @@
-use Rattle.std.proofs.Common.{◌≡◌, ◌++◌, drop, map}
-use Rattle.flat_texts.specs.Exprs.{expr_meant}
-use Rattle.flat_texts.proofs.decl.add_exprs.Given as goal
-
-abbrev pub invariant-loop-expr : goal.invariant-loop-expr
-invariant-loop-expr l = map expr_meant l.all.items ++ (drop l.expr-index l.exprs) ≡ map expr_meant l.initial.all.items ++ l.exprs

@@ -1,7 +1,0 @@
-use Rattle.std.proofs.Common.{map}
-use Rattle.flat_texts.specs.Exprs.{expr_meant}
-use Rattle.flat_texts.proofs.Standing.{same_exprs}
-use Rattle.flat_texts.proofs.exprs.exprs_in.Goals as goal
-
-pub returns : goal.returns
-returns c = same_exprs c.args.text.now (map expr_meant c.in_ok-all.all.items) c.in_ok-all.ensures

@@ -1,9 +1,0 @@
-use Rattle.std.proofs.Common.{◌≡◌, ◌++◌, drop, map}
-use Rattle.std.specs.List.{flat_map}
-use Rattle.vlog_runs.specs.Blocks.{left_names}
-use Rattle.flat_scopes.specs.Borrowed.{name_meant}
-use Rattle.elab_drive.specs.Parts.{part_meant}
-use Rattle.flat_texts.proofs.names.add_expr.Given as goal
-
-abbrev pub invariant-loop-part : goal.invariant-loop-part
-invariant-loop-part l = map name_meant l.all.items ++ flat_map left_names (map part_meant (drop l.part-index l.part-items)) ≡ map name_meant l.initial.all.items ++ flat_map left_names (map part_meant l.part-items)

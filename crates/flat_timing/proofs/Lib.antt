@@ -1,9 +1,0 @@
-pub mod Paths
-pub mod Tabled
-pub mod Passing
-pub mod Driven
-pub mod Resets
-pub mod Clocking
-pub mod Growing
-pub mod Reading
-pub mod Handing

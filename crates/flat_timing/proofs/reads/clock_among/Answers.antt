@@ -1,9 +1,0 @@
-use Rattle.std.proofs.Common.{map, refl}
-use Rattle.flat_scopes.specs.Borrowed.{name_meant}
-use Rattle.elab_drive.proofs.Naming.{meant_at}
-use Rattle.flat_timing.proofs.reads.clock_among.Goals as goal
-
-pub returns-then-is_clock : goal.returns-then-is_clock
-returns-then-is_clock c =
-    let names = c.args.names.now in
-    (meant_at name_meant names names (map name_meant names) c.loop-name.name-index c.name-item.result c.loop-name-test.true c.name-item.is refl refl, c.is_clock.ensures.0 c.if-is_clock.true)

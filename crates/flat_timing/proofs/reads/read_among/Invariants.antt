@@ -1,8 +1,0 @@
-use Rattle.std.proofs.Common.{map, drop}
-use Rattle.vlog_runs.specs.Places.{Name}
-use Rattle.flat_texts.specs.Exprs.{expr_meant}
-use Rattle.flat_timing.specs.Clocking.{IsReadAmong}
-use Rattle.flat_timing.proofs.reads.read_among.Given as goal
-
-abbrev pub invariant-loop-expr : goal.invariant-loop-expr
-invariant-loop-expr l = (x : Name) → IsReadAmong (map expr_meant l.exprs) l.table l.clock x → IsReadAmong (map expr_meant (drop l.expr-index l.exprs)) l.table l.clock x

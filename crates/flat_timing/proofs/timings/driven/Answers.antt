@@ -1,8 +1,0 @@
-use Rattle.std.specs.Option.{option_map}
-use Rattle.flat_timing.specs.Driving.{timed_meant}
-use Rattle.flat_timing.proofs.Driven.{driven_by}
-use Rattle.flat_timing.proofs.timings.driven.Goals as goal
-
-pub returns-in-Some : goal.returns-in-Some
-returns-in-Some c =
-    driven_by c.args.table.now c.args.edges.now c.args.body.now c.timing_of.result c.timing_of.ensures c.in-Some.timing c.in-Some.is (option_map timed_meant c.timed_reached.result) c.timed_reached.ensures

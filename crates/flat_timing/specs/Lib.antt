@@ -1,5 +1,0 @@
-pub mod Passing
-pub mod Tabled
-pub mod Driving
-pub mod Clocking
-pub mod Unread

@@ -1,5 +1,0 @@
-use Rattle.flow_laws.proofs.Walking.{passes_are_paths}
-use Rattle.flow_laws.proofs.law.passes_are_paths.Goals as goal
-
-pub returns : goal.returns
-returns c = passes_are_paths

@@ -1,5 +1,0 @@
-use Rattle.http_connection.proofs.Unique.{one}
-use Rattle.http_connection.proofs.laws.one_request.Goals as goal
-
-pub returns : goal.returns
-returns c = one

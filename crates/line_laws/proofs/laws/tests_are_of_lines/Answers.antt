@@ -1,5 +1,0 @@
-use Rattle.line_laws.proofs.Roots.{tests_are_of_lines}
-use Rattle.line_laws.proofs.laws.tests_are_of_lines.Goals as goal
-
-pub returns : goal.returns
-returns c = tests_are_of_lines

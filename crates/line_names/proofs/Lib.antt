@@ -1,5 +1,0 @@
-mod Words
-mod Plain
-mod Placed
-mod Coded
-pub mod Known

@@ -1,2 +1,0 @@
-pub mod Obligations
-pub mod Kinds

@@ -1,7 +1,0 @@
-use Rattle.std.proofs.Common.{◌≡◌, take}
-use Rattle.line_waves.specs.Waves.{firsts_of}
-use Rattle.line_waves.proofs.waves.firsts_of.Given as goal
-
--- those so far
-abbrev pub invariant-loop-i : goal.invariant-loop-i
-invariant-loop-i l = l.firsts ≡ firsts_of (take l.i l.registers) (take l.i l.starts)

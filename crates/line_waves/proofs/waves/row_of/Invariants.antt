@@ -1,6 +1,0 @@
-use Rattle.std.proofs.Common.{◌≡◌, take}
-use Rattle.line_waves.proofs.waves.row_of.Given as goal
-
--- the values so far
-abbrev pub invariant-loop-value : goal.invariant-loop-value
-invariant-loop-value l = l.copy ≡ take l.value-index l.row

@@ -1,7 +1,0 @@
-use Rattle.std.proofs.Common.{◌≡◌, map, take}
-use Rattle.line_waves.specs.Waves.{signal_of}
-use Rattle.line_waves.proofs.waves.signals_of.Given as goal
-
--- those so far
-abbrev pub invariant-loop-name : goal.invariant-loop-name
-invariant-loop-name l = l.signals ≡ map signal_of (take l.name-index l.names)

@@ -1,5 +1,0 @@
-pub mod Evaluating
-pub mod Asking
-pub mod Spreading
-pub mod Storing
-pub mod Elaborating

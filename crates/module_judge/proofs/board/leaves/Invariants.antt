@@ -1,7 +1,0 @@
-use Rattle.std.proofs.Common.{take}
-use Rattle.word_dag.specs.Adding.{Keeps}
-use Rattle.module_judge.specs.Showing.{AreHeld}
-use Rattle.module_judge.proofs.board.leaves.Given as goal
-
-abbrev pub invariant-loop-i : goal.invariant-loop-i
-invariant-loop-i l = Keeps l.fn.dag l.dag × AreHeld l.dag (take l.i l.signals) l.leaves (take l.i l.values)

@@ -1,7 +1,0 @@
-use Rattle.std.proofs.Common.{◌≡◌, drop}
-use Rattle.std.specs.List.{list_all}
-use Rattle.module_judge.specs.Judging.{block_holds}
-use Rattle.module_judge.proofs.judge.all_blocks_hold.Given as goal
-
-abbrev pub invariant-loop-block : goal.invariant-loop-block
-invariant-loop-block l = list_all (block_holds l.flat.signals l.values) (drop l.block-index l.flat.blocks) ≡ list_all (block_holds l.flat.signals l.values) l.flat.blocks

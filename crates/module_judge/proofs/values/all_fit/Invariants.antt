@@ -1,6 +1,0 @@
-use Rattle.std.proofs.Common.{◌≡◌, drop}
-use Rattle.module_judge.specs.Values.{all_fit}
-use Rattle.module_judge.proofs.values.all_fit.Given as goal
-
-abbrev pub invariant-loop-i : goal.invariant-loop-i
-invariant-loop-i l = all_fit (drop l.i l.signals) (drop l.i l.values) ≡ all_fit l.signals l.values

@@ -1,5 +1,0 @@
-pub mod Values
-pub mod Driving
-pub mod Numbers
-pub mod Showing
-pub mod Judging

@@ -1,3 +1,0 @@
-pub mod Fit
-pub mod Sized
-pub mod Laws

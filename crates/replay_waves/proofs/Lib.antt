@@ -1,0 +1,4 @@
+pub mod Coding
+pub mod Numbering
+pub mod Pathing
+pub mod Firsts

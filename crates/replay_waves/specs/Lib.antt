@@ -1,0 +1,3 @@
+pub mod Parts
+pub mod Waves
+pub mod Lines

@@ -1,6 +1,0 @@
-use Rattle.set_tree.specs.Runs.{design_of}
-use Rattle.segment_judge.proofs.Joining.{violations_break}
-use Rattle.segment_judge.proofs.laws.violations_are_breaking_runs.Goals as goal
-
-pub returns : goal.returns
-returns g c m set = violations_break (design_of g.C.Cycle.follows g.C.Cycle.is_reset g.C.Cycle.values) m set

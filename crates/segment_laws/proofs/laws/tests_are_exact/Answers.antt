@@ -1,5 +1,0 @@
-use Rattle.segment_laws.proofs.Testing.{test_is_exact}
-use Rattle.segment_laws.proofs.laws.tests_are_exact.Goals as goal
-
-pub returns : goal.returns
-returns c = test_is_exact

@@ -1,4 +1,0 @@
-pub mod Segments
-pub mod Lines
-pub mod Tests
-pub mod Laws

@@ -1,5 +1,0 @@
-use Rattle.std.proofs.Common.{◌≡◌, ◌++◌, drop, map}
-use Rattle.set_lookup.proofs.twice.note_rules.Given as goal
-
-abbrev pub invariant-loop-rule : goal.invariant-loop-rule
-invariant-loop-rule l = l.names ++ map (λ x. x.name) (drop l.rule-index l.rules) ≡ l.fn.names ++ map (λ x. x.name) l.rules

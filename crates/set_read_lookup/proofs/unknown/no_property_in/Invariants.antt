@@ -1,0 +1,7 @@
+use Rattle.std.proofs.Common.{◌≡◌, drop}
+use Rattle.std.specs.List.{find, flat_map}
+use Rattle.set_read_lookup.specs.Faults.{is_no_property}
+use Rattle.set_read_lookup.proofs.unknown.no_property_in.Given as goal
+
+abbrev pub invariant-loop-operation : goal.invariant-loop-operation
+invariant-loop-operation l = find (is_no_property l.operations) (flat_map (λ p. p.next) (drop l.operation-index l.operations)) ≡ find (is_no_property l.operations) (flat_map (λ p. p.next) l.operations)

@@ -1,8 +1,0 @@
-use Rattle.std.proofs.Common.{◌≡◌, suc, ◌-◌, length}
-use Rattle.std.specs.List.{find, flat_map}
-use Rattle.set_sound.specs.Faults.{positions, edges_faults}
-use Rattle.set_sound.specs.Tests.{stands}
-use Rattle.set_sound.proofs.find.all_edges_fault.Given as goal
-
-abbrev pub invariant-loop-at : goal.invariant-loop-at
-invariant-loop-at l = find (stands l.set) (flat_map (edges_faults l.set) (positions l.at (suc (length l.set.operations) - l.at))) ≡ find (stands l.set) (flat_map (edges_faults l.set) (positions 0 (suc (length l.set.operations))))

@@ -1,8 +1,0 @@
-use Rattle.set_sound.proofs.Exact.{sound, none_stands}
-use Rattle.set_sound.proofs.sound.faults_are_exact.Goals as goal
-
-pub returns-clause-sound : goal.returns-clause-sound
-returns-clause-sound c = sound
-
-pub returns-clause-none : goal.returns-clause-none
-returns-clause-none c = none_stands

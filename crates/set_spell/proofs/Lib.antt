@@ -1,5 +1,0 @@
-pub mod Clauses
-pub mod Lines
-pub mod Properties
-pub mod Sets
-pub mod Texts

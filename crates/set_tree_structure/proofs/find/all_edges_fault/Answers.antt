@@ -1,0 +1,15 @@
+use Rattle.std.proofs.Common.{suc, ◌<◌, length, arith, sym, ◌∙◌}
+use Rattle.set_tree_structure.specs.Faults.{edges_faults}
+use Rattle.set_tree_structure.specs.Tests.{stands}
+use Rattle.set_tree_structure.proofs.Firsts.{flat_next, flat_here}
+use Rattle.set_tree_structure.proofs.find.all_edges_fault.Goals as goal
+
+pub returns-in-Some : goal.returns-in-Some
+returns-in-Some c =
+    let lt : c.loop-at.at < suc (length c.args.set.now.operations) = omega (arith, c.len.ensures, c.loop-at-test.true) in
+    flat_here (stands c.args.set.now) (edges_faults c.args.set.now) c.loop-at.at c.loop-at.at (suc (length c.args.set.now.operations)) c.in-Some.fault _ lt (sym c.in-Some.is ∙ c.edges_fault.ensures) c.loop-at.invariant
+
+pub loop-at-preserved : goal.loop-at-preserved
+loop-at-preserved c =
+    let lt : c.loop-at.at < suc (length c.args.set.now.operations) = omega (arith, c.len.ensures, c.loop-at-test.true) in
+    flat_next (stands c.args.set.now) (edges_faults c.args.set.now) c.loop-at.at c.loop-at.at (suc (length c.args.set.now.operations)) _ lt (sym c.in_default.is ∙ c.edges_fault.ensures) c.loop-at.invariant

@@ -1,8 +1,0 @@
-use Rattle.std.proofs.Common.{ℕ, ◌<◌, get_or}
-use Rattle.clause_check.specs.declared.formula.Step.{Step}
-use Rattle.step_records.specs.Layout.{FitsStep}
-use Rattle.step_records.specs.Records.{content}
-use Rattle.step_records.proofs.fits.each_fits.Given as goal
-
-abbrev pub invariant-loop-step : goal.invariant-loop-step
-invariant-loop-step l = (k : ℕ) (d : Step) → k < l.step-index → FitsStep l.version (content (get_or l.steps k d))

@@ -1,8 +1,0 @@
-use Rattle.std.proofs.Common.{◌≡◌, ◌++◌, drop}
-use Rattle.std.specs.List.{flat_map}
-use Rattle.step_records.specs.Varint.{varint}
-use Rattle.step_records.specs.Layout.{distances, distances_after}
-use Rattle.step_records.proofs.hints.push_distances.Given as goal
-
-abbrev pub invariant-loop-hint : goal.invariant-loop-hint
-invariant-loop-hint l = l.out.items ++ flat_map varint (distances_after l.before (drop l.hint-index l.later)) ≡ l.fn.out.items ++ flat_map varint (distances l.fn.hints)

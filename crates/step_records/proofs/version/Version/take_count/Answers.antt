@@ -1,6 +1,0 @@
-use Rattle.step_records.specs.Layout.{count_bytes}
-use Rattle.step_records.proofs.version.Version.take_count.Goals as goal
-
-pub returns-in-Second : goal.returns-in-Second
-unfolding count_bytes
-returns-in-Second c = rw c.in-Second.is c.take_varint.ensures

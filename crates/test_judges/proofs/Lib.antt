@@ -1,0 +1,14 @@
+mod Listing
+mod Asking
+mod Comparing
+mod Holding
+mod Driven
+mod Readying
+mod Tests
+mod Deciding
+mod JudgeLaws
+mod Fitting
+mod Running
+mod Joining
+mod Invariants
+mod Exact

@@ -1,0 +1,7 @@
+pub mod Values
+pub mod Driving
+pub mod Numbers
+pub mod Showing
+pub mod Judging
+pub mod Breaking
+pub mod Joins

@@ -1,6 +1,0 @@
-use Rattle.std.proofs.Common.{◌≡◌, drop}
-use Rattle.text_places.specs.Sets.{first_given, again_in}
-use Rattle.text_places.proofs.sets.next_again.Given as goal
-
-abbrev pub invariant-loop-at : goal.invariant-loop-at
-invariant-loop-at l = first_given (again_in l.name) (drop l.at l.set) ≡ first_given (again_in l.name) l.set

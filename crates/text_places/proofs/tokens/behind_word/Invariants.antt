@@ -1,6 +1,0 @@
-use Rattle.std.proofs.Common.{◌≡◌, drop}
-use Rattle.text_places.specs.Tokens.{first_where, begins_with_both}
-use Rattle.text_places.proofs.tokens.behind_word.Given as goal
-
-abbrev pub invariant-loop-at : goal.invariant-loop-at
-invariant-loop-at l = first_where (begins_with_both l.before l.word) (drop l.at l.tokens) ≡ first_where (begins_with_both l.before l.word) l.tokens

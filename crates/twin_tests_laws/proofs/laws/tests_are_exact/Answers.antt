@@ -1,0 +1,5 @@
+use Rattle.twin_tests_laws.proofs.Testing.{test_is_exact}
+use Rattle.twin_tests_laws.proofs.laws.tests_are_exact.Goals as goal
+
+pub returns : goal.returns
+returns c = test_is_exact

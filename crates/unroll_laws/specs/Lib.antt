@@ -1,0 +1,6 @@
+pub mod Segments
+pub mod Lines
+pub mod Tests
+pub mod Laws
+pub mod Promises
+pub mod Existence

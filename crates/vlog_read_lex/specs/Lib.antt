@@ -1,0 +1,9 @@
+pub mod Bytes
+pub mod Places
+pub mod Signs
+pub mod Numbers
+pub mod Pieces
+pub mod Tokens
+pub mod Laws
+pub mod Words
+pub mod Longest

@@ -1,5 +1,0 @@
-pub mod Places
-pub mod Blocks
-pub mod Contents
-pub mod Scopes
-pub mod Cycles

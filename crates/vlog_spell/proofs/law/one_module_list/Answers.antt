@@ -1,5 +1,0 @@
-use Rattle.vlog_spell.proofs.Modules.{one_file}
-use Rattle.vlog_spell.proofs.law.one_module_list.Goals as goal
-
-pub returns : goal.returns
-returns c = one_file

@@ -1,9 +1,0 @@
-use Rattle.std.proofs.Common.{List, ◌++◌, drop}
-use Rattle.vlog_tree.specs.declared.expr.Expr.{Expr}
-use Rattle.vlog_value.specs.Meanings.{RowSame}
-use Rattle.vlog_value.proofs.counts.Folder.+folding.Given as goal
-
--- whatever folds the rest folds all
-abbrev pub invariant-row-loop-expr : goal.invariant-row-loop-expr
-invariant-row-loop-expr l =
-    (ys : List Expr) → RowSame l.self.valuation.now (drop l.expr-index l.exprs) ys → RowSame l.self.valuation.now l.exprs (l.all ++ ys)

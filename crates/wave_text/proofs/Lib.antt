@@ -1,3 +1,0 @@
-pub mod Coding
-pub mod Numbering
-pub mod Pathing

@@ -1,7 +1,0 @@
-use Rattle.std.proofs.Common.{◌≡◌, ◌++◌, take}
-use Rattle.wave_text.specs.Waves.{changes}
-use Rattle.wave_text.proofs.cycles.add_changes.Given as goal
-
--- those before this one
-abbrev pub invariant-loop-k : goal.invariant-loop-k
-invariant-loop-k l = l.out.items ≡ l.fn.out.items ++ changes (take l.k l.signals) l.window.rows.now l.number l.i

@@ -1,5 +1,0 @@
-use Rattle.wave_text.proofs.Pathing.{ends_more}
-use Rattle.wave_text.proofs.parts.add_upscopes.Goals as goal
-
-pub loop-byte-preserved : goal.loop-byte-preserved
-loop-byte-preserved c = ends_more c.args.path.now c.loop-byte.byte-index c.args.out.now.items c.loop-byte.out.items c.add_end.new.out.items c.loop-byte-test.true c.in_ok-add_end.ensures c.loop-byte.invariant

@@ -1,7 +1,0 @@
-use Rattle.std.proofs.Common.{◌≡◌, ◌++◌, take}
-use Rattle.wave_text.specs.Parts.{upscopes}
-use Rattle.wave_text.proofs.parts.add_upscopes.Given as goal
-
--- the ends so far
-abbrev pub invariant-loop-byte : goal.invariant-loop-byte
-invariant-loop-byte l = l.out.items ≡ l.fn.out.items ++ upscopes (take l.byte-index l.path)

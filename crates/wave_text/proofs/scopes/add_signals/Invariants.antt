@@ -1,7 +1,0 @@
-use Rattle.std.proofs.Common.{◌≡◌, ◌++◌, take}
-use Rattle.wave_text.specs.Waves.{signal_scopes}
-use Rattle.wave_text.proofs.scopes.add_signals.Given as goal
-
--- those before this one
-abbrev pub invariant-loop-k : goal.invariant-loop-k
-invariant-loop-k l = l.out.items ≡ l.fn.out.items ++ signal_scopes l.number (take l.k l.signals)

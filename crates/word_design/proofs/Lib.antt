@@ -1,2 +1,0 @@
-mod OneCycle
-mod SameRuns

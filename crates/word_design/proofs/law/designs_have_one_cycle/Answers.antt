@@ -1,5 +1,0 @@
-use Rattle.word_design.proofs.OneCycle.{one_cycle}
-use Rattle.word_design.proofs.law.designs_have_one_cycle.Goals as goal
-
-pub returns : goal.returns
-returns c = one_cycle

@@ -1,8 +1,0 @@
-//! Blocks as functions of words: what each signal is of registers and inputs, and what each register is after a cycle.
-#![tactic(auto)]
-
-mod design;
-mod law;
-
-pub use design::{Design, Net, Register};
-pub use law::{design_lines_are_the_modules_lines, designs_have_one_cycle};
