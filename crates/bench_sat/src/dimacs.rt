@@ -1,7 +1,7 @@
 use clause_check::{Clause, Clauses, Cnf, Lit};
 use std::alloc::{AllocError, Global};
 
-/// What was read so far.
+// What was read so far.
 #[derive(Drop)]
 struct Reading {
     vars: u32,
@@ -9,7 +9,7 @@ struct Reading {
     lits: Vec<Lit>,
 }
 
-/// The literal of this number, which isn't 0.
+// The literal of this number, which isn't 0.
 fn literal(number: i32) -> Lit {
     Lit {
         var: number.unsigned_abs().saturating_sub(1),
@@ -18,7 +18,7 @@ fn literal(number: i32) -> Lit {
 }
 
 impl Reading {
-    /// Reads a line. The answer is whether it could be read.
+    // Reads a line. The answer is whether it could be read.
     fn line(&mut self, alloc: Global, line: &str) -> Result<bool, AllocError> {
         if line.starts_with('c') {
             return Ok(true);

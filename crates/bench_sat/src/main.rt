@@ -1,6 +1,7 @@
-//! Decides a formula in DIMACS form, which it reads from standard input. It writes the line `s SATISFIABLE`, `s UNSATISFIABLE`
-//! or `s UNKNOWN`, the last where the budget of learnt clauses was spent. The evidence is checked before it says so.
-//! `--budget N` is how many clauses it may learn. `--evidence` adds the values as a line `v`, or the derivation as LRAT text.
+//! Decides a formula in DIMACS form, which it reads from standard input. It writes the line `s SATISFIABLE`, `s
+//! UNSATISFIABLE` or `s UNKNOWN`, the last where the budget of learnt clauses was spent. The evidence is checked before
+//! it says so. `--budget N` is how many clauses it may learn. `--evidence` adds the values as a line `v`, or the
+//! derivation as LRAT text.
 #![tactic(auto)]
 
 mod dimacs;
@@ -15,7 +16,7 @@ use lrat::{write_steps, write_values};
 use request::Request;
 use std::{env, io};
 
-/// Solves the formula, and says how it ended.
+// Solves the formula, and says how it ended.
 fn show<R: Print + AllocGlobal>(rt: &R, cnf: &Cnf, request: &Request) -> io::Result<()> {
     match solve(rt.alloc(), cnf, request.budget.max(1))? {
         End::Unsat(steps) => {

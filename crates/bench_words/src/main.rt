@@ -47,7 +47,7 @@ fn equal(a: u64, b: u64) -> Node
     }
 }
 
-/// Adds a chain of sums to a dag, each of the one before and the first word; the last of them.
+// Adds a chain of sums to a dag, each of the one before and the first word; the last of them.
 fn add_chain(dag: &mut Dag, first: u64, count: u64) -> Result<u64, AllocError>
     requires { EndsIn dag.old first }
     ensures chain { IfOk result (EndsIn dag.new) }
@@ -60,7 +60,7 @@ fn add_chain(dag: &mut Dag, first: u64, count: u64) -> Result<u64, AllocError>
     Ok(last)
 }
 
-/// How many nodes the obligation of a chain has.
+// How many nodes the obligation of a chain has.
 fn chain_nodes(alloc: Global, count: u64) -> Result<usize, AllocError> {
     let mut dag = Dag::new(alloc);
     let first = dag.add(free(alloc, b"a")?)?;
@@ -70,7 +70,7 @@ fn chain_nodes(alloc: Global, count: u64) -> Result<usize, AllocError> {
     Ok(ob.nodes().len())
 }
 
-/// How many variables and clauses the obligation that a product of 64 bits equals a word has.
+// How many variables and clauses the obligation that a product of 64 bits equals a word has.
 fn product_size(alloc: Global) -> Result<(u64, usize), AllocError> {
     let mut dag = Dag::new(alloc);
     let a = dag.add(free(alloc, b"a")?)?;

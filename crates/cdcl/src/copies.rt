@@ -5,7 +5,7 @@ use clause_check::Lit;
 use std::alloc::{AllocError, Global};
 use std::marker::Model;
 
-/// The first variable whose literals don't fit 32 bits.
+// The first variable whose literals don't fit 32 bits.
 const TOO_MANY: u32 = 1 << 31;
 
 /// A literal in 32 bits: twice its variable, and one more for the negation. Contracts see the literal.
@@ -24,7 +24,7 @@ impl Model for Packed {
 }
 
 impl Packed {
-    /// The literal in 32 bits. A variable that doesn't fit counts as want of memory: so many want more than 200 GB.
+    /// The literal in 32 bits. A variable that doesn't fit counts as no memory: so many take more than 200 GB.
     pub fn of(lit: Lit) -> Result<Packed, AllocError>
         ensures { IfOk result (λ p. p ≡ lit) }
     {

@@ -1,5 +1,5 @@
-//! A solver that answers with evidence. Two steps of derivations are worked: one that tells propagation something new, and
-//! one that doesn't.
+//! A solver that answers with evidence. Two steps of derivations are worked: one that tells propagation something new,
+//! and one that doesn't.
 #![tactic(auto)]
 
 mod conflict;

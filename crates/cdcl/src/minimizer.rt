@@ -8,11 +8,12 @@ use crate::reasons::Reasons;
 use clause_check::clause_at;
 use std::alloc::{AllocError, Global};
 
-/// Through how many clauses a literal is followed back, to see that it is redundant.
+// Through how many clauses a literal is followed back, to see that it is redundant.
 const DEPTH: u32 = 4;
 
-/// Which literals of a learnt clause are redundant, since the others imply them (Sörensson and Biere, 2009), as far as it is known:
-/// the answers so far, by place in the trail, and the lowest seen place, below which no literal is followed back.
+/// Which literals of a learnt clause are redundant, since the others imply them (Sörensson and Biere, 2009), as far as
+/// it is known: the answers so far, by place in the trail, and the lowest seen place, below which no literal is
+/// followed back.
 #[derive(Drop)]
 pub struct Minimizer {
     answers: Vec<Option<bool>>,
@@ -30,8 +31,8 @@ impl Minimizer {
         })
     }
 
-    /// Whether the literal at a place follows from those at seen places, by the clauses that forced literals before it: followed
-    /// back through so many of them, and not below the lowest seen place. The answers so far are kept.
+    // Whether the literal at a place follows from those at seen places, by the clauses that forced literals before it:
+    // followed back through so many of them, and not below the lowest seen place. The answers so far are kept.
     fn is_redundant(
         &mut self,
         reasons: &Reasons<'_>,

@@ -1,15 +1,15 @@
 /// How many conflicts the shortest run has.
 const SHORTEST: u64 = 100;
 
-/// When the search begins anew: after runs of conflicts whose lengths are in the proportions 1, 1, 2, 1, 1, 2, 4 and so on
-/// (Luby, Sinclair and Zuckerman, 1993), which Knuth's pair of numbers gives one after another.
+/// When the search begins anew: after runs of conflicts whose lengths are in the proportions 1, 1, 2, 1, 1, 2, 4 and so
+/// on (Luby, Sinclair and Zuckerman, 1993), which Knuth's pair of numbers gives one after another.
 #[derive(Drop)]
 pub struct Restarts {
-    /// Which run this is.
+    // Which run this is.
     count: u64,
-    /// How long it is, in shortest runs.
+    // How long it is, in shortest runs.
     length: u64,
-    /// How many of its conflicts are left.
+    // How many of its conflicts are left.
     left: u64,
 }
 

@@ -1,7 +1,7 @@
 use std::alloc::{AllocError, Global};
 
-/// For each clause the place in it where a literal to watch was last found. It only says where to look first, so that none is owed:
-/// for a clause without one it is 0.
+/// For each clause the place in it where a literal to watch was last found. It only says where to look first, so that
+/// none is owed: for a clause without one it is 0.
 #[derive(Drop)]
 pub struct Resumes {
     places: Vec<u32>,

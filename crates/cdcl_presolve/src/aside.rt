@@ -1,16 +1,16 @@
-//! The clauses of a variable that was eliminated, from which it gets a value again.
+// The clauses of a variable that was eliminated, from which it gets a value again.
 
 use clause_check::Lit;
 
-/// A literal of an eliminated variable, and the clauses that had it. Clauses that had its negation hold where it is false; where
-/// one of these needs it to be true, the resolvents make all others hold too.
+/// A literal of an eliminated variable, and the clauses that had it. Clauses that had its negation hold where it is
+/// false; where one of these needs it to be true, the resolvents make all others hold too.
 #[derive(Drop)]
 pub struct Aside {
     pub lit: Lit,
     pub clauses: Vec<Vec<Lit>>,
 }
 
-/// Whether each literal of the clause but those of this variable is false.
+// Whether each literal of the clause but those of this variable is false.
 fn needs(clause: &[Lit], var: u32, values: &[bool]) -> bool {
     for lit in clause {
         let value = values.get(lit.var as usize).copied().unwrap_or(false);

@@ -1,5 +1,6 @@
-//! What is known of each variable: a value, or another variable's value. Each fact keeps the clauses that say so, which later
-//! steps have as hints. A variable is made equal to one before it, so going over the variables in order settles each at once.
+// What is known of each variable: a value, or another variable's value. Each fact keeps the clauses that say so, which
+// later steps have as hints. A variable is made equal to one before it, so going over the variables in order settles
+// each at once.
 
 use clause_check::Lit;
 use std::alloc::{AllocError, Global};
@@ -11,8 +12,8 @@ pub enum Class {
     Root,
     /// It has this value. The clause `unit` says so.
     Fixed { value: bool, unit: u32 },
-    /// It is equal to a literal of a variable before it. The clause `there` says that it implies the literal, `back` that the
-    /// literal implies it.
+    /// It is equal to a literal of a variable before it. The clause `there` says that it implies the literal, `back`
+    /// that the literal implies it.
     Equal { to: Lit, there: u32, back: u32 },
 }
 

@@ -1,5 +1,5 @@
-//! Deciding by way of a smaller formula. Nothing that the simplifying found is trusted: an answer counts where its evidence
-//! passes the check over the input formula, and where there is none the input formula is searched as it is.
+// Deciding by way of a smaller formula. Nothing that the simplifying found is trusted: an answer counts where its
+// evidence passes the check over the input formula, and where there is none the input formula is searched as it is.
 ghost use Rattle.std.specs.Prelude.{◌≤◌, ◌^◌, IfOk, IfSome};
 ghost use Rattle.cdcl.specs.Ends.{IsDecided, IsEnd};
 ghost use Rattle.cdcl_presolve.specs.Decided.{Decides};
@@ -13,7 +13,7 @@ use cdcl::End;
 use clause_check::{Cnf, Marks, Step, accept, holds};
 use std::alloc::{AllocError, Global};
 
-/// The steps that the last one rests on as an end, if they are a refutation.
+// The steps that the last one rests on as an end, if they are a refutation.
 fn refuted(
     alloc: Global,
     cnf: &Cnf,
@@ -31,7 +31,7 @@ fn refuted(
     }
 }
 
-/// The values as an end, if the formula holds.
+// The values as an end, if the formula holds.
 fn satisfied(cnf: &Cnf, budget: u64, values: Vec<bool>) -> Option<End>
     ensures { IfSome result (Decides cnf.now budget) }
 {
@@ -42,7 +42,8 @@ fn satisfied(cnf: &Cnf, budget: u64, values: Vec<bool>) -> Option<End>
     }
 }
 
-/// Refutes the formula where propagation, or a search with one learnt clause, does, which costs far less than to simplify it.
+// Refutes the formula where propagation, or a search with one learnt clause, does, which costs far less than to
+// simplify it.
 fn refuted_at_once(alloc: Global, cnf: &Cnf, budget: u64) -> Result<Option<End>, AllocError>
     ensures { IfOk result (λ r. IfSome r (Decides cnf.now budget)) }
 {
@@ -52,12 +53,13 @@ fn refuted_at_once(alloc: Global, cnf: &Cnf, budget: u64) -> Result<Option<End>,
     }
 }
 
-/// Whether so many clauses of these are few enough that they are searched in the place of all: a tenth is gone.
+// Whether so many clauses of these are few enough that they are searched in the place of all: a tenth is gone.
 fn is_gain(left: usize, all: usize) -> bool {
     left <= all - all / 10
 }
 
-/// Searches the smaller formula, and gives the end with its evidence over the input formula. It is none where the budget is spent.
+// Searches the smaller formula, and gives the end with its evidence over the input formula. It is none where the budget
+// is spent.
 fn by_smaller(
     alloc: Global,
     cnf: &Cnf,
@@ -86,7 +88,7 @@ fn by_smaller(
     }
 }
 
-/// Simplifies the formula and decides what is left. It is none where that isn't worth it or the budget is spent.
+// Simplifies the formula and decides what is left. It is none where that isn't worth it or the budget is spent.
 fn simplified(alloc: Global, cnf: &Cnf, budget: u64) -> Result<Option<End>, AllocError>
     requires { 1 ≤ budget }
     ensures { IfOk result (λ r. IfSome r (Decides cnf.now budget)) }
@@ -112,16 +114,16 @@ fn simplified(alloc: Global, cnf: &Cnf, budget: u64) -> Result<Option<End>, Allo
     }
 }
 
-/// Decides the formula, or learns as many clauses as the budget has, as `cdcl::solve` does, with the same evidence. Where one learnt
-/// clause doesn't refute it, it is simplified: what single literals force, variables that are equal, and gates that are the same
-/// function of the same inputs; then subsumption, and the elimination of variables by resolution.
+/// Decides the formula, or learns as many clauses as the budget has, as `cdcl::solve` does, with the same evidence.
+/// Where one learnt clause doesn't refute it, it is simplified: what single literals force, variables that are equal,
+/// and gates that are the same function of the same inputs; then subsumption, and the elimination of variables by
+/// resolution.
 ///
-/// Where a tenth of the clauses goes, `cdcl::solve` decides what is left within the budget, and its answer is taken back to the
-/// input formula and checked there, by `accept` or `holds`. If that budget is spent, the input formula is searched with the same
-/// budget again: a formula that stays open is searched twice, since the chain of steps that shows a spent budget has to be one
-/// over the input formula, in which steps of the simplifying would not be new to unit propagation.
-///
-/// Its one error is want of memory.
+/// Where a tenth of the clauses goes, `cdcl::solve` decides what is left within the budget, and its answer is taken
+/// back to the input formula and checked there, by `accept` or `holds`. If that budget is spent, the input formula is
+/// searched with the same budget again: a formula that stays open is searched twice, since the chain of steps that
+/// shows a spent budget has to be one over the input formula, in which steps of the simplifying would not be new to
+/// unit propagation.
 pub fn solve(alloc: Global, cnf: &Cnf, budget: u64) -> Result<End, AllocError>
     requires { 1 ≤ budget }
     ensures end { IfOk result (IsEnd cnf.now budget) }

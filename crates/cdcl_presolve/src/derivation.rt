@@ -1,10 +1,11 @@
-//! Steps over the input clauses. A technique hands over what it found as a clause, with the clauses from which that may follow;
-//! the hints are found here, by unit propagation. So no technique writes hints, and a wrong one costs its own work alone.
+// Steps over the input clauses. A technique hands over what it found as a clause, with the clauses from which that may
+// follow; the hints are found here, by unit propagation. So no technique writes hints, and a wrong one costs its own
+// work alone.
 
 use clause_check::{Clause, Cnf, Lit, Look, Step, in_32_bits};
 use std::alloc::{AllocError, Global};
 
-/// A clause that unit propagation used: what it forced, or none where it is false.
+// A clause that unit propagation used: what it forced, or none where it is false.
 #[derive(Clone, Copy)]
 struct Used {
     number: u32,
@@ -22,7 +23,7 @@ pub struct Derivation<'a> {
     needed: Vec<bool>,
 }
 
-/// What the values make of the clause.
+// What the values make of the clause.
 fn look(clause: &[Lit], values: &[Option<bool>]) -> Look {
     let mut unit: Option<Lit> = None;
     for lit in clause {
@@ -46,14 +47,14 @@ fn look(clause: &[Lit], values: &[Option<bool>]) -> Look {
     }
 }
 
-/// Gives the variable this value, or none.
+// Gives the variable this value, or none.
 fn set(values: &mut [Option<bool>], var: u32, value: Option<bool>) {
     if let Some(place) = values.get_mut(var as usize) {
         *place = value;
     }
 }
 
-/// The clause of this number: input clauses come first, and after them those of the steps.
+// The clause of this number: input clauses come first, and after them those of the steps.
 fn find_clause<'a>(cnf: &'a Cnf, steps: &'a [Step], number: u32) -> Option<&'a [Lit]> {
     let number = number as usize;
     match number.checked_sub(cnf.clauses.len()) {
@@ -65,7 +66,7 @@ fn find_clause<'a>(cnf: &'a Cnf, steps: &'a [Step], number: u32) -> Option<&'a [
     }
 }
 
-/// Says of each variable of the clause whether it is needed.
+// Says of each variable of the clause whether it is needed.
 fn mark_all(needed: &mut [bool], clause: &[Lit], is_needed: bool) {
     for lit in clause {
         if let Some(mark) = needed.get_mut(lit.var as usize) {
@@ -74,14 +75,14 @@ fn mark_all(needed: &mut [bool], clause: &[Lit], is_needed: bool) {
     }
 }
 
-/// The literals, and one more.
+// The literals, and one more.
 fn with(alloc: Global, lits: &[Lit], lit: Lit) -> Result<Vec<Lit>, AllocError> {
     let mut longer = lits.to_vec(alloc)?;
     longer.push(lit)?;
     Ok(longer)
 }
 
-/// The clause with each choice of signs for these variables, those that differ in the last sign alone side by side.
+// The clause with each choice of signs for these variables, those that differ in the last sign alone side by side.
 fn cases_of(alloc: Global, clause: &[Lit], splits: &[u32]) -> Result<Vec<Vec<Lit>>, AllocError> {
     let mut cases = vec![in alloc; clause.to_vec(alloc)?]?;
     for var in splits {
@@ -135,7 +136,7 @@ impl<'a> Derivation<'a> {
         steps
     }
 
-    /// What the values make of the clause of this number.
+    // What the values make of the clause of this number.
     fn look_at(&self, number: u32) -> Look {
         match find_clause(self.cnf, self.steps.as_slice(), number) {
             Some(clause) => look(clause, self.values.as_slice()),
@@ -143,7 +144,7 @@ impl<'a> Derivation<'a> {
         }
     }
 
-    /// Makes true what these clauses force, until one of them is false. The answer is whether one is.
+    // Makes true what these clauses force, until one of them is false. The answer is whether one is.
     fn propagate(&mut self, numbers: &[u32], trail: &mut Vec<Used>) -> Result<bool, AllocError> {
         for _ in numbers {
             let before = trail.len();
@@ -174,14 +175,14 @@ impl<'a> Derivation<'a> {
         Ok(false)
     }
 
-    /// Says of each variable of the clause of this number whether it is needed.
+    // Says of each variable of the clause of this number whether it is needed.
     fn mark(&mut self, number: u32, is_needed: bool) {
         if let Some(clause) = find_clause(self.cnf, self.steps.as_slice(), number) {
             mark_all(self.needed.as_mut_slice(), clause, is_needed);
         }
     }
 
-    /// The clauses on the trail without which the last one would not be false.
+    // The clauses on the trail without which the last one would not be false.
     fn needed_of(&mut self, alloc: Global, trail: &[Used]) -> Result<Vec<u32>, AllocError> {
         let mut hints: Vec<u32> = Vec::new(alloc);
         for used in trail.iter().rev() {
@@ -201,7 +202,7 @@ impl<'a> Derivation<'a> {
         Ok(hints)
     }
 
-    /// Hints by which these clauses imply the clause, where unit propagation finds them.
+    // Hints by which these clauses imply the clause, where unit propagation finds them.
     fn hints(
         &mut self,
         alloc: Global,
@@ -228,8 +229,8 @@ impl<'a> Derivation<'a> {
         }
     }
 
-    /// Adds a step. The answer is the number of its clause; none where a variable stands twice, or the empty clause is derived: a
-    /// refutation ends with it.
+    /// Adds a step. The answer is the number of its clause; none where a variable stands twice, or the empty clause is
+    /// derived: a refutation ends with it.
     pub fn add(
         &mut self,
         alloc: Global,
@@ -250,7 +251,7 @@ impl<'a> Derivation<'a> {
         }
     }
 
-    /// Joins the steps of all cases, two and two, to the step of the clause.
+    // Joins the steps of all cases, two and two, to the step of the clause.
     fn join(
         &mut self,
         alloc: Global,
@@ -273,8 +274,8 @@ impl<'a> Derivation<'a> {
         Ok(numbers.first().copied())
     }
 
-    /// Adds steps for the clause, one for each choice of values for the variables and those that join them, where unit
-    /// propagation finds hints in each case.
+    // Adds steps for the clause, one for each choice of values for the variables and those that join them, where unit
+    // propagation finds hints in each case.
     fn derive_by_cases(
         &mut self,
         alloc: Global,
@@ -299,8 +300,9 @@ impl<'a> Derivation<'a> {
         self.join(alloc, clause, splits, cases)
     }
 
-    /// Adds steps by which the clauses of these numbers imply the clause, and gives its number; none where no hints are found.
-    /// It looks at both values of each of the variables `splits`, which are few, where propagation alone isn't enough.
+    /// Adds steps by which the clauses of these numbers imply the clause, and gives its number; none where no hints are
+    /// found. It looks at both values of each of the variables `splits`, which are few, where propagation alone isn't
+    /// enough.
     pub fn derive(
         &mut self,
         alloc: Global,

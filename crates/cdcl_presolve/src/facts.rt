@@ -1,5 +1,5 @@
-//! The facts found so far, and what they leave of a clause. A clause is read through the classes of its variables, so nothing
-//! is rewritten until the end.
+// The facts found so far, and what they leave of a clause. A clause is read through the classes of its variables, so
+// nothing is rewritten until the end.
 
 use crate::classes::{Class, Classes, Meaning};
 use crate::derivation::Derivation;
@@ -33,7 +33,7 @@ pub struct Facts<'a> {
     changed: bool,
 }
 
-/// Keeps a literal of a clause, unless it is there. The answer is whether the clause isn't true in any case.
+// Keeps a literal of a clause, unless it is there. The answer is whether the clause isn't true in any case.
 fn keep(signs: &mut [Option<bool>], lits: &mut Vec<Lit>, lit: Lit) -> Result<bool, AllocError> {
     let Some(sign) = signs.get_mut(lit.var as usize) else {
         return Ok(true);
@@ -95,7 +95,7 @@ impl<'a> Facts<'a> {
         self.cnf().clauses.get(number as usize).unwrap_or(&[])
     }
 
-    /// These numbers of input clauses, each behind those of the clauses that say what is known of its variables.
+    // These numbers of input clauses, each behind those of the clauses that say what is known of its variables.
     fn with_links(&self, alloc: Global, sources: &[u32]) -> Result<Vec<u32>, AllocError> {
         let mut numbers: Vec<u32> = Vec::new(alloc);
         for source in sources {
@@ -107,8 +107,8 @@ impl<'a> Facts<'a> {
         Ok(numbers)
     }
 
-    /// Derives the clause from the input clause of this number and what is known of its variables. The answer is the number of the
-    /// step; none where no hints are found.
+    /// Derives the clause from the input clause of this number and what is known of its variables. The answer is the
+    /// number of the step; none where no hints are found.
     pub fn derive(
         &mut self,
         alloc: Global,
@@ -120,8 +120,8 @@ impl<'a> Facts<'a> {
             .derive(alloc, clause, &[], numbers.as_slice())
     }
 
-    /// Adds a step for a clause that two clauses imply. The answer is its number; none where a variable stands twice, or the empty
-    /// clause is derived.
+    /// Adds a step for a clause that two clauses imply. The answer is its number; none where a variable stands twice,
+    /// or the empty clause is derived.
     pub fn add_step(
         &mut self,
         alloc: Global,
@@ -132,7 +132,7 @@ impl<'a> Facts<'a> {
         self.derivation.add(alloc, lits.to_vec(alloc)?, hints)
     }
 
-    /// Makes it known that the literal is true, if the clauses of these numbers imply it. The answer is whether they do.
+    // Makes it known that the literal is true, if the clauses of these numbers imply it. The answer is whether they do.
     fn set_true(
         &mut self,
         alloc: Global,
@@ -148,7 +148,7 @@ impl<'a> Facts<'a> {
         Ok(true)
     }
 
-    /// Makes the equality known, if the clauses of these numbers imply it. The answer is whether they do.
+    // Makes the equality known, if the clauses of these numbers imply it. The answer is whether they do.
     fn set_equal(
         &mut self,
         alloc: Global,
@@ -203,7 +203,8 @@ impl<'a> Facts<'a> {
         Ok(())
     }
 
-    /// Says of the variable what is known of the variable that it is equal to. The answer is whether there may be more to say.
+    // Says of the variable what is known of the variable that it is equal to. The answer is whether there may be more
+    // to say.
     fn follow(&mut self, alloc: Global, var: u32) -> Result<bool, AllocError> {
         let Class::Equal { to, .. } = self.classes.of(var) else {
             return Ok(false);
@@ -238,7 +239,7 @@ impl<'a> Facts<'a> {
         Ok(())
     }
 
-    /// What the facts leave of these literals, where `signs` is not blank for those that are kept.
+    // What the facts leave of these literals, where `signs` is not blank for those that are kept.
     fn keep_rest(
         &mut self,
         alloc: Global,
@@ -277,8 +278,8 @@ impl<'a> Facts<'a> {
         }
     }
 
-    /// What the facts leave of the input clause of this number, once they have what it says by itself: a clause with one literal
-    /// is a fact, and one with none ends the search.
+    /// What the facts leave of the input clause of this number, once they have what it says by itself: a clause with
+    /// one literal is a fact, and one with none ends the search.
     pub fn rest_of(&mut self, alloc: Global, number: u32) -> Result<Rest, AllocError> {
         if self.is_refuted() {
             return Ok(Rest::True);

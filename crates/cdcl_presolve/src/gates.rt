@@ -1,7 +1,7 @@
-//! Gates, read back from clauses. The clauses of a variable say what it is at each value of the others in them, or leave it open.
-//! Where they leave nothing open, the variable is a gate: a table over at most three inputs. So conjunctions, exclusive
-//! disjunctions, multiplexers and all that becomes of them when inputs are known or equal are one case, and so are gates whose
-//! inputs come in another order.
+// Gates, read back from clauses. The clauses of a variable say what it is at each value of the others in them, or leave
+// it open. Where they leave nothing open, the variable is a gate: a table over at most three inputs. So conjunctions,
+// exclusive disjunctions, multiplexers and all that becomes of them when inputs are known or equal are one case, and so
+// are gates whose inputs come in another order.
 
 use clause_check::Lit;
 use std::alloc::{AllocError, Global};
@@ -16,15 +16,15 @@ pub struct Part {
     pub lits: Vec<Lit>,
 }
 
-/// A function of at most three variables, which stand in rising order. Row `r` has the value where input `i` is bit `i` of `r`;
-/// rows that differ only in inputs that aren't there are equal.
+/// A function of at most three variables, which stand in rising order. Row `r` has the value where input `i` is bit `i`
+/// of `r`; rows that differ only in inputs that aren't there are equal.
 #[derive(PartialEq, Eq, Hash, Drop)]
 pub struct Gate {
     pub inputs: Vec<u32>,
     pub rows: [bool; 8],
 }
 
-/// The value of the input at this place in a row.
+// The value of the input at this place in a row.
 fn bit(row: usize, place: usize) -> bool {
     match place {
         0 => row % 2 == 1,
@@ -33,7 +33,7 @@ fn bit(row: usize, place: usize) -> bool {
     }
 }
 
-/// The row that differs from this one in the input at this place alone.
+// The row that differs from this one in the input at this place alone.
 fn other_row(row: usize, place: usize) -> usize {
     let step = match place {
         0 => 1,
@@ -47,8 +47,8 @@ fn other_row(row: usize, place: usize) -> usize {
     }
 }
 
-/// Adds the clause's variables but this one to the inputs, in rising order and each once. The answer is whether they are few
-/// enough for a gate.
+/// Adds the clause's variables but this one to the inputs, in rising order and each once. The answer is whether they
+/// are few enough for a gate.
 pub fn add_inputs(inputs: &mut Vec<u32>, lits: &[Lit], out: u32) -> Result<bool, AllocError> {
     for lit in lits {
         if lit.var == out || inputs.contains(&lit.var) {
@@ -64,7 +64,7 @@ pub fn add_inputs(inputs: &mut Vec<u32>, lits: &[Lit], out: u32) -> Result<bool,
 }
 
 impl Part {
-    /// The value that the clause gives to the variable in a row of these inputs, where it gives one.
+    // The value that the clause gives to the variable in a row of these inputs, where it gives one.
     fn forces(&self, out: u32, inputs: &[u32], row: usize) -> Option<bool> {
         let mut value = None;
         for lit in &self.lits {
@@ -88,7 +88,7 @@ impl Part {
     }
 }
 
-/// The value that the clauses give to the variable in a row of these inputs, where they give one.
+// The value that the clauses give to the variable in a row of these inputs, where they give one.
 fn forced(parts: &[Part], out: u32, inputs: &[u32], row: usize) -> Option<bool> {
     for part in parts {
         if let Some(value) = part.forces(out, inputs, row) {
@@ -125,12 +125,12 @@ impl Gate {
         self.rows.get(row).copied().unwrap_or(false)
     }
 
-    /// Whether the value depends on the input at this place.
+    // Whether the value depends on the input at this place.
     fn depends(&self, place: usize) -> bool {
         (0..8).any(|row| self.value(row) != self.value(other_row(row, place)))
     }
 
-    /// The same function, with no input on which it doesn't depend.
+    // The same function, with no input on which it doesn't depend.
     fn lean(self, alloc: Global) -> Result<Gate, AllocError> {
         let mut inputs = Vec::new(alloc);
         let mut places: Vec<usize> = Vec::new(alloc);

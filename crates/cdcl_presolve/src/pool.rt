@@ -1,5 +1,5 @@
-//! Clauses that come and go, each found by its literals (occurrence lists). A clause is compared with others by a signature first,
-//! as in SatELite (Eén and Biere, 2005).
+// Clauses that come and go, each found by its literals (occurrence lists). A clause is compared with others by a
+// signature first, as in SatELite (Eén and Biere, 2005).
 
 use crate::resolve::resolvent_len;
 use clause_check::Lit;
@@ -15,7 +15,7 @@ pub struct Kept {
     pub number: u32,
 }
 
-/// A clause whose variables rise, with a bit for each of its variables: the variable modulo 64.
+// A clause whose variables rise, with a bit for each of its variables: the variable modulo 64.
 #[derive(Drop)]
 struct Held {
     kept: Kept,
@@ -29,7 +29,8 @@ pub enum Fit {
     Apart,
     /// All its literals stand in the other one.
     Within,
-    /// All its literals stand in the other one, but this one's negation, which is there: so the other one holds without this one.
+    /// All its literals stand in the other one, but this one's negation, which is there: so the other one holds without
+    /// this one.
     Turned(Lit),
 }
 
@@ -43,13 +44,13 @@ pub struct Pool {
     looks: u64,
 }
 
-/// Where the literal's list stands.
+// Where the literal's list stands.
 fn code(lit: Lit) -> usize {
     let even = 2 * lit.var as usize;
     if lit.negative { even + 1 } else { even }
 }
 
-/// A bit for each variable of the clause.
+// A bit for each variable of the clause.
 fn signature(lits: &[Lit]) -> u64 {
     let mut bits = 0;
     for lit in lits {
@@ -58,7 +59,7 @@ fn signature(lits: &[Lit]) -> u64 {
     bits
 }
 
-/// How a clause stands to another one, where the variables of both rise.
+// How a clause stands to another one, where the variables of both rise.
 fn compare(short: &[Lit], long: &[Lit]) -> Fit {
     let mut rest = long.iter();
     let mut turned: Option<Lit> = None;
@@ -155,7 +156,7 @@ impl Pool {
         }
     }
 
-    /// At most how many clauses have the literal.
+    // At most how many clauses have the literal.
     fn uses(&self, lit: Lit) -> usize {
         match self.places.get(code(lit)) {
             Some(list) => list.len(),

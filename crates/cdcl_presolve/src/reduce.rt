@@ -1,8 +1,8 @@
-//! Fewer clauses and variables. A clause that has all literals of another one goes (subsumption), a literal goes from a clause that
-//! another one says without it (self-subsuming resolution), and a variable goes where the resolvents on it are no more than the
-//! clauses that have it (bounded variable elimination): the techniques of SatELite (Eén and Biere, 2005). Nor may the resolvents
-//! have more literals, as in NiVER (Subbarayan and Pradhan, 2004): else the partial products of multipliers go, which are what two
-//! of them have in common.
+// Fewer clauses and variables. A clause that has all literals of another one goes (subsumption), a literal goes from a
+// clause that another one says without it (self-subsuming resolution), and a variable goes where the resolvents on it
+// are no more than the clauses that have it (bounded variable elimination): the techniques of SatELite (Eén and Biere,
+// 2005). Nor may the resolvents have more literals, as in NiVER (Subbarayan and Pradhan, 2004): else the partial
+// products of multipliers go, which are what two of them have in common.
 
 use crate::aside::Aside;
 use crate::facts::Facts;
@@ -11,16 +11,16 @@ use crate::resolve::{resolvent, without};
 use clause_check::Lit;
 use std::alloc::{AllocError, Global};
 
-/// How often all variables are tried at most.
+// How often all variables are tried at most.
 const ROUNDS: u64 = 8;
 
-/// The most pairs of clauses that are resolved on a variable.
+// The most pairs of clauses that are resolved on a variable.
 const PAIRS: usize = 160;
 
-/// The most literals of a clause that is resolved, and of a resolvent.
+// The most literals of a clause that is resolved, and of a resolvent.
 const LENGTH: usize = 20;
 
-/// A formula that is being made smaller.
+// A formula that is being made smaller.
 #[derive(Drop)]
 struct Reduction<'a> {
     facts: Facts<'a>,
@@ -39,7 +39,7 @@ pub struct Reduced {
 }
 
 impl<'a> Reduction<'a> {
-    /// These clauses, which are input clauses or steps.
+    // These clauses, which are input clauses or steps.
     fn new(
         alloc: Global,
         facts: Facts<'a>,
@@ -58,7 +58,7 @@ impl<'a> Reduction<'a> {
         })
     }
 
-    /// Adds a clause that these two imply, the first by forcing a literal. The answer is whether it is added.
+    // Adds a clause that these two imply, the first by forcing a literal. The answer is whether it is added.
     fn add(&mut self, alloc: Global, lits: Vec<Lit>, hints: [u32; 2]) -> Result<bool, AllocError> {
         match self.facts.add_step(alloc, lits.as_slice(), hints)? {
             Some(number) => {
@@ -70,7 +70,7 @@ impl<'a> Reduction<'a> {
         }
     }
 
-    /// Takes the literal of this variable from a clause, where the other one says the rest without it.
+    // Takes the literal of this variable from a clause, where the other one says the rest without it.
     fn strengthen(
         &mut self,
         alloc: Global,
@@ -89,7 +89,7 @@ impl<'a> Reduction<'a> {
         Ok(())
     }
 
-    /// Makes those clauses fewer and shorter that have all variables of the clause at this place.
+    // Makes those clauses fewer and shorter that have all variables of the clause at this place.
     fn use_clause(&mut self, alloc: Global, place: usize) -> Result<(), AllocError> {
         let Some(var) = self.pool.rarest(place) else {
             return Ok(());
@@ -111,7 +111,7 @@ impl<'a> Reduction<'a> {
         Ok(())
     }
 
-    /// Compares each fresh clause with others, until none is left or enough literals have been looked at.
+    // Compares each fresh clause with others, until none is left or enough literals have been looked at.
     fn use_fresh(&mut self, alloc: Global) -> Result<(), AllocError> {
         for _ in 0..LOOKS {
             let Some(place) = self.fresh.pop() else {
@@ -125,7 +125,7 @@ impl<'a> Reduction<'a> {
         Ok(())
     }
 
-    /// How many literals the clauses at these places have.
+    // How many literals the clauses at these places have.
     fn literals(&self, places: &[usize]) -> usize {
         let mut count = 0usize;
         for place in places {
@@ -134,8 +134,8 @@ impl<'a> Reduction<'a> {
         count
     }
 
-    /// The pairs of these clauses that have a resolvent on the variable; none where a clause or a resolvent is too long, or the
-    /// resolvents are more than the clauses or have more literals.
+    // The pairs of these clauses that have a resolvent on the variable; none where a clause or a resolvent is too long,
+    // or the resolvents are more than the clauses or have more literals.
     fn pairs(
         &mut self,
         alloc: Global,
@@ -164,7 +164,7 @@ impl<'a> Reduction<'a> {
         Ok(Some(pairs))
     }
 
-    /// Adds the resolvent of two clauses on the variable. The answer is whether it is added.
+    // Adds the resolvent of two clauses on the variable. The answer is whether it is added.
     fn resolve(
         &mut self,
         alloc: Global,
@@ -180,7 +180,7 @@ impl<'a> Reduction<'a> {
         self.add(alloc, lits, hints)
     }
 
-    /// Takes the clauses of a literal and of its negation away, and sets those aside that are fewer.
+    // Takes the clauses of a literal and of its negation away, and sets those aside that are fewer.
     fn set_aside(
         &mut self,
         alloc: Global,
@@ -207,8 +207,8 @@ impl<'a> Reduction<'a> {
         Ok(())
     }
 
-    /// Puts the resolvents on the variable in the place of the clauses that have it, where they are no more. The answer is whether
-    /// they are.
+    // Puts the resolvents on the variable in the place of the clauses that have it, where they are no more. The answer
+    // is whether they are.
     fn eliminate(&mut self, alloc: Global, var: u32) -> Result<bool, AllocError> {
         let lit = Lit {
             var,
@@ -232,7 +232,7 @@ impl<'a> Reduction<'a> {
         Ok(true)
     }
 
-    /// Eliminates variables, those first that the fewest pairs of clauses have. The answer is whether one was.
+    // Eliminates variables, those first that the fewest pairs of clauses have. The answer is whether one was.
     fn eliminate_all(&mut self, alloc: Global) -> Result<bool, AllocError> {
         let mut order: Vec<(usize, u32)> = Vec::new(alloc);
         for var in 0..self.facts.cnf().vars {
@@ -252,7 +252,7 @@ impl<'a> Reduction<'a> {
         Ok(is_any)
     }
 
-    /// Compares clauses and eliminates variables, until nothing more is found or it has been repeated often enough.
+    // Compares clauses and eliminates variables, until nothing more is found or it has been repeated often enough.
     fn run(&mut self, alloc: Global) -> Result<(), AllocError> {
         self.use_fresh(alloc)?;
         for _ in 0..ROUNDS {
@@ -264,7 +264,8 @@ impl<'a> Reduction<'a> {
     }
 }
 
-/// Fewer clauses over fewer variables, which can be satisfied where these can, and what is known with the steps for them.
+/// Fewer clauses over fewer variables, which can be satisfied where these can, and what is known with the steps for
+/// them.
 pub fn reduce<'a>(
     alloc: Global,
     facts: Facts<'a>,

@@ -1,4 +1,4 @@
-//! Resolution: of two clauses, one with a variable and one with its negation, all literals but these two.
+// Resolution: of two clauses, one with a variable and one with its negation, all literals but these two.
 
 use clause_check::Lit;
 use std::alloc::{AllocError, Global};

@@ -1,5 +1,5 @@
-//! The formula that the facts leave, over the variables that still stand in it. Each of its clauses is an input clause or a step
-//! over the input clauses, so a derivation from it goes on where the steps end.
+// The formula that the facts leave, over the variables that still stand in it. Each of its clauses is an input clause
+// or a step over the input clauses, so a derivation from it goes on where the steps end.
 
 use crate::aside::Aside;
 use crate::classes::{Class, Classes};
@@ -22,14 +22,14 @@ pub struct Smaller {
     asides: Vec<Aside>,
 }
 
-/// The variables and signs of a clause, in rising order.
+// The variables and signs of a clause, in rising order.
 fn sorted(alloc: Global, lits: &[Lit]) -> Result<Vec<(u32, bool)>, AllocError> {
     let mut pairs: Vec<(u32, bool)> = lits.iter().map(|l| (l.var, l.negative)).collect(alloc)?;
     pairs.sort()?;
     Ok(pairs)
 }
 
-/// The number of what is left of the input clause of this number.
+// The number of what is left of the input clause of this number.
 fn number_of(
     alloc: Global,
     facts: &mut Facts,
@@ -65,7 +65,7 @@ pub fn kept_clauses(
     Ok(Some(found))
 }
 
-/// The variables of these clauses in rising order.
+// The variables of these clauses in rising order.
 fn vars_of(alloc: Global, left: &[Kept], vars: u32) -> Result<Vec<u32>, AllocError> {
     let mut used = vec![in alloc; false; vars as usize]?;
     for clause in left {
@@ -84,7 +84,7 @@ fn vars_of(alloc: Global, left: &[Kept], vars: u32) -> Result<Vec<u32>, AllocErr
     Ok(found)
 }
 
-/// For each of so many variables its place among these, or 0.
+// For each of so many variables its place among these, or 0.
 fn places_of(alloc: Global, found: &[u32], vars: u32) -> Result<Vec<u32>, AllocError> {
     let mut places = vec![in alloc; 0; vars as usize]?;
     for (place, var) in found.iter().enumerate() {
@@ -95,7 +95,7 @@ fn places_of(alloc: Global, found: &[u32], vars: u32) -> Result<Vec<u32>, AllocE
     Ok(places)
 }
 
-/// The clause with each variable replaced by the one at its place.
+// The clause with each variable replaced by the one at its place.
 fn renamed(alloc: Global, lits: &[Lit], names: &[u32]) -> Result<Option<Clause>, AllocError> {
     let mut clause: Vec<Lit> = Vec::with_capacity(alloc, lits.len())?;
     for lit in lits {
@@ -139,7 +139,7 @@ pub fn shrink(alloc: Global, vars: u32, reduced: Reduced) -> Result<Option<Small
 }
 
 impl Smaller {
-    /// The number of the smaller formula's clause or step of this number, where its steps come after so many clauses.
+    // The number of the smaller formula's clause or step of this number, where its steps come after so many clauses.
     fn number(&self, number: u32, clauses: usize) -> Result<u32, AllocError> {
         let number = number as usize;
         match self.numbers.get(number) {

@@ -1,6 +1,7 @@
-//! Sweeps over the variables. In rising order each variable is read as a gate over variables before it, which are settled by
-//! then; a gate that was seen before is the same variable (structural hashing, as in AIGER and fraig packages). In falling order
-//! what outputs are known to be goes back to inputs. Both are repeated while they find something.
+// Sweeps over the variables. In rising order each variable is read as a gate over variables before it, which are
+// settled by then; a gate that was seen before is the same variable (structural hashing, as in AIGER and fraig
+// packages). In falling order what outputs are known to be goes back to inputs. Both are repeated while they find
+// something.
 
 use crate::classes::turned;
 use crate::facts::{Equality, Facts, Rest};
@@ -9,23 +10,23 @@ use clause_check::{Cnf, Lit, in_32_bits};
 use std::alloc::{AllocError, Global};
 use std::collections::HashMap;
 
-/// How often the sweeps are repeated at most.
+// How often the sweeps are repeated at most.
 const ROUNDS: u64 = 16;
 
-/// How many clauses of a variable are read as its gates at most.
+// How many clauses of a variable are read as its gates at most.
 const PARTS: usize = 16;
 
-/// An open clause: the last of its variables, and its number.
+// An open clause: the last of its variables, and its number.
 type Place = (u32, u32);
 
-/// A variable that is a gate: the literal that is equal to the table, and the clauses that say so.
+// A variable that is a gate: the literal that is equal to the table, and the clauses that say so.
 #[derive(Drop)]
 struct Output {
     lit: Lit,
     sources: Vec<u32>,
 }
 
-/// Sweeps over a formula.
+// Sweeps over a formula.
 #[derive(Drop)]
 struct Sweep<'a> {
     facts: Facts<'a>,
@@ -34,7 +35,7 @@ struct Sweep<'a> {
     gates: HashMap<Gate, Output>,
 }
 
-/// The inputs of these parts together, where they are few enough for a gate.
+// The inputs of these parts together, where they are few enough for a gate.
 fn inputs_of(alloc: Global, parts: &[Part], out: u32) -> Result<Option<Vec<u32>>, AllocError> {
     let mut inputs = Vec::new(alloc);
     for part in parts {
@@ -45,9 +46,9 @@ fn inputs_of(alloc: Global, parts: &[Part], out: u32) -> Result<Option<Vec<u32>>
     Ok(Some(inputs))
 }
 
-/// The sets of inputs over which the variable may be a gate: those of each two clauses that stand side by side, and then of each
-/// one. So what defines a variable, which comes first, is read before what says that it is equal to another one or its negation:
-/// if it is a gate that was seen before, a clause becomes false where the two don't fit.
+// The sets of inputs over which the variable may be a gate: those of each two clauses that stand side by side, and then
+// of each one. So what defines a variable, which comes first, is read before what says that it is equal to another one
+// or its negation: if it is a gate that was seen before, a clause becomes false where the two don't fit.
 fn choices(alloc: Global, parts: &[Part], out: u32) -> Result<Vec<Vec<u32>>, AllocError> {
     let mut found: Vec<Vec<u32>> = Vec::new(alloc);
     for size in [2, 1] {
@@ -62,12 +63,12 @@ fn choices(alloc: Global, parts: &[Part], out: u32) -> Result<Vec<Vec<u32>>, All
     Ok(found)
 }
 
-/// The last variable of a clause.
+// The last variable of a clause.
 fn last_var(lits: &[Lit]) -> u32 {
     lits.iter().map(|l| l.var).max().unwrap_or(0)
 }
 
-/// The numbers of the parts whose variables but this one are inputs.
+// The numbers of the parts whose variables but this one are inputs.
 fn sources_of(
     alloc: Global,
     parts: &[Part],
@@ -84,7 +85,7 @@ fn sources_of(
 }
 
 impl<'a> Sweep<'a> {
-    /// Nothing is known, and each clause is open.
+    // Nothing is known, and each clause is open.
     fn new(alloc: Global, cnf: &'a Cnf) -> Result<Sweep<'a>, AllocError> {
         let mut open: Vec<Place> = Vec::new(alloc);
         for number in 0..in_32_bits(cnf.clauses.len())? {
@@ -97,7 +98,7 @@ impl<'a> Sweep<'a> {
         })
     }
 
-    /// Reads each open clause: those that are left are sorted by their last variables.
+    // Reads each open clause: those that are left are sorted by their last variables.
     fn read(&mut self, alloc: Global) -> Result<(), AllocError> {
         for var in 0..self.facts.cnf().vars {
             self.facts.settle(alloc, var)?;
@@ -113,7 +114,7 @@ impl<'a> Sweep<'a> {
         Ok(())
     }
 
-    /// The clauses of this variable that are short enough for a gate, of the open ones from this place on.
+    // The clauses of this variable that are short enough for a gate, of the open ones from this place on.
     fn parts(&mut self, alloc: Global, out: u32, group: &[Place]) -> Result<Vec<Part>, AllocError> {
         let mut parts: Vec<Part> = Vec::new(alloc);
         for (_, number) in group {
@@ -130,7 +131,7 @@ impl<'a> Sweep<'a> {
         Ok(parts)
     }
 
-    /// Merges the variable with an earlier one that is the same gate, or else notes it.
+    // Merges the variable with an earlier one that is the same gate, or else notes it.
     fn share(
         &mut self,
         alloc: Global,
@@ -159,7 +160,7 @@ impl<'a> Sweep<'a> {
         Ok(())
     }
 
-    /// Makes known what the gate over these inputs says of the variable.
+    // Makes known what the gate over these inputs says of the variable.
     fn use_gate(
         &mut self,
         alloc: Global,
@@ -192,7 +193,7 @@ impl<'a> Sweep<'a> {
         }
     }
 
-    /// Reads the open clauses whose last variable is this one.
+    // Reads the open clauses whose last variable is this one.
     fn visit(&mut self, alloc: Global, out: u32, group: &[Place]) -> Result<(), AllocError> {
         let parts = self.parts(alloc, out, group)?;
         for inputs in choices(alloc, parts.as_slice(), out)? {
@@ -203,7 +204,7 @@ impl<'a> Sweep<'a> {
         Ok(())
     }
 
-    /// Goes over the variables in rising order.
+    // Goes over the variables in rising order.
     fn rise(&mut self, alloc: Global) -> Result<(), AllocError> {
         self.gates = HashMap::new(alloc);
         let open = std::mem::replace(&mut self.open, Vec::new(alloc));
@@ -219,7 +220,7 @@ impl<'a> Sweep<'a> {
         Ok(())
     }
 
-    /// Goes over the clauses in the falling order of their last variables.
+    // Goes over the clauses in the falling order of their last variables.
     fn fall(&mut self, alloc: Global) -> Result<(), AllocError> {
         let open = std::mem::replace(&mut self.open, Vec::new(alloc));
         for (_, number) in open.iter().rev() {
@@ -229,7 +230,7 @@ impl<'a> Sweep<'a> {
         Ok(())
     }
 
-    /// Reads the clauses and sweeps, until nothing more is found or the sweeps have been repeated often enough.
+    // Reads the clauses and sweeps, until nothing more is found or the sweeps have been repeated often enough.
     fn run(&mut self, alloc: Global) -> Result<(), AllocError> {
         for _ in 0..ROUNDS {
             self.read(alloc)?;

@@ -1,9 +1,9 @@
-//! Steps that the last one doesn't rest on are left out. Sweeps find more than a refutation needs, and so does a search.
+// Steps that the last one doesn't rest on are left out. Sweeps find more than a refutation needs, and so does a search.
 
 use clause_check::{Step, in_32_bits};
 use std::alloc::{AllocError, Global};
 
-/// Whether each step is the last one, or a hint of a step that is kept. There are so many input clauses.
+// Whether each step is the last one, or a hint of a step that is kept. There are so many input clauses.
 fn kept(alloc: Global, inputs: usize, steps: &[Step]) -> Result<Vec<bool>, AllocError> {
     let mut kept = vec![in alloc; false; steps.len()]?;
     if let Some(last) = kept.last_mut() {

@@ -7,12 +7,12 @@ use crate::numbers::in_32_bits;
 use std::alloc::{AllocError, Global};
 use std::marker::Model;
 
-/// Clauses one after another in one list of literals, so that a formula takes two pieces of memory and not one for each clause. Contracts see the
-/// list of the clauses.
+/// Clauses one after another in one list of literals, so that a formula takes two pieces of memory and not one for each
+/// clause. Contracts see the list of the clauses.
 #[derive(Debug, Drop)]
 pub struct Clauses {
     lits: Vec<Lit>,
-    /// Where each clause begins, and at last where the next one will.
+    // Where each clause begins, and at last where the next one will.
     bounds: Vec<u32>,
 }
 
@@ -28,7 +28,7 @@ impl Model for Clauses {
     ghost invariant = { λ c. IsCut c.lits.items c.bounds.items };
 }
 
-/// Puts literals behind the others, and the bound at which they end behind the others.
+// Puts literals behind the others, and the bound at which they end behind the others.
 fn add_part(lits: &mut Vec<Lit>, bounds: &mut Vec<u32>, part: &[Lit]) -> Result<(), AllocError>
     ensures lits { OnOk result (lits.new.items ≡ lits.old.items ++ part.now) }
     ensures bounds { OnOk result (bounds.new.items ≡ bounds.old.items ++ length lits.new.items ∷ []) }
@@ -45,7 +45,7 @@ fn add_part(lits: &mut Vec<Lit>, bounds: &mut Vec<u32>, part: &[Lit]) -> Result<
     Ok(())
 }
 
-/// Takes the last bound away, and the literals up to it from the one before on, where there are two.
+// Takes the last bound away, and the literals up to it from the one before on, where there are two.
 fn drop_part(lits: &mut Vec<Lit>, bounds: &mut Vec<u32>)
     ensures { IsPopped lits.old.items bounds.old.items lits.new.items bounds.new.items }
 {
@@ -56,7 +56,7 @@ fn drop_part(lits: &mut Vec<Lit>, bounds: &mut Vec<u32>)
     }
 }
 
-/// The literals from the bound of this number to the next.
+// The literals from the bound of this number to the next.
 fn part<'a>(lits: &'a [Lit], bounds: &[u32], number: usize) -> &'a [Lit]
     requires known { number + 1 < length bounds.now }
     requires ordered { slice_index_or bounds.now number 0 ≤ slice_index_or bounds.now (number + 1) 0 }
@@ -108,7 +108,7 @@ impl Clauses {
         }
     }
 
-    /// One more clause. Literals past the first 4,294,967,295 count as want of memory.
+    /// One more clause. Literals past the first 4,294,967,295 count as no memory.
     #[tactic(auto, using(crate::proofs::PartLemmas::cut_push, crate::proofs::PartLemmas::parts_push))]
     pub fn push(&mut self, clause: &[Lit]) -> Result<(), AllocError>
         requires { IsClause clause.now }

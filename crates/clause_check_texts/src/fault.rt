@@ -49,7 +49,7 @@ impl fmt::Display for ProofFault {
 
 impl Error for ProofFault {}
 
-/// A word and the number of a line.
+// A word and the number of a line.
 fn numbered(alloc: Global, word: &[u8], line: u64) -> Result<Text, AllocError>
     ensures { IfOk result (λ text. text ≡ word.now ++ decimal line) }
 {
@@ -58,7 +58,7 @@ fn numbered(alloc: Global, word: &[u8], line: u64) -> Result<Text, AllocError>
     Ok(Text::new(out))
 }
 
-/// The text of a fault: its name, with a line's number behind `Syntax` and `Unimplied`. Refused for want of memory alone.
+/// The text of a fault: its name, with a line's number behind `Syntax` and `Unimplied`.
 pub fn fault_text(alloc: Global, fault: &ProofFault) -> Result<Text, AllocError>
     ensures { IfOk result (λ text. text ≡ fault_text fault.now) }
 {

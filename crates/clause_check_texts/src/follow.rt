@@ -10,7 +10,7 @@ use crate::words::Number;
 use clause_check::{Cnf, Lit, Look, Step, clause_at, look_at};
 use std::alloc::{AllocError, Global};
 
-/// The literal of a number, which isn't 0, where it is of one of so many variables.
+// The literal of a number, which isn't 0, where it is of one of so many variables.
 fn lit_of(vars: u32, number: Number) -> Option<Lit>
     ensures { MatchOption result (vars ≤ (lit_of number).var) (λ l. (l ≡ lit_of number) × (l.var < vars)) }
 {
@@ -25,8 +25,8 @@ fn lit_of(vars: u32, number: Number) -> Option<Lit>
     }
 }
 
-/// Makes the literals false, each once, and lists what is true then. False where no clause with these literals stands among so many
-/// variables: one is of no variable, or a variable stands there with both signs.
+/// Makes the literals false, each once, and lists what is true then. False where no clause with these literals stands
+/// among so many variables: one is of no variable, or a variable stands there with both signs.
 pub fn assume(
     vars: u32,
     numbers: &[Number],
@@ -70,7 +70,7 @@ pub fn forget(known: &[Lit], values: &mut [Option<bool>])
     }
 }
 
-/// Whether an input clause or a step has this number.
+// Whether an input clause or a step has this number.
 fn is_number(cnf: &Cnf, steps: &[Step], number: u32) -> bool
     ensures { IsTrue result ↔ (number < length (clauses_of cnf.now.clauses steps.now)) }
 {
@@ -79,7 +79,7 @@ fn is_number(cnf: &Cnf, steps: &[Step], number: u32) -> bool
     number < inputs || number - inputs < steps.len()
 }
 
-/// The clause of this number, where there is one.
+// The clause of this number, where there is one.
 fn find_clause<'a>(cnf: &'a Cnf, steps: &'a [Step], number: u32) -> Option<&'a [Lit]>
     requires { All (λ s. IsInRange cnf.now.vars s.clause) steps.now }
     ensures { MatchOption result (length (clauses_of cnf.now.clauses steps.now) ≤ number)

@@ -15,7 +15,7 @@ pub(crate) fn push_number(alloc: Global, out: &mut Vec<u8>, number: u64) -> Resu
     out.extend_from_slice(text.as_bytes())
 }
 
-/// Adds the literal and a blank.
+// Adds the literal and a blank.
 fn push_lit(alloc: Global, out: &mut Vec<u8>, lit: Lit) -> Result<(), AllocError>
     ensures { OnOk result (out.new.items ≡ out.old.items ++ lit_word lit) }
 {
@@ -26,7 +26,7 @@ fn push_lit(alloc: Global, out: &mut Vec<u8>, lit: Lit) -> Result<(), AllocError
     out.extend_from_slice(b" ")
 }
 
-/// Adds the line of a clause.
+// Adds the line of a clause.
 fn push_clause(alloc: Global, out: &mut Vec<u8>, lits: &[Lit]) -> Result<(), AllocError>
     ensures { OnOk result (out.new.items ≡ out.old.items ++ clause_line lits.now) }
 {
@@ -36,7 +36,7 @@ fn push_clause(alloc: Global, out: &mut Vec<u8>, lits: &[Lit]) -> Result<(), All
     out.extend_from_slice(b"0\n")
 }
 
-/// Adds the line in front.
+// Adds the line in front.
 fn push_head(alloc: Global, out: &mut Vec<u8>, cnf: &Cnf) -> Result<(), AllocError>
     ensures { OnOk result (out.new.items ≡ out.old.items ++ head_line cnf.now) }
 {
@@ -47,9 +47,9 @@ fn push_head(alloc: Global, out: &mut Vec<u8>, cnf: &Cnf) -> Result<(), AllocErr
     out.extend_from_slice(b"\n")
 }
 
-/// The formula in DIMACS, as the solvers of the SAT competitions read it: the line `p cnf V C` with the numbers of variables and
-/// of clauses, and a line for each clause with its literals and a 0, with one blank between words. Variable v is written as v + 1,
-/// with a minus in front where it is negative. Each line ends in a line feed. Refused for want of memory alone.
+/// The formula in DIMACS, as the solvers of the SAT competitions read it: the line `p cnf V C` with the numbers of
+/// variables and of clauses, and a line for each clause with its literals and a 0, with one blank between words.
+/// Variable v is written as v + 1, with a minus in front where it is negative. Each line ends in a line feed.
 pub fn dimacs(alloc: Global, cnf: &Cnf) -> Result<Text, AllocError>
     ensures { IfOk result (λ text. text ≡ dimacs cnf.now) }
 {

@@ -7,7 +7,7 @@ use crate::words::Number;
 use clause_check::in_32_bits;
 use std::alloc::{AllocError, Global};
 
-/// The place of an ID among those of the steps, or else how many there are.
+// The place of an ID among those of the steps, or else how many there are.
 fn place_of(ids: &[u64], id: u64) -> usize
     requires { AllPairs (λ a b. a < b) ids.now }
     ensures { result ≡ place_of ids.now id }
@@ -18,7 +18,7 @@ fn place_of(ids: &[u64], id: u64) -> usize
     }
 }
 
-/// The number of the clause that a hint names, or else how many there are.
+// The number of the clause that a hint names, or else how many there are.
 fn clause_number(inputs: usize, ids: &[u64], hint: Number) -> usize
     requires rising { AllPairs (λ a b. a < b) ids.now }
     requires room { inputs + length ids.now < 2 ^ 64 }

@@ -30,7 +30,7 @@ fn is_zero(number: Number) -> bool
     number.size == 0
 }
 
-/// How many numbers stand before the first 0.
+// How many numbers stand before the first 0.
 fn count_before_zero(numbers: &[Number]) -> usize
     ensures { result ≡ position_or_len is_zero numbers.now }
 {
@@ -42,7 +42,7 @@ fn count_before_zero(numbers: &[Number]) -> usize
     numbers.len()
 }
 
-/// Whether the numbers end in the first 0 among them.
+// Whether the numbers end in the first 0 among them.
 fn are_ended(numbers: &[Number]) -> bool
     ensures { result ≡ are_ended numbers.now }
 {
@@ -53,7 +53,7 @@ fn are_ended(numbers: &[Number]) -> bool
     count + 1 == numbers.len()
 }
 
-/// The numbers that the words of a text are.
+// The numbers that the words of a text are.
 fn numbers_of(alloc: Global, text: &[u8]) -> Result<Option<Vec<Number>>, AllocError>
     ensures { IfOk result (λ read. option_map (λ v. v.items) read ≡ numbers_of (words text.now)) }
 {
@@ -69,14 +69,14 @@ fn numbers_of(alloc: Global, text: &[u8]) -> Result<Option<Vec<Number>>, AllocEr
     Ok(Some(numbers))
 }
 
-/// Whether no number is negative.
+// Whether no number is negative.
 fn are_positive(numbers: &[Number]) -> bool
     ensures { result ≡ list_all (λ n. not n.negative) numbers.now }
 {
     numbers.iter().all(|n| !n.negative)
 }
 
-/// The deletion whose IDs stand behind its `d`.
+// The deletion whose IDs stand behind its `d`.
 fn deletion_of(numbers: &[Number]) -> Option<Entry>
     ensures { option_map content result ≡ deletion_of numbers.now }
 {
@@ -87,7 +87,7 @@ fn deletion_of(numbers: &[Number]) -> Option<Entry>
     }
 }
 
-/// The step with this ID whose literals and hints are these numbers.
+// The step with this ID whose literals and hints are these numbers.
 fn addition_of(alloc: Global, id: u64, numbers: &[Number]) -> Result<Option<Entry>, AllocError>
     ensures { IfOk result (λ read. option_map content read ≡ addition_of id numbers.now) }
 {
@@ -113,7 +113,7 @@ fn is_delete(word: &[u8]) -> bool
     }
 }
 
-/// What a line says whose first word is this ID.
+// What a line says whose first word is this ID.
 fn rest_of(alloc: Global, id: u64, rest: &[u8]) -> Result<Option<Entry>, AllocError>
     ensures { IfOk result (λ read. option_map content read ≡ rest_of id (words rest.now)) }
 {

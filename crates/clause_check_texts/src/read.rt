@@ -46,7 +46,7 @@ impl From<AllocError> for LineFault {
 }
 
 impl LineFault {
-    /// The fault of the line of this number.
+    // The fault of the line of this number.
     fn at(self, line: u64) -> ProofFault
         ensures { result ≡ fault_at line self }
     {
@@ -58,7 +58,7 @@ impl LineFault {
     }
 }
 
-/// The clause of the literals that aren't known.
+// The clause of the literals that aren't known.
 fn clause_of(alloc: Global, known: &[Lit]) -> Result<Clause, AllocError>
     requires { IsClause (map negated known.now) }
     ensures { IfOk result (λ clause. clause ≡ map negated known.now) }
@@ -70,7 +70,7 @@ fn clause_of(alloc: Global, known: &[Lit]) -> Result<Clause, AllocError>
     Ok(Clause::new(lits))
 }
 
-/// The step that a line adds, where one follows.
+// The step that a line adds, where one follows.
 fn step_of(
     alloc: Global,
     cnf: &Cnf,
@@ -118,7 +118,7 @@ fn step_of(
     }
 }
 
-/// The last ID.
+// The last ID.
 fn last_id(cnf: &Cnf, ids: &[u64]) -> u64
     ensures { result ≡ last_id (length cnf.now.clauses) ids.now }
 {
@@ -128,7 +128,7 @@ fn last_id(cnf: &Cnf, ids: &[u64]) -> u64
     }
 }
 
-/// Adds a step behind the others.
+// Adds a step behind the others.
 fn keep(past: &mut Past, id: u64, step: Step) -> Result<(), AllocError>
     ensures ids { OnOk result (past.new.ids.items ≡ past.old.ids.items ++ id ∷ []) }
     ensures steps { OnOk result (past.new.steps.items ≡ past.old.steps.items ++ step ∷ []) }
@@ -138,7 +138,7 @@ fn keep(past: &mut Past, id: u64, step: Step) -> Result<(), AllocError>
     Ok(())
 }
 
-/// Takes the step of a line. The answer is whether it has the empty clause.
+// Takes the step of a line. The answer is whether it has the empty clause.
 fn take_step(
     alloc: Global,
     cnf: &Cnf,
@@ -163,7 +163,7 @@ fn take_step(
     Ok(closed)
 }
 
-/// Reads a line. The answer is whether it adds the empty clause.
+// Reads a line. The answer is whether it adds the empty clause.
 fn read_line(
     alloc: Global,
     cnf: &Cnf,
@@ -190,7 +190,7 @@ fn read_line(
     }
 }
 
-/// The steps of a text that isn't too long.
+// The steps of a text that isn't too long.
 fn read_lines(
     alloc: Global,
     cnf: &Cnf,
@@ -222,18 +222,20 @@ fn read_lines(
     Err(ProofFault::Open)
 }
 
-/// The steps of a text of LRAT, up to the first that has the empty clause: a refutation of the formula, whoever wrote the text.
+/// The steps of a text of LRAT, up to the first that has the empty clause: a refutation of the formula, whoever wrote
+/// the text.
 ///
-/// The text is lines between line feeds, and a line is words between blanks (spaces, tabs and carriage returns). Lines with no word
-/// and lines that begin with `c` are skipped. A step is `ID LIT.. 0 HINT.. 0`, and a deletion `ID d ID.. 0`, which is skipped as
-/// well: later hints may still name the clause. Numbers are decimal and below 2^60. The input clauses have the IDs from 1, and
-/// the ID of a step is above all before it. A step has each literal once, and its hints up to the first whose clause is false.
+/// The text is lines between line feeds, and a line is words between blanks (spaces, tabs and carriage returns). Lines
+/// with no word and lines that begin with `c` are skipped. A step is `ID LIT.. 0 HINT.. 0`, and a deletion `ID d ID..
+/// 0`, which is skipped as well: later hints may still name the clause. Numbers are decimal and below 2^60. The input
+/// clauses have the IDs from 1, and the ID of a step is above all before it. A step has each literal once, and its
+/// hints up to the first whose clause is false.
 ///
-/// It takes time linear in the text and in the literals of the clauses that hints name, and for each hint the logarithm of the number
-/// of steps. `Long`: the text has more than 67,108,864 bytes. `Syntax` and `Unimplied` name the first line that is refused: it
-/// is no line of LRAT, or no step with its literals and the first of its hints follows, as where a hint is negative or names no
-/// clause, where a variable isn't one of the formula's, or stands there with both signs. `Open`: the text ends before the empty
-/// clause. `Memory` can come at any of them.
+/// It takes time linear in the text and in the literals of the clauses that hints name, and for each hint the logarithm
+/// of the number of steps. `Long`: the text has more than 67,108,864 bytes. `Syntax` and `Unimplied` name the first
+/// line that is refused: it is no line of LRAT, or no step with its literals and the first of its hints follows, as
+/// where a hint is negative or names no clause, where a variable isn't one of the formula's, or stands there with both
+/// signs. `Open`: the text ends before the empty clause. `Memory` can come at any of them.
 pub fn read_proof(alloc: Global, cnf: &Cnf, text: &[u8]) -> Result<Vec<Step>, ProofFault>
     ensures ok { IfOk result (λ steps. IsRefutation cnf.now steps.items) }
     ensures read { IfOk result (λ steps. IsReadOf cnf.now text.now steps.items) }

@@ -26,7 +26,7 @@ pub struct Word<'a> {
     pub rest: &'a [u8],
 }
 
-/// How many bytes stand before the first line feed.
+// How many bytes stand before the first line feed.
 fn line_len(bytes: &[u8]) -> usize
     ensures { result ≡ position_or_len is_end bytes.now }
 {
@@ -62,7 +62,7 @@ fn is_blank(byte: u8) -> bool
     byte == b' ' || byte == b'\t' || byte == b'\r'
 }
 
-/// How many blanks stand in front.
+// How many blanks stand in front.
 fn blanks_len(bytes: &[u8]) -> usize
     ensures { result ≡ prefix_len is_blank bytes.now }
 {
@@ -74,7 +74,7 @@ fn blanks_len(bytes: &[u8]) -> usize
     bytes.len()
 }
 
-/// How many bytes stand before the first blank.
+// How many bytes stand before the first blank.
 fn word_len(bytes: &[u8]) -> usize
     ensures { result ≡ position_or_len is_blank bytes.now }
 {

@@ -1,4 +1,4 @@
-//! The variables of words.
+// The variables of words.
 ghost use Rattle.std.specs.Prelude.{◌≡◌, ◌≤◌, ◌<◌, ◌+◌, ◌^◌, ◌++◌, length, IfOk, OnOk};
 ghost use Rattle.std.specs.List.{All};
 ghost use Rattle.cnf_build.specs.Lower.{vars as vars_of, free_vars};

@@ -1,4 +1,4 @@
-//! The clauses of an obligation.
+// The clauses of an obligation.
 ghost use Rattle.std.specs.Prelude.{◌≡◌, [], length, IfOk};
 ghost use Rattle.std.specs.List.{All};
 ghost use Rattle.word_dag.specs.Nodes.{FitFrom};
@@ -52,11 +52,11 @@ pub struct Built {
 
 /// The clauses of an obligation, which are satisfiable exactly where values of its free nodes make its root 1.
 ///
-/// They depend on the nodes and the root alone. Variable 0 is true by the first clause; then come the nodes in number order, the
-/// bits of each from the lowest. A bit of a free word is a new variable and a bit of a constant is variable 0 or its negation;
-/// the other nodes rearrange literals or add gates. A gate takes a new variable and the clauses that define it (G. S. Tseitin,
-/// On the complexity of derivation in propositional calculus, 1968). The last clause is the root's bit. A literal stands once in
-/// a clause, and a clause with a literal and its negation is left out. It is refused for want of memory alone.
+/// They depend on the nodes and the root alone. Variable 0 is true by the first clause; then come the nodes in number
+/// order, the bits of each from the lowest. A bit of a free word is a new variable and a bit of a constant is variable
+/// 0 or its negation; the other nodes rearrange literals or add gates. A gate takes a new variable and the clauses that
+/// define it (G. S. Tseitin, On the complexity of derivation in propositional calculus, 1968). The last clause is the
+/// root's bit. A literal stands once in a clause, and a clause with a literal and its negation is left out.
 pub fn build(alloc: Global, ob: &Ob) -> Result<Built, AllocError>
     ensures clauses { IfOk result (λ b. b.cnf.clauses ≡ ob_clauses ob.now.nodes ob.now.root) }
     ensures vars { IfOk result (λ b. b.cnf.vars ≡ length (netlist ob.now.nodes)) }
@@ -76,8 +76,8 @@ pub fn build(alloc: Global, ob: &Ob) -> Result<Built, AllocError>
 }
 
 impl Built {
-    /// The number that an assignment that holds has in each list of bits. For the answer of `build` these are values of the free
-    /// nodes at which the root is 1.
+    /// The number that an assignment that holds has in each list of bits. For the answer of `build` these are values of
+    /// the free nodes at which the root is 1.
     pub fn values(&self, alloc: Global, assignment: &[bool]) -> Result<Vec<u64>, AllocError>
         requires { Holds self.now.cnf assignment.now }
         ensures { IfOk result (λ us. us.items ≡ read_words (at assignment.now) self.now.bits.items) }

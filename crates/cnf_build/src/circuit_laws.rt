@@ -1,4 +1,4 @@
-//! The laws of the circuits, each the contract of an empty function.
+// The laws of the circuits, each the contract of an empty function.
 ghost use Rattle.cnf_build.specs.CircuitLaws.{AdderAdds, RowLaws, MoveLaws, ShiftLaws, CompareLaws, WireLaws, ProductSound, ClausesRun, RunExists};
 
 /// An adder adds.

@@ -1,4 +1,4 @@
-//! The circuits of the operations on words. A word is the list of its literals, from the lowest bit.
+// The circuits of the operations on words. A word is the list of its literals, from the lowest bit.
 ghost use Rattle.std.specs.Prelude.{◌≡◌, ◌≤◌, ◌++◌, length, IfOk, map, replicate};
 ghost use Rattle.clause_check.specs.Clauses.{negated};
 ghost use Rattle.cnf_build.specs.Circuits.{zip_gates, row, add_bit_gates, adder, subtractor, equal_from, shifter, product_from, true_lit as true_spec, false_lit as false_spec};
@@ -9,8 +9,8 @@ use crate::tidy::{negative, positive};
 use clause_check::Lit;
 use std::alloc::{AllocError, Global};
 
-/// What a gate for each bit of two words computes: and, the and of the negations, exclusive or, or the first word's bit where the
-/// literal is true and else the second's.
+/// What a gate for each bit of two words computes: and, the and of the negations, exclusive or, or the first word's bit
+/// where the literal is true and else the second's.
 #[derive(Clone, Copy, Debug)]
 pub enum Bitwise {
     Both,
@@ -77,8 +77,8 @@ fn add_bit(gates: &mut Vec<Gate>, carry: Lit, a: Lit, b: Lit) -> Result<(Lit, Li
     Ok((sum, none.negated()))
 }
 
-/// The sum of two words of one width and a carry that comes in: for each bit x = a xor b, the sum x xor carry, and the next carry
-/// (a and b) or (x and carry).
+/// The sum of two words of one width and a carry that comes in: for each bit x = a xor b, the sum x xor carry, and the
+/// next carry (a and b) or (x and carry).
 pub fn add(
     alloc: Global,
     gates: &mut Vec<Gate>,
@@ -113,8 +113,8 @@ pub fn false_lit() -> Lit
     negative(0)
 }
 
-/// The difference of two words of one width: the first plus the negation of the second plus 1. No carry goes out where it is
-/// negative.
+/// The difference of two words of one width: the first plus the negation of the second plus 1. No carry goes out where
+/// it is negative.
 pub fn subtract(
     alloc: Global,
     gates: &mut Vec<Gate>,
@@ -173,8 +173,8 @@ pub fn moved(
     }
 }
 
-/// A word moved by a word: for each bit j of the second word from the lowest, a choice between the word moved by 2^j bits and the
-/// word.
+/// A word moved by a word: for each bit j of the second word from the lowest, a choice between the word moved by 2^j
+/// bits and the word.
 pub fn shift(
     alloc: Global,
     gates: &mut Vec<Gate>,
@@ -210,8 +210,8 @@ fn add_part(
     Ok(added.lits)
 }
 
-/// The product of two words, as wide as the first: from zero, for each bit of the second word from the lowest, the sum so far plus
-/// the first word moved up to that bit with each of its bits and-ed with it.
+/// The product of two words, as wide as the first: from zero, for each bit of the second word from the lowest, the sum
+/// so far plus the first word moved up to that bit with each of its bits and-ed with it.
 pub fn multiply(
     alloc: Global,
     gates: &mut Vec<Gate>,

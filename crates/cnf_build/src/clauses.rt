@@ -1,4 +1,4 @@
-//! The clauses of a netlist.
+// The clauses of a netlist.
 ghost use Rattle.std.specs.Prelude.{◌≡◌, ◌++◌, IfOk, OnOk};
 ghost use Rattle.std.specs.Option.{option_to_list};
 ghost use Rattle.cnf_build.specs.Literals.{tidy, tidied};
@@ -8,7 +8,8 @@ use crate::{Gate, is_tidy, negative, positive, tidy_clause};
 use clause_check::{Clauses, Lit, in_32_bits};
 use std::alloc::{AllocError, Global};
 
-/// Adds the clause of these literals, unless it holds in any case. Most are a clause as they stand, which is added without a copy.
+/// Adds the clause of these literals, unless it holds in any case. Most are a clause as they stand, which is added
+/// without a copy.
 pub fn add_clause(alloc: Global, clauses: &mut Clauses, lits: &[Lit]) -> Result<(), AllocError>
     ensures { OnOk result (clauses.new ≡ clauses.old ++ option_to_list (tidy lits.now)) }
 {

@@ -1,4 +1,4 @@
-//! What circuits and clauses are.
+// What circuits and clauses are.
 ghost use Rattle.cnf_build.specs.Examples.{ExampleClauses};
 ghost use Rattle.cnf_build.specs.Meaning.{OpsDenote};
 

@@ -1,4 +1,4 @@
-//! The circuits of nodes.
+// The circuits of nodes.
 ghost use Rattle.std.specs.Prelude.{◌≡◌, ◌≤◌, ◌<◌, ◌+◌, ◌-◌, ◌++◌, ◌%◌, ◌==◌, if◌then◌else◌, length, take, drop, map, replicate, IfOk};
 ghost use Rattle.cnf_build.specs.declared.gates.Gate.TheVariants.{Free};
 ghost use Rattle.cnf_build.specs.Circuits.{row, const_lits, true_lit as true_spec, false_lit as false_spec};

@@ -1,4 +1,4 @@
-//! The circuits of operations.
+// The circuits of operations.
 ghost use Rattle.std.specs.Prelude.{◌≡◌, ◌≤◌, ◌++◌, ◌∷◌, [], length, IfOk};
 ghost use Rattle.cnf_build.specs.Circuits.{top_of, top_turned, or_made};
 ghost use Rattle.cnf_build.specs.Building.{Makes};

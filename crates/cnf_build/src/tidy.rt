@@ -1,4 +1,4 @@
-//! Clauses with each literal once.
+// Clauses with each literal once.
 ghost use Rattle.std.specs.Prelude.{◌≡◌, ◌≢◌, ◌↔◌, true, All, IfOk, IsTrue, Some};
 ghost use Rattle.clause_check.specs.Clauses.{IsClause};
 ghost use Rattle.cnf_build.specs.Literals.{plus, minus, same_lit, has_lit, tidy};
@@ -50,7 +50,8 @@ fn lacks(lits: &[Lit], var: u32) -> bool
     lits.iter().all(|l| l.var != var)
 }
 
-/// Whether these literals are a clause as they stand, since no variable stands twice. They should be few: the rest is gone through for each.
+/// Whether these literals are a clause as they stand, since no variable stands twice. They should be few: the rest is
+/// gone through for each.
 #[tactic(auto, using(crate::proofs::Whole::tidy_whole))]
 pub fn is_tidy(lits: &[Lit]) -> bool
     ensures clause { IsTrue result ↔ IsClause lits.now }
@@ -62,8 +63,8 @@ pub fn is_tidy(lits: &[Lit]) -> bool
     }
 }
 
-/// The clause of these literals, each once and in the order of their first places, or none where a literal stands beside its
-/// negation, so that the clause holds in any case. It is refused for want of memory alone.
+/// The clause of these literals, each once and in the order of their first places, or none where a literal stands
+/// beside its negation, so that the clause holds in any case.
 pub fn tidy_clause(alloc: Global, lits: &[Lit]) -> Result<Option<Clause>, AllocError>
     ensures { IfOk result (λ o. o ≡ tidy lits.now) }
 {

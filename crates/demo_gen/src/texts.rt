@@ -6,8 +6,8 @@ use crate::parts::{add_covers, add_number, add_registers, add_silence, add_steps
 use outside::Text;
 use std::alloc::{AllocError, Global};
 
-/// The text of a module: a chain of 1 to 64 stages, each with a valid bit that reset clears and 8 data bits that it leaves. Refused only for
-/// want of memory.
+/// The text of a module: a chain of 1 to 64 stages, each with a valid bit that reset clears and 8 data bits that it
+/// leaves.
 pub fn module_text(alloc: Global, stages: u32) -> Result<Text, AllocError>
     requires some { 1 ≤ stages }
     requires most { stages ≤ 64 }
@@ -53,8 +53,8 @@ fn add_pass(alloc: Global, out: &mut Vec<u8>, stages: u32) -> Result<(), AllocEr
     Ok(())
 }
 
-/// The text of the set of properties of such a chain: after reset nothing valid comes out for so many cycles, and what goes in comes out so many
-/// cycles later. Refused only for want of memory.
+/// The text of the set of properties of such a chain: after reset nothing valid comes out for so many cycles, and what
+/// goes in comes out so many cycles later.
 pub fn set_text(alloc: Global, stages: u32) -> Result<Text, AllocError>
     requires some { 1 ≤ stages }
     requires most { stages ≤ 64 }

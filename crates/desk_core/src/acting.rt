@@ -107,15 +107,16 @@ impl<'a, 'k, 'h, 'b, R: Threads + Sync, K: Keeper, H: Helper, G: Gate + Sync> Ch
 
     /// Carries out a command at the desk, which a keeper holds: blocks by their names, proofs, and sign-offs.
     ///
-    /// A text is put if it is read, at most 1,048,576 bytes long; one that differs from the block's takes its report and traces away. A check empties
-    /// the book, decides all lines of the block's two texts over the keeper's proofs, and puts the report and the traces of its refuted lines; the book
-    /// then has its lines. A block is signed off where its report's last line is `signed off`; the same two texts of a block have one number, also when
-    /// they are signed again. Whoever begins with a desk whose reports are of its texts ends with one: so a number means that the block's texts were
-    /// signed off.
+    /// A text is put if it is read, at most 1,048,576 bytes long; one that differs from the block's takes its report
+    /// and traces away. A check empties the book, decides all lines of the block's two texts over the keeper's proofs,
+    /// and puts the report and the traces of its refuted lines; the book then has its lines. A block is signed off
+    /// where its report's last line is `signed off`; the same two texts of a block have one number, also when they are
+    /// signed again. Whoever begins with a desk whose reports are of its texts ends with one: so a number means that
+    /// the block's texts were signed off.
     ///
-    /// It is refused with `Keeper` only where the keeper's count of faults rose in this call, or stands at its last value, and with `Memory` for want of
-    /// memory alone. Then blocks and sign-offs are as before, proofs that differ are of obligations of the checked texts, and the book is empty or as
-    /// before.
+    /// It is refused with `Keeper` only where the keeper's count of faults rose in this call, or stands at its last
+    /// value, and with `Memory` where memory runs out. Then blocks and sign-offs are as before, proofs that differ are
+    /// of obligations of the checked texts, and the book is empty or as before.
     pub fn act(&mut self, command: &Command) -> Result<Answer, DeskFault>
         ensures step { IfOk result (λ answer. Does command.now answer (state K.tables H.asked self.old) (state K.tables H.asked self.new)) }
         ensures left { OnErr result (Told (Leaves command.now) (kept_by K.tables self.old.prover) (kept_by K.tables self.new.prover)) }

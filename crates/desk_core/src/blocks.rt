@@ -28,8 +28,8 @@ fn refused(alloc: Global, fault: &CheckFault) -> Result<Answer, StoreFault>
     }
 }
 
-/// The answer where a text is refused. Refused itself where the keeper failed or memory ran out. The fault is dropped by a call, since a proof would
-/// write out the drop of a set's trees at each exit.
+/// The answer where a text is refused. Refused itself where the keeper failed or memory ran out. The fault is dropped
+/// by a call, since a proof would write out the drop of a set's trees at each exit.
 pub fn refused_by(alloc: Global, fault: CheckFault) -> Result<Answer, StoreFault>
     requires { fault ≢ CheckFault.NoLine }
     ensures line { IfOk result (IsRefusal fault) }

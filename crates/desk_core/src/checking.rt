@@ -38,9 +38,10 @@ impl<'a, 'k, 'h, 'b, R: Threads + Sync, K: Keeper, H: Helper, G: Gate + Sync> Ch
     H,
     G,
 > {
-    /// Checks a set that is bound to a design: empties the book, decides the lines that are asked for, puts them into the book, and gives their report.
-    /// Refused where no line has the name that was asked for, where the keeper failed in this call, and for want of memory; then the book is empty.
-    /// Whatever is answered, each proof of the keeper that differs from before is one of an obligation of these lines, under its text.
+    /// Checks a set that is bound to a design: empties the book, decides the lines that are asked for, puts them into
+    /// the book, and gives their report. Refused where no line has the name that was asked for, where the keeper failed
+    /// in this call, or where memory runs out; then the book is empty. Whatever is answered, each proof of the keeper
+    /// that differs from before is one of an obligation of these lines, under its text.
     #[tactic(auto, using(crate::proofs::Checked::none_falls))]
     pub fn check_bound(&mut self, bound: &Bound, which: &Which) -> Result<Report, CheckFault>
         ensures lines { IfOk result (λ _. AreDecided self.old.prover.settings.budget bound.now which.now self.new.book.now.lines.items) }
@@ -66,13 +67,14 @@ impl<'a, 'k, 'h, 'b, R: Threads + Sync, K: Keeper, H: Helper, G: Gate + Sync> Ch
         }
     }
 
-    /// Checks a module text with a set's text: empties the book, decides the lines that are asked for, puts them into the book, and gives their
-    /// report. Where the least counterexample is asked for and the line is refuted, its values and its trace are the least ones, with what shows that
-    /// none are smaller, or where the budget was spent on a bit. Where the report is complete, the block is signed off: every constrained run of the
-    /// modules from reset satisfies the set and walks along its operations, and the set fixes its outputs wherever it claims them. A refusal names the
-    /// first stage that refuses, or says that no line has the name that was asked for, that the keeper failed in this call, or that memory ran out; it
-    /// leaves the book empty. Whatever is answered, each proof of the keeper that differs from before is one of an obligation of these lines, under its
-    /// text.
+    /// Checks a module text with a set's text: empties the book, decides the lines that are asked for, puts them into
+    /// the book, and gives their report. Where the least counterexample is asked for and the line is refuted, its
+    /// values and its trace are the least ones, with what shows that none are smaller, or where the budget was spent on
+    /// a bit. Where the report is complete, the block is signed off: every constrained run of the modules from reset
+    /// satisfies the set and walks along its operations, and the set fixes its outputs wherever it claims them. A
+    /// refusal names the first stage that refuses, or says that no line has the name that was asked for, that the
+    /// keeper failed in this call, or that memory ran out; it leaves the book empty. Whatever is answered, each proof
+    /// of the keeper that differs from before is one of an obligation of these lines, under its text.
     #[tactic(auto, using(crate::proofs::Checked::none_falls))]
     pub fn check(&mut self, module: &[u8], set: &[u8], which: &Which) -> Result<Report, CheckFault>
         ensures report { IfOk result (IsReport «module».now set.now which.now self.old.prover.settings.budget self.new.book.now.lines.items) }

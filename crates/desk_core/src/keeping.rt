@@ -114,7 +114,8 @@ impl<'a, 'k, 'h, 'b, R: Threads + Sync, K: Keeper, H: Helper, G: Gate + Sync> Ch
         answer
     }
 
-    /// Puts the report of a check and the traces of the book's lines to the block; where that fails, the book is emptied.
+    /// Puts the report of a check and the traces of the book's lines to the block; where that fails, the book is
+    /// emptied.
     pub(crate) fn put_checked(
         &mut self,
         name: &[u8],

@@ -1,5 +1,5 @@
-//! The check of a module text with a set's text: which lines its report has, how each was decided, and what the report says of the modules. And the desk
-//! that holds such texts, their reports and sign-offs.
+//! The check of a module text with a set's text: which lines its report has, how each was decided, and what the report
+//! says of the modules. And the desk that holds such texts, their reports and sign-offs.
 #![tactic(auto)]
 
 mod acting;

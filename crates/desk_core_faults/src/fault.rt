@@ -98,7 +98,7 @@ pub enum CheckFault {
     NoLine,
     /// The keeper of proofs failed.
     Keeper,
-    /// Want of memory.
+    /// Out of memory.
     Memory,
 }
 

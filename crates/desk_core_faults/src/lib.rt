@@ -1,5 +1,5 @@
-//! Why a check refuses two texts, and how refusals are written: the name of a fault, and then what it is about, each behind
-//! a space.
+//! Why a check refuses two texts, and how refusals are written: the name of a fault, and then what it is about, each
+//! behind a space.
 #![tactic(auto)]
 
 mod designs;

@@ -10,8 +10,8 @@ use outside::Text;
 use std::alloc::Global;
 use unroll_binding::Bound;
 
-/// The clauses of the obligation of the line of this name, in DIMACS: an assignment that holds refutes the line, and where there is none the line is proved.
-/// Refused where the set's report has no such line, and for want of memory.
+/// The clauses of the obligation of the line of this name, in DIMACS: an assignment that holds refutes the line, and
+/// where there is none the line is proved. Refused where the set's report has no such line, or where memory runs out.
 pub fn clauses_text(alloc: Global, bound: &Bound, name: &Text) -> Result<Text, LineFault>
     ensures ok { IfOk result (IsClausesText bound.now name.now) }
     ensures err { IfErr result (LacksName bound.now.set name.now) }

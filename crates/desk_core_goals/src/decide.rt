@@ -58,10 +58,10 @@ fn lines_of(
     Ok(lines)
 }
 
-/// Decides the lines that are asked for: whether something on the design, or in windows, violates the line; a refuted line has a counterexample,
-/// which is the least one where that is asked for and the budget lasts for each bit.
-/// Refused where no line of the set's report has the name that was asked for, where the keeper failed in this call, and for want of memory. Then each
-/// proof of the keeper that differs from before is one of an obligation of these lines.
+/// Decides the lines that are asked for: whether something on the design, or in windows, violates the line; a refuted
+/// line has a counterexample, which is the least one where that is asked for and the budget lasts for each bit. Refused
+/// where no line of the set's report has the name that was asked for, where the keeper failed in this call, or where
+/// memory runs out. Then each proof of the keeper that differs from before is one of an obligation of these lines.
 pub fn decide_lines<R: Threads + Sync, K: Keeper, H: Helper, G: Gate + Sync>(
     prover: &mut Prover<'_, '_, '_, R, K, H, G>,
     bound: &Bound,

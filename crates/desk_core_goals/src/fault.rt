@@ -15,7 +15,7 @@ pub enum LineFault {
     NoLine,
     /// The keeper of proofs failed.
     Keeper,
-    /// Want of memory.
+    /// Out of memory.
     Memory,
 }
 

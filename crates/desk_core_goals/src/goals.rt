@@ -58,7 +58,7 @@ fn set_lines(alloc: Global, bound: &Bound) -> Result<Vec<Line>, AllocError>
     told_of_set(alloc, lines.as_slice())
 }
 
-/// All lines, in the order of a report. Refused for want of memory alone.
+/// All lines, in the order of a report.
 pub fn all_lines(alloc: Global, bound: &Bound) -> Result<Vec<Line>, AllocError>
     ensures { IfOk result (λ lines. lines.items ≡ all_lines bound.now.set) }
 {
@@ -113,7 +113,7 @@ fn has_name(alloc: Global, set: &Set, line: Line, name: &[u8]) -> Result<bool, A
     Ok(own.bytes() == name)
 }
 
-/// A goal alone. Refused for want of memory alone.
+/// A goal alone.
 pub fn only<L: Drop>(alloc: Global, goal: Goal<L>) -> Result<Vec<Goal<L>>, AllocError>
     ensures { IfOk result (λ goals. goals.items ≡ goal ∷ []) }
 {
@@ -139,8 +139,8 @@ fn number_of(
     Ok(None)
 }
 
-/// The goal of the line of this name: its obligation is the one that the goals of all lines have, node by node, and no other line's is made. Refused
-/// where the set's report has no such line, and for want of memory.
+/// The goal of the line of this name: its obligation is the one that the goals of all lines have, node by node, and no
+/// other line's is made. Refused where the set's report has no such line, or where memory runs out.
 pub fn goal_named(alloc: Global, bound: &Bound, name: &Text) -> Result<Goal<Line>, LineFault>
     ensures ok { IfOk result (IsGoalNamed bound.now name.now) }
     ensures err { IfErr result (LacksName bound.now.set name.now) }

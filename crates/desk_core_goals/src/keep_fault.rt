@@ -21,7 +21,7 @@ pub enum KeepFault {
     Large,
     /// The keeper of proofs failed.
     Keeper,
-    /// Want of memory.
+    /// Out of memory.
     Memory,
 }
 

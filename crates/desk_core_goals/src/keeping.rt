@@ -34,9 +34,10 @@ fn proved_goal(
     })
 }
 
-/// Keeps the derivation that a text has of the clauses of the line of this name, which the checker accepts: it is put under the text of the line's
-/// obligation. Refused where the set's report has no such line, where the text has no such derivation, where it is too long to be kept, where the keeper
-/// failed in this call, and for want of memory; then nothing is new at the keeper.
+/// Keeps the derivation that a text has of the clauses of the line of this name, which the checker accepts: it is put
+/// under the text of the line's obligation. Refused where the set's report has no such line, where the text has no such
+/// derivation, where it is too long to be kept, where the keeper failed in this call, or where memory runs out; then
+/// nothing is new at the keeper.
 pub fn keep_proof<K: Keeper>(
     alloc: Global,
     keeper: &mut K,

@@ -1,13 +1,15 @@
 // The laws.
 ghost use Rattle.desk_core_goals.specs.Laws.{DecidedOfModules, ProvedLinesPromise};
 
-/// What is decided of a design is decided of the modules whose runs the design has, and what is shown of a refuted line is theirs.
+/// What is decided of a design is decided of the modules whose runs the design has, and what is shown of a refuted line
+/// is theirs.
 pub fn decided_of_modules()
     ensures { DecidedOfModules }
 {}
 
-/// Where each line on the design is among the lines and proved, whichever were asked for, every constrained run of the modules from reset satisfies
-/// the set. Where all lines were asked for and are proved, the set is complete too: it fixes its outputs wherever it claims them.
+/// Where each line on the design is among the lines and proved, whichever were asked for, every constrained run of the
+/// modules from reset satisfies the set. Where all lines were asked for and are proved, the set is complete too: it
+/// fixes its outputs wherever it claims them.
 pub fn proved_lines_promise()
     ensures { ProvedLinesPromise }
 {}

@@ -12,7 +12,8 @@ use set_tree::Line;
 use std::alloc::{AllocError, Global};
 use word_dag::Ob;
 
-/// Goals as they were decided, and where the least counterexample of the only one was asked for, how the search for it ended.
+/// Goals as they were decided, and where the least counterexample of the only one was asked for, how the search for it
+/// ended.
 #[derive(Drop)]
 pub(crate) struct WithLeast {
     pub decided: Vec<Decided<Line>>,

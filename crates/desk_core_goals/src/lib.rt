@@ -1,6 +1,7 @@
-//! The obligations of a report's lines, of a set that is bound to a design. The lines that are asked for, decided, and what
-//! they say of modules whose runs the design has. What other solvers are given of a line, and what is taken from them: the
-//! clauses of its obligation, and a derivation of the empty clause from them, which is kept where our own checker accepts it.
+//! The obligations of a report's lines, of a set that is bound to a design. The lines that are asked for, decided, and
+//! what they say of modules whose runs the design has. What other solvers are given of a line, and what is taken from
+//! them: the clauses of its obligation, and a derivation of the empty clause from them, which is kept where our own
+//! checker accepts it.
 #![tactic(auto)]
 
 mod clauses;

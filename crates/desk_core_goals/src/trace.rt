@@ -32,7 +32,7 @@ fn shown_of(
     }
 }
 
-/// What is shown of a line, where its evidence refutes it. It is refused for want of memory alone.
+/// What is shown of a line, where its evidence refutes it.
 pub(crate) fn trace_of(
     alloc: Global,
     bound: &Bound,

@@ -20,8 +20,9 @@ pub enum Verdict {
     Spent,
 }
 
-/// A line of a report: its name, how it was decided, the obligation that was decided, and what shows the verdict. Steps are over the clauses of the
-/// obligation, and values are those of its free nodes. Where it is refuted it has a counterexample.
+/// A line of a report: its name, how it was decided, the obligation that was decided, and what shows the verdict. Steps
+/// are over the clauses of the obligation, and values are those of its free nodes. Where it is refuted it has a
+/// counterexample.
 #[derive(Drop)]
 pub struct Line {
     pub name: Text,
@@ -43,7 +44,8 @@ pub struct Book {
     pub solved: u64,
     /// The numbers that the workers drew, in ascending order.
     pub draws: Vec<u64>,
-    /// Where the least counterexample was asked for and the line is refuted: what shows that none is smaller, or where the search for it stopped.
+    /// Where the least counterexample was asked for and the line is refuted: what shows that none is smaller, or where
+    /// the search for it stopped.
     pub least: Option<LeastEnd>,
 }
 

@@ -102,7 +102,7 @@ fn is_all(which: &Which) -> bool
     }
 }
 
-/// The report of lines that were asked for. It is refused for want of memory alone.
+/// The report of lines that were asked for.
 pub fn report_of(alloc: Global, which: &Which, lines: &[Line]) -> Result<Report, AllocError>
     ensures text { IfOk result (λ r. r.text ≡ report_text which.now lines.now) }
     ensures verdicts { IfOk result (λ r. r.verdicts.items ≡ map (λ l. l.verdict) lines.now) }

@@ -1,6 +1,6 @@
-//! Laws: what each stage of a check hands on is what the next one asks for. Modules that are read are plain; what has no
-//! fault of flattening has texts that can be taken where they stand and bits with numbers of 64 bits, can be freed of its
-//! memories, and made a design without them.
+//! Laws: what each stage of a check hands on is what the next one asks for. Modules that are read are plain; what has
+//! no fault of flattening has texts that can be taken where they stand and bits with numbers of 64 bits, can be freed
+//! of its memories, and made a design without them.
 #![tactic(auto)]
 
 mod memories;

@@ -21,9 +21,10 @@ fn unbound(fault: BindFault) -> CheckFault
     }
 }
 
-/// The set that a text spells, bound to the design of the modules that another text spells from the set's block. The stages come in this order,
-/// and the first that refuses is answered: the module text is read, the set's text is read and its structure tested, the modules are flattened and
-/// elaborated, and the set is bound to the design. Want of memory can come at any of them.
+/// The set that a text spells, bound to the design of the modules that another text spells from the set's block. The
+/// stages come in this order, and the first that refuses is answered: the module text is read, the set's text is read
+/// and its structure tested, the modules are flattened and elaborated, and the set is bound to the design. Want of
+/// memory can come at any of them.
 pub fn bound_of(alloc: Global, module: &[u8], set: &[u8]) -> Result<Bound, CheckFault>
     ensures ok { IfOk result (IsBoundOf «module».now set.now) }
     ensures err { IfErr result (Refuses «module».now set.now) }

@@ -17,7 +17,7 @@ use std::alloc::Global;
 use vlog_tree::Module;
 use vlog_tree_runs::Flat;
 
-/// The module without instances that modules are from their top, with its memories.
+// The module without instances that modules are from their top, with its memories.
 fn whole_of(alloc: Global, modules: &[Module], top: &[u8]) -> Result<Flat, CheckFault>
     requires { ArePlainTexts modules.now }
     ensures ok { IfOk result (IsFaultlessFlatOf modules.now top.now) }
@@ -33,8 +33,8 @@ fn whole_of(alloc: Global, modules: &[Module], top: &[u8]) -> Result<Flat, Check
     }
 }
 
-/// The module without instances and memories that modules are from their top. Refused where the modules don't make a module without instances, where
-/// that can't be freed of its memories, and for want of memory.
+/// The module without instances and memories that modules are from their top. Refused where the modules don't make a
+/// module without instances, where that can't be freed of its memories, or where memory runs out.
 pub fn flat_of(alloc: Global, modules: &[Module], top: &[u8]) -> Result<Flat, CheckFault>
     requires { ArePlainTexts modules.now }
     ensures ok { IfOk result (IsPlainFlatOf modules.now top.now) }

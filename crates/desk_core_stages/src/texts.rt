@@ -11,10 +11,10 @@ use vlog_read::read_modules;
 use vlog_read_lex::ReadFault;
 use vlog_tree::Module;
 
-/// The most bytes of a text.
+// The most bytes of a text.
 const LIMIT: usize = 1048576;
 
-/// The modules that a text spells. Refused where it is too long, or isn't read, and for want of memory.
+/// The modules that a text spells. Refused where it is too long, or isn't read, or where memory runs out.
 pub fn modules_of(alloc: Global, text: &[u8]) -> Result<Vec<Module>, CheckFault>
     ensures ok { IfOk result (λ modules. IsModuleText text.now modules.items) }
     ensures plain { IfOk result (λ modules. ArePlainTexts modules.items) }
@@ -30,8 +30,8 @@ pub fn modules_of(alloc: Global, text: &[u8]) -> Result<Vec<Module>, CheckFault>
     }
 }
 
-/// The set that a text spells, of a sound structure. Refused where the text is too long, isn't read, or spells a set whose structure isn't sound,
-/// and for want of memory.
+/// The set that a text spells, of a sound structure. Refused where the text is too long, isn't read, or spells a set
+/// whose structure isn't sound, or where memory runs out.
 pub fn set_of(alloc: Global, text: &[u8]) -> Result<Sound, CheckFault>
     ensures ok { IfOk result (λ set. IsSetText text.now set) }
     ensures err { IfErr result (RefusesSet text.now) }

@@ -11,11 +11,12 @@ use helper_box::Helper;
 use outside::{Gate, Keeper, Port};
 use std::thread::Threads;
 
-/// Takes one connection, reads one request, carries out its command at the desk that the checker's keeper holds, writes one reply and finishes. Where
-/// memory runs out once the request began, the reply is the fixed text with the status 507.
+/// Takes one connection, reads one request, carries out its command at the desk that the checker's keeper holds, writes
+/// one reply and finishes. Where memory runs out once the request began, the reply is the fixed text with the status
+/// 507.
 ///
-/// It is refused with `Next` where the port gave no next connection: its count of faults for that rose in this call, or stands at its last value. It is
-/// refused with `Memory` for want of memory before the request began.
+/// It is refused with `Next` where the port gave no next connection: its count of faults for that rose in this call, or
+/// stands at its last value. It is refused with `Memory` where memory runs out before the request began.
 pub fn serve_one<R: Threads + Sync, P: Port, K: Keeper, H: Helper, G: Gate + Sync>(
     port: &mut P,
     checker: &mut Checker<'_, '_, '_, '_, R, K, H, G>,
@@ -46,7 +47,7 @@ pub struct Quota {
 }
 
 impl Quota {
-    /// The number of connections that count, with one more that came to this.
+    // The number of connections that count, with one more that came to this.
     fn counted(&self, served: Served, so_far: u32) -> u32
         requires { so_far < self.now.count }
         ensures value { result ≡ counted self.now.replied served so_far }
@@ -59,9 +60,10 @@ impl Quota {
     }
 }
 
-/// Serves connections, one after another, by the desk that the keeper holds, until so many count, and says how many: each finds the tables and the book as the
-/// one before left them. A connection that the peer broke off or that failed counts as any other, or not at all, as the quota says; where it doesn't, 2^64 - 1
-/// connections are enough in any case. Whoever begins with a desk whose reports are of its texts ends with one.
+/// Serves connections, one after another, by the desk that the keeper holds, until so many count, and says how many:
+/// each finds the tables and the book as the one before left them. A connection that the peer broke off or that failed
+/// counts as any other, or not at all, as the quota says; where it doesn't, 2^64 - 1 connections are enough in any
+/// case. Whoever begins with a desk whose reports are of its texts ends with one.
 ///
 /// It stops at the first connection that can't be taken, and is refused as `serve_one` is.
 pub fn serve<R: Threads + Sync, P: Port, K: Keeper, H: Helper, G: Gate + Sync>(

@@ -50,7 +50,7 @@ pub fn read_request<P: Port>(alloc: Global, port: &mut P) -> Take
     }
 }
 
-/// Reads the body of a request whose head was read, unless the head is refused.
+// Reads the body of a request whose head was read, unless the head is refused.
 fn read_rest<P: Port>(
     alloc: Global,
     port: &mut P,
@@ -75,7 +75,7 @@ fn read_rest<P: Port>(
     }
 }
 
-/// Reads the body, of which some bytes were read with the head.
+// Reads the body, of which some bytes were read with the head.
 fn read_body<P: Port>(
     alloc: Global,
     port: &mut P,

@@ -53,8 +53,9 @@ pub enum Incoming {
     Done(Served),
 }
 
-/// Takes one connection and reads one request. One that asks for no command is served at once: it asks for a file of the page, or is
-/// refused, the peer has ended early, a read failed, or memory ran out, where the reply is the fixed text with the status 507.
+/// Takes one connection and reads one request. One that asks for no command is served at once: it asks for a file of
+/// the page, or is refused, the peer has ended early, a read failed, or memory ran out, where the reply is the fixed
+/// text with the status 507.
 pub fn receive<P: Port>(alloc: Global, port: &mut P) -> Result<Incoming, ServeFault>
     ensures receives { Receives (P.wire port.old) (P.wire port.new) (P.faults port.old) (P.faults port.new) result }
     ensures next_ok { OnOk result (P.next_faults port.new ≡ P.next_faults port.old) }
@@ -89,7 +90,8 @@ fn receive_present<P: Port>(alloc: Global, port: &mut P) -> Incoming
     }
 }
 
-/// Writes the reply to what a command came to, and finishes the connection. Where memory runs out for it, the reply is the fixed text with the status 507.
+/// Writes the reply to what a command came to, and finishes the connection. Where memory runs out for it, the reply is
+/// the fixed text with the status 507.
 pub fn reply_to<P: Port>(alloc: Global, port: &mut P, outcome: &Result<Answer, DeskFault>) -> Served
     ensures sends { SendsReplyTo outcome.now (P.wire port.old) (P.wire port.new) (P.faults port.old) (P.faults port.new) result }
     ensures other { P.next_faults port.new ≡ P.next_faults port.old }
@@ -98,7 +100,7 @@ pub fn reply_to<P: Port>(alloc: Global, port: &mut P, outcome: &Result<Answer, D
     send_reply(port, &reply)
 }
 
-/// The reply to what a command came to. An error: there was no memory for it.
+// The reply to what a command came to. An error: there was no memory for it.
 fn outcome_reply(alloc: Global, outcome: &Result<Answer, DeskFault>) -> Result<Reply, AllocError>
     ensures { RepliesTo outcome.now (reply_or_starved result) }
 {
@@ -109,7 +111,7 @@ fn outcome_reply(alloc: Global, outcome: &Result<Answer, DeskFault>) -> Result<R
     }
 }
 
-/// Writes the reply, or the fixed text where there was no memory for one.
+// Writes the reply, or the fixed text where there was no memory for one.
 fn send_reply<P: Port>(port: &mut P, reply: &Result<Reply, AllocError>) -> Served
     ensures sends { Sends (P.wire port.old) (P.wire port.new) (P.faults port.old) (P.faults port.new)
         (reply_or_starved reply.now).status (reply_or_starved reply.now).bytes result }
@@ -121,7 +123,7 @@ fn send_reply<P: Port>(port: &mut P, reply: &Result<Reply, AllocError>) -> Serve
     }
 }
 
-/// Writes the bytes, and closes the connection.
+// Writes the bytes, and closes the connection.
 fn send<P: Port>(port: &mut P, status: u16, bytes: &[u8]) -> Served
     ensures sends { Sends (P.wire port.old) (P.wire port.new) (P.faults port.old) (P.faults port.new) status bytes.now result }
     ensures other { P.next_faults port.new ≡ P.next_faults port.old }
@@ -135,7 +137,7 @@ fn send<P: Port>(port: &mut P, status: u16, bytes: &[u8]) -> Served
     }
 }
 
-/// Closes a connection that has failed.
+// Closes a connection that has failed.
 fn break_off<P: Port>(port: &mut P) -> Served
     ensures wire { P.wire port.new ≡ P.wire port.old }
     ensures broken { result ≡ Broken }

@@ -104,7 +104,7 @@ fn add_sign(alloc: Global, body: &mut Vec<u8>, sign: &Sign) -> Result<(), AllocE
     Ok(())
 }
 
-/// Adds the bytes of a name, those that JSON would escape as `?`.
+// Adds the bytes of a name, those that JSON would escape as `?`.
 fn add_shown(body: &mut Vec<u8>, name: &[u8]) -> Result<(), AllocError>
     ensures { OnOk result (body.new.items ≡ body.old.items ++ map shown_byte name.now) }
 {

@@ -1,4 +1,5 @@
-//! The bytes of replies: one for each answer of the desk, for each file of the page, for each cause of refusal, and where the store or memory fails.
+//! The bytes of replies: one for each answer of the desk, for each file of the page, for each cause of refusal, and
+//! where the store or memory fails.
 #![tactic(auto)]
 
 mod body;

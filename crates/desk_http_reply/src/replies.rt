@@ -26,7 +26,7 @@ const TEXT: &str = "text/plain";
 
 const JSON: &str = "application/json";
 
-/// The reply to an answer of the desk. Refused only for want of memory.
+/// The reply to an answer of the desk.
 pub fn reply_of(alloc: Global, answer: &Answer) -> Result<Reply, AllocError>
     ensures { IfOk result (λ reply. reply ≡ reply_of_answer answer.now) }
 {
@@ -46,7 +46,7 @@ pub fn reply_of(alloc: Global, answer: &Answer) -> Result<Reply, AllocError>
     }
 }
 
-/// The reply to a request that is refused. Refused only for want of memory.
+/// The reply to a request that is refused.
 pub fn refusal_reply(alloc: Global, refusal: Refusal) -> Result<Reply, AllocError>
     ensures { IfOk result (λ reply. reply ≡ reply_of_refusal refusal) }
 {
@@ -63,14 +63,14 @@ pub fn refusal_reply(alloc: Global, refusal: Refusal) -> Result<Reply, AllocErro
     }
 }
 
-/// The reply to a request for a file of the page. Refused only for want of memory.
+/// The reply to a request for a file of the page.
 pub fn file_reply(alloc: Global, file: PageFile) -> Result<Reply, AllocError>
     ensures { IfOk result (λ reply. reply ≡ reply_of_file file) }
 {
     reply_with_body(alloc, 200, kind_of(file), bytes_of(file))
 }
 
-/// What kind of text the file is (RFC 2046, 2318 and 9239).
+// What kind of text the file is (RFC 2046, 2318 and 9239).
 fn kind_of(file: PageFile) -> &'static str
     ensures { result.now ≡ kind_of_file file }
 {
@@ -91,7 +91,7 @@ fn bytes_of(file: PageFile) -> &'static [u8]
     }
 }
 
-/// The reply where the desk's store failed. Refused only for want of memory.
+/// The reply where the desk's store failed.
 pub fn keeper_reply(alloc: Global) -> Result<Reply, AllocError>
     ensures { IfOk result (λ reply. reply ≡ reply_at_fault) }
 {

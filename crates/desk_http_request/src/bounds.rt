@@ -6,8 +6,8 @@ const MOST_BYTES: usize = 16384;
 
 const MOST_LINES: usize = 66;
 
-/// How many bytes the front has, in which a head has to stand, and whether one of its two bounds ended it: the 16,384th byte, or the end of the 66th
-/// line. Line breaks before the first other byte aren't counted as lines.
+/// How many bytes the front has, in which a head has to stand, and whether one of its two bounds ended it: the 16,384th
+/// byte, or the end of the 66th line. Line breaks before the first other byte aren't counted as lines.
 pub fn front_len(bytes: &[u8]) -> (usize, bool)
     ensures front { take result.0 bytes.now ≡ front bytes.now }
     ensures within { result.0 ≤ length bytes.now }
@@ -23,7 +23,7 @@ pub fn front_len(bytes: &[u8]) -> (usize, bool)
     )
 }
 
-/// How many line breaks stand before the first other byte.
+// How many line breaks stand before the first other byte.
 fn breaks_len(bytes: &[u8]) -> usize
     ensures within { result ≤ length bytes.now }
     ensures split { (n : ℕ) → lines_after_breaks n bytes.now ≡ take result bytes.now ++ lines_of n (drop result bytes.now) }
@@ -37,7 +37,7 @@ fn breaks_len(bytes: &[u8]) -> usize
     bytes.len()
 }
 
-/// How many bytes stand up to the end of that many lines, and how many lines aren't ended.
+// How many bytes stand up to the end of that many lines, and how many lines aren't ended.
 fn lines_len(bytes: &[u8], most: usize) -> (usize, usize)
     ensures within { result.0 ≤ length bytes.now }
     ensures lines { take result.0 bytes.now ≡ lines_of most bytes.now }

@@ -16,7 +16,7 @@ pub enum Length {
     Count(u64),
 }
 
-/// Whether the header has the name, in any case.
+// Whether the header has the name, in any case.
 fn is_named(buf: &[u8], header: &HeaderSpan, name: &[u8]) -> bool
     requires within { IsHeaderWithin (length buf.now) header.now }
     ensures { result ≡ is_named_by name.now (header_bytes buf.now header.now) }
@@ -50,7 +50,7 @@ pub fn declared_length(buf: &[u8], headers: &[HeaderSpan], name: &[u8]) -> Lengt
     Length::Absent
 }
 
-/// The length that the first value gives, where the values that follow give the same.
+// The length that the first value gives, where the values that follow give the same.
 fn length_after(buf: &[u8], headers: &[HeaderSpan], name: &[u8], first: &[u8]) -> Length
     requires within { All (IsHeaderWithin (length buf.now)) headers.now }
     ensures { declared_of result ≡ first_of first.now (values name.now (map (header_bytes buf.now) headers.now)) }
@@ -67,7 +67,7 @@ fn length_after(buf: &[u8], headers: &[HeaderSpan], name: &[u8], first: &[u8]) -
     }
 }
 
-/// Whether all values of the headers with this name give the count.
+// Whether all values of the headers with this name give the count.
 fn all_give(buf: &[u8], headers: &[HeaderSpan], name: &[u8], count: u64) -> bool
     requires within { All (IsHeaderWithin (length buf.now)) headers.now }
     ensures { result ≡ list_all (gives count) (values name.now (map (header_bytes buf.now) headers.now)) }

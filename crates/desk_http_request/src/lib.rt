@@ -1,5 +1,5 @@
-//! What the bytes of a connection ask the desk for: its head within a front of bounded length, the length of its body, its place among the
-//! routes, and what it asks for there.
+//! What the bytes of a connection ask the desk for: its head within a front of bounded length, the length of its body,
+//! its place among the routes, and what it asks for there.
 #![tactic(auto)]
 
 mod bounds;

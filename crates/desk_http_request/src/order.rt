@@ -26,7 +26,7 @@ pub struct Order<'a> {
 
 const MOST_LENGTH: u64 = 1048576;
 
-/// What the head in this buffer asks for, or the first cause by which it is refused. The spans are those of the head. An `AllocError` is want of memory.
+/// What the head in this buffer asks for, or the first cause by which it is refused. The spans are those of the head.
 pub fn asked<'a>(
     alloc: Global,
     buf: &'a [u8],
@@ -134,7 +134,7 @@ fn is_well_named(place: Place<'_>) -> bool
     }
 }
 
-/// What is asked for at a place, with the body. Refused only for want of memory.
+/// What is asked for at a place, with the body.
 pub fn wanted_of(alloc: Global, place: Place<'_>, body: &[u8]) -> Result<Wanted, AllocError>
     ensures { IfOk result (λ wanted. wanted ≡ wanted_of_place (seen_place place.entry) body.now) }
 {

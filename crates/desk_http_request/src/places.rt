@@ -42,7 +42,7 @@ pub fn path_of(target: &[u8]) -> &[u8]
     target
 }
 
-/// What the path names, if anything. Refused only for want of memory.
+/// What the path names, if anything.
 pub fn place_of(alloc: Global, path: &[u8]) -> Result<Option<Place<'_>>, AllocError>
     ensures { IfOk result (λ o. option_map (λ p. seen_place p) o ≡ place_of_path path.now) }
 {
@@ -50,7 +50,7 @@ pub fn place_of(alloc: Global, path: &[u8]) -> Result<Option<Place<'_>>, AllocEr
     Ok(place_of_segments(&segments))
 }
 
-/// The parts of the path between slashes.
+// The parts of the path between slashes.
 fn segments(alloc: Global, path: &[u8]) -> Result<Vec<&[u8]>, AllocError>
     ensures { IfOk result (λ v. map (λ s. s.now) v.items ≡ slice_split (λ b. b == 47) path.now) }
 {
@@ -107,7 +107,7 @@ fn place_of_root<'a>(root: &[u8]) -> Option<Place<'a>>
     Some(Place::File(file_named(root)?))
 }
 
-/// The file of the page that the path's only segment names.
+// The file of the page that the path's only segment names.
 fn file_named(root: &[u8]) -> Option<PageFile>
     ensures { result ≡ file_named_by root.now }
 {

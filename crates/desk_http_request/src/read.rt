@@ -7,7 +7,7 @@ use crate::judge::{Judgement, judge};
 use httparse::spans::{HeaderSpan, RequestSpans};
 use outside::{Failed, Port};
 
-/// How many bytes of a head are read at once. What follows the head may come with them.
+// How many bytes of a head are read at once. What follows the head may come with them.
 const HEAD_PIECE: usize = 1024;
 
 /// How reading a head ends.
@@ -25,7 +25,8 @@ pub enum Reading {
     NoMemory,
 }
 
-/// Reads the head of a request from the present connection. What was read stands in `bytes`: the head, and what came with it.
+/// Reads the head of a request from the present connection. What was read stands in `bytes`: the head, and what came
+/// with it.
 pub fn read_head<P: Port>(port: &mut P, bytes: &mut Vec<u8>, headers: &mut [HeaderSpan]) -> Reading
     requires room { length headers.old ≡ 65 }
     requires nothing_yet { bytes.old.items ≡ [] }

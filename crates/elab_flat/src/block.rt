@@ -12,7 +12,7 @@ use sqlite_items::Items;
 use std::alloc::{AllocError, Global};
 use vlog_tree_runs::Always;
 
-/// Adds the blocks of a scope, in the order of its module's text. Refused only for want of memory.
+// Adds the blocks of a scope, in the order of its module's text.
 fn add_blocks(all: &mut Items<Always>, alloc: Global, scope: &Scope<'_>) -> Result<(), AllocError>
     ensures { OnOk result (all.new ≡ all.old ++ flat_blocks (scope_meant scope.now)) }
 {
@@ -25,7 +25,7 @@ fn add_blocks(all: &mut Items<Always>, alloc: Global, scope: &Scope<'_>) -> Resu
     Ok(())
 }
 
-/// The blocks of scopes, one scope's after another's. Refused only for want of memory.
+/// The blocks of scopes, one scope's after another's.
 pub fn blocks_of(alloc: Global, scopes: &[Scope<'_>]) -> Result<Items<Always>, AllocError>
     ensures { IfOk result (λ all. all ≡ flat_map flat_blocks (map scope_meant scopes.now)) }
 {

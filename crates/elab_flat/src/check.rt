@@ -16,7 +16,8 @@ use elab_flat_scopes::Modules;
 use elab_flat_widths::check_texts;
 use std::alloc::Global;
 
-/// The text of a scope breaks no rule on names, ports, constants and lengths. A refusal's fault stands at the scope, or at an instance in it.
+// The text of a scope breaks no rule on names, ports, constants and lengths. A refusal's fault stands at the scope, or
+// at an instance in it.
 fn check_scope<'a>(
     alloc: Global,
     modules: &Modules<'a>,

@@ -31,7 +31,8 @@ use std::alloc::Global;
 use vlog_tree::Module;
 use vlog_tree_runs::Flat;
 
-/// The texts of the scopes joined, with the ports of the top and the clocks. A refusal's fault stands at one of the scopes.
+// The texts of the scopes joined, with the ports of the top and the clocks. A refusal's fault stands at one of the
+// scopes.
 fn joined(
     alloc: Global,
     top: &Module,
@@ -58,7 +59,8 @@ fn joined(
     })
 }
 
-/// The module without instances that the scopes from the top make, where their texts break no rule. A refusal's fault stands.
+// The module without instances that the scopes from the top make, where their texts break no rule. A refusal's fault
+// stands.
 fn flat_of<'a>(
     alloc: Global,
     modules: &Modules<'a>,
@@ -92,16 +94,19 @@ fn flat_of<'a>(
     }
 }
 
-/// The module without instances that a list of modules is from its top (IEEE 1364-2005, sections 4.10 and 12): the texts of all instances one after
-/// another, with hierarchical names joined by `.` without the top's name, parameters replaced by their numbers, and the connections of ports as continuous
-/// assignments. Its cycles and runs are those of the list of modules.
+/// The module without instances that a list of modules is from its top (IEEE 1364-2005, sections 4.10 and 12): the
+/// texts of all instances one after another, with hierarchical names joined by `.` without the top's name, parameters
+/// replaced by their numbers, and the connections of ports as continuous assignments. Its cycles and runs are those of
+/// the list of modules.
 ///
-/// `NoTop`: no module has the top's name. `Unknown`: a name, module, port or parameter is used and isn't declared. `Twice`: a name is declared twice in a
-/// module, two modules have one name, or an instance's overrides name a parameter twice. `Port`: ports that don't fit. `Recursion`: a module contains
-/// itself. `Instances`: more than 4,096 scopes. `Constant`: what must be constant isn't, a range isn't `[m:l]` with m >= l >= 0, or a divisor is 0.
-/// `Width`: a length isn't from 1 to 64 bits, a part-select leaves its vector, or a memory has more than 64 words. `Clock`: an edge, a clock or a reset
-/// isn't one of the accepted forms. `Memory`: want of memory. Every other fault of a refusal stands, and none stands where there is an answer. The time is
-/// linear in the texts of the modules and of all instances, for expressions of bounded height.
+/// `NoTop`: no module has the top's name. `Unknown`: a name, module, port or parameter is used and isn't declared.
+/// `Twice`: a name is declared twice in a module, two modules have one name, or an instance's overrides name a
+/// parameter twice. `Port`: ports that don't fit. `Recursion`: a module contains itself. `Instances`: more than 4,096
+/// scopes. `Constant`: what must be constant isn't, a range isn't `[m:l]` with m >= l >= 0, or a divisor is 0. `Width`:
+/// a length isn't from 1 to 64 bits, a part-select leaves its vector, or a memory has more than 64 words. `Clock`: an
+/// edge, a clock or a reset isn't one of the accepted forms. `Memory`: out of memory. Every other fault of a refusal
+/// stands, and none stands where there is an answer. The time is linear in the texts of the modules and of all
+/// instances, for expressions of bounded height.
 pub fn flatten(alloc: Global, modules: &[Module], top: &[u8]) -> Result<Flat, FlatFault>
     requires { ArePlainTexts modules.now }
     ensures runs { IfOk result (λ f. KeepsRuns modules.now top.now f) }

@@ -1,5 +1,5 @@
-//! The module without instances that a list of modules is from its top. Scopes whose texts break no rule can be flattened,
-//! stand in the order of their paths, and have the ports of the top as inputs and outputs.
+//! The module without instances that a list of modules is from its top. Scopes whose texts break no rule can be
+//! flattened, stand in the order of their paths, and have the ports of the top as inputs and outputs.
 #![tactic(auto)]
 
 mod block;

@@ -1,5 +1,5 @@
-// Continuous assignments and connections of ports (IEEE 1364-2005, sections 6.1 and 12.3). A left side whose right side fails is dropped by a call:
-// dropped in place, its parts would be proved anew there.
+// Continuous assignments and connections of ports (IEEE 1364-2005, sections 6.1 and 12.3). A left side whose right side
+// fails is dropped by a call: dropped in place, its parts would be proved anew there.
 
 ghost use Rattle.std.specs.Prelude.{◌≡◌, ◌++◌, List, Some, IfOk, OnOk, map, length};
 ghost use Rattle.std.specs.List.{flat_map};
@@ -38,7 +38,7 @@ fn moved_target(mover: &Mover<'_>, target: &Target<'_>) -> Result<Lval, AllocErr
     }
 }
 
-/// A continuous assignment of a scope.
+// A continuous assignment of a scope.
 fn own_assign(mover: &Mover<'_>, assigned: &Assigned<'_>) -> Result<Assign, AllocError>
     ensures { IfOk result (λ a. (gs : List Signal) → a ≡ moved_link (own_link (placed mover.now.prefix.now gs mover.now.params.now) (assigned_meant assigned.now))) }
 {
@@ -53,7 +53,7 @@ fn own_assign(mover: &Mover<'_>, assigned: &Assigned<'_>) -> Result<Assign, Allo
     Ok(Assign { left, right })
 }
 
-/// The name of a port of an instance as an expression.
+// The name of a port of an instance as an expression.
 fn port_value(inner: &Mover<'_>, name: &Text) -> Result<Expr, AllocError>
     ensures { IfOk result (λ r. r ≡ moved inner.now.prefix.now inner.now.params.now (e.Name (read name.now))) }
 {
@@ -64,7 +64,7 @@ fn port_value(inner: &Mover<'_>, name: &Text) -> Result<Expr, AllocError>
     inner.expr(&port)
 }
 
-/// The connection of a port: to an input what is connected is assigned, and an output is assigned to it.
+// The connection of a port: to an input what is connected is assigned, and an output is assigned to it.
 fn port_assign(
     outer: &Mover<'_>,
     inner: &Mover<'_>,
@@ -94,7 +94,7 @@ fn port_assign(
     Ok(None)
 }
 
-/// Adds the continuous assignments of a scope.
+// Adds the continuous assignments of a scope.
 fn add_own(all: &mut Items<Assign>, alloc: Global, scope: &Scope<'_>) -> Result<(), AllocError>
     ensures { OnOk result (all.new ≡ all.old ++ map moved_link (map (own_link (place_of (scope_meant scope.now))) (assigns_in scope.now.text.now))) }
 {
@@ -124,7 +124,7 @@ fn add_port(
     Ok(())
 }
 
-/// Adds the connections of an instance in a scope.
+// Adds the connections of an instance in a scope.
 fn add_connections(
     all: &mut Items<Assign>,
     alloc: Global,
@@ -145,7 +145,7 @@ fn add_connections(
     Ok(())
 }
 
-/// Adds the connections of the instances of a scope, each with its scope.
+// Adds the connections of the instances of a scope, each with its scope.
 fn add_inners(
     all: &mut Items<Assign>,
     alloc: Global,
@@ -166,8 +166,8 @@ fn add_inners(
     Ok(())
 }
 
-/// The continuous assignments of scopes and the connections of their instances, one scope's after another's. The scopes of the instances stand behind
-/// the first scope in this order too. Refused only for want of memory.
+/// The continuous assignments of scopes and the connections of their instances, one scope's after another's. The scopes
+/// of the instances stand behind the first scope in this order too.
 pub fn assigns_of(alloc: Global, scopes: &[Scope<'_>]) -> Result<Items<Assign>, AllocError>
     requires { (ms : List Design) × AreFollowed ms (map scope_meant scopes.now) }
     ensures { IfOk result (λ all. (ms : List Design) → AreFollowed ms (map scope_meant scopes.now) → all ≡ flat_map (flat_assigns ms) (map scope_meant scopes.now)) }

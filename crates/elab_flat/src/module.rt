@@ -11,7 +11,7 @@ use std::alloc::{AllocError, Global};
 use std::collections::HashSet;
 use vlog_tree::Module;
 
-/// A module whose name an earlier one has; none where each name is that of one module. Refused only for want of memory.
+/// A module whose name an earlier one has; none where each name is that of one module.
 pub fn named_twice<'a>(alloc: Global, modules: &'a [Module]) -> Result<Option<&'a Text>, AllocError>
     ensures { IfOk result (λ r. Finds (Repeats (map module_name modules.now)) (option_copied r)) }
 {

@@ -13,7 +13,7 @@ use std::alloc::{AllocError, Global};
 use vlog_tree::Module;
 use vlog_tree_runs::TopPort;
 
-/// The names of the declarations of outputs.
+// The names of the declarations of outputs.
 fn output_names<'a>(alloc: Global, decls: &[Decl<'a>]) -> Result<Vec<&'a Text>, AllocError>
     ensures { IfOk result (λ r. map name_meant r.items ≡ map decl_name (filter (λ d. d.output) (map decl_meant decls.now))) }
 {
@@ -26,7 +26,7 @@ fn output_names<'a>(alloc: Global, decls: &[Decl<'a>]) -> Result<Vec<&'a Text>, 
     Ok(names)
 }
 
-/// The ports of a module, in the order of its header. Refused only for want of memory.
+/// The ports of a module, in the order of its header.
 pub fn ports_of(alloc: Global, text: &Module) -> Result<Items<TopPort>, AllocError>
     ensures { IfOk result (λ ports. ports ≡ map (top_port (decls_in text.now)) (port_names text.now)) }
 {

@@ -17,7 +17,8 @@ use sqlite_items::Items;
 use std::alloc::Global;
 use vlog_tree_runs::Signal;
 
-/// Adds the signals of a scope, in the order of their first declarations. A refusal's fault is that of one whose ranges declare nothing.
+// Adds the signals of a scope, in the order of their first declarations. A refusal's fault is that of one whose ranges
+// declare nothing.
 fn add_signals(all: &mut Items<Signal>, alloc: Global, scope: &Scope<'_>) -> Result<(), FlatFault>
     ensures ok { OnOk result (all.new ≡ all.old ++ flat_signals (scope_meant scope.now)) }
     ensures err { IfErr result (Refuses (StandsAlone (scope_meant scope.now))) }

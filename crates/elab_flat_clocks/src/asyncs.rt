@@ -19,7 +19,7 @@ fn is_at(reset: Reset<'_>, high: bool) -> bool
     if high { reset.high } else { !reset.high }
 }
 
-/// The names of the resets that are active at a level.
+// The names of the resets that are active at a level.
 fn resets_at<'a>(
     alloc: Global,
     timings: &[Timing<'a>],
@@ -38,7 +38,7 @@ fn resets_at<'a>(
     Ok(all)
 }
 
-/// Each name once.
+// Each name once.
 fn fresh<'a>(alloc: Global, names: &[&'a Text]) -> Result<Vec<&'a Text>, AllocError>
     ensures { IfOk result (λ r. map name_meant r.items ≡ fresh [] (map name_meant names.now)) }
 {
@@ -80,7 +80,7 @@ fn add_at(
     add_asyncs(all, alloc, &names, high)
 }
 
-/// The asynchronous resets that blocks wait for, each once: those that are active high come first. Refused only for want of memory.
+/// The asynchronous resets that blocks wait for, each once: those that are active high come first.
 pub fn asyncs_of(alloc: Global, timings: &[Timing<'_>]) -> Result<Items<Async>, AllocError>
     ensures { IfOk result (λ r. r ≡ asyncs_at true (map timed_meant timings.now) ++ asyncs_at false (map timed_meant timings.now)) }
 {

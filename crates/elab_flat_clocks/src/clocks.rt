@@ -34,7 +34,7 @@ pub struct Clocks {
     pub asyncs: Items<Async>,
 }
 
-/// The only clock that blocks wait for; none where there are no such blocks. A refusal has one of two clocks.
+// The only clock that blocks wait for; none where there are no such blocks. A refusal has one of two clocks.
 fn one_clock<'a>(alloc: Global, timings: &[Timing<'a>]) -> Result<Option<&'a Text>, FlatFault>
     ensures ok { IfOk result (λ r. IsClockAmong (map timed_meant timings.now) (option_copied r)) }
     ensures err { IfErr result (Refuses (HasTwoClocks (map timed_meant timings.now))) }
@@ -60,7 +60,7 @@ fn copied(alloc: Global, name: Option<&Text>) -> Result<Option<Text>, AllocError
     }
 }
 
-/// No scope reads the clock, where there is one. A refusal has the name by which one does.
+// No scope reads the clock, where there is one. A refusal has the name by which one does.
 fn check_clock(
     alloc: Global,
     scopes: &[Scope<'_>],
@@ -78,12 +78,14 @@ fn check_clock(
     }
 }
 
-/// The clock and the asynchronous resets of the instances of a list of modules, which stand in the order of their paths (IEEE 1364-2005, sections 9.7.4
-/// and 9.9; IEEE 1364.1-2002, section 5.2.2). A block with one edge waits for the rising edge of the clock. One with two waits for that and for an edge of
-/// a reset, and its body is one `if` with an `else` whose condition tests the reset: `r` and `r == 1'b1` go with its rising edge, `!r`, `~r` and
-/// `r == 1'b0` with the falling one. Clock and resets are inputs of the top of one bit, reached through connections to inputs of one bit whose expression
-/// is a name alone. `FlatFault::Clock` stands where a block waits otherwise, where two blocks have two clocks, and where the clock is read. A refusal's
-/// fault stands; it is `Constant` or `Width` where an input's range declares nothing. The time is linear in the texts of the scopes.
+/// The clock and the asynchronous resets of the instances of a list of modules, which stand in the order of their paths
+/// (IEEE 1364-2005, sections 9.7.4 and 9.9; IEEE 1364.1-2002, section 5.2.2). A block with one edge waits for the
+/// rising edge of the clock. One with two waits for that and for an edge of a reset, and its body is one `if` with an
+/// `else` whose condition tests the reset: `r` and `r == 1'b1` go with its rising edge, `!r`, `~r` and `r == 1'b0` with
+/// the falling one. Clock and resets are inputs of the top of one bit, reached through connections to inputs of one bit
+/// whose expression is a name alone. `FlatFault::Clock` stands where a block waits otherwise, where two blocks have two
+/// clocks, and where the clock is read. A refusal's fault stands; it is `Constant` or `Width` where an input's range
+/// declares nothing. The time is linear in the texts of the scopes.
 pub fn clocks_of(
     alloc: Global,
     modules: &Modules<'_>,

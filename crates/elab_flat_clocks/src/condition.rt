@@ -8,7 +8,7 @@ ghost use Rattle.elab_flat_clocks.specs.Timings.{only_in, condition_alone};
 use sqlite_items::{Boxed, Items};
 use vlog_tree::{Expr, Stmt};
 
-/// The condition of a statement that is an `if` with an `else`.
+// The condition of a statement that is an `if` with an `else`.
 fn condition_alone(stmt: &Stmt) -> Option<&Expr>
     ensures { option_copied result ≡ condition_alone stmt.now }
 {
@@ -23,7 +23,7 @@ fn condition_alone(stmt: &Stmt) -> Option<&Expr>
     }
 }
 
-/// The condition of the only statement of some.
+// The condition of the only statement of some.
 fn only_in(stmts: &[Stmt]) -> Option<&Expr>
     ensures { option_copied result ≡ only_in stmts.now }
 {

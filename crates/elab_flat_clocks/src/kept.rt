@@ -27,7 +27,7 @@ fn is_name(expr: &Expr) -> bool
     }
 }
 
-/// Whether a name is that of an input of one bit. A refusal's fault stands at the scope.
+// Whether a name is that of an input of one bit. A refusal's fault stands at the scope.
 fn is_bit_input(
     alloc: Global,
     scope: &Scope<'_>,
@@ -51,7 +51,7 @@ fn is_bit_input(
     }
 }
 
-/// Whether a connection passes a name on to an input of one bit of a scope. A refusal's fault stands at the scope.
+// Whether a connection passes a name on to an input of one bit of a scope. A refusal's fault stands at the scope.
 fn passes_on(
     alloc: Global,
     gift: &Given<'_>,
@@ -89,7 +89,7 @@ fn add_given<'a>(
     Ok(())
 }
 
-/// Adds the expressions of an instance's connections that pass nothing on. A refusal's fault stands at the instance.
+// Adds the expressions of an instance's connections that pass nothing on. A refusal's fault stands at the instance.
 fn add_kept<'a>(
     all: &mut Vec<&'a Expr>,
     alloc: Global,
@@ -105,7 +105,8 @@ fn add_kept<'a>(
     add_given(all, alloc, &given, scope, &signals)
 }
 
-/// The expressions of the connections of some instances with their scopes that pass nothing on. A refusal's fault stands at one of these.
+/// The expressions of the connections of some instances with their scopes that pass nothing on. A refusal's fault
+/// stands at one of these.
 pub fn kept_into<'a>(
     alloc: Global,
     instances: &[Inner<'a>],

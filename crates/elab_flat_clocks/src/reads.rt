@@ -1,4 +1,5 @@
-// Where the clock is read: in the expressions of a text outside its instances, and in those of connections that pass nothing on.
+// Where the clock is read: in the expressions of a text outside its instances, and in those of connections that pass
+// nothing on.
 
 ghost use Rattle.std.specs.Prelude.{◌≡◌, ◌↔◌, IsTrue, Some, IfOk, IfErr, OnOk, length, map};
 ghost use Rattle.std.specs.Option.{option_copied};
@@ -21,7 +22,7 @@ use outside::Text;
 use std::alloc::{AllocError, Global};
 use vlog_tree::{Expr, Module};
 
-/// Whether the clock reaches a name.
+// Whether the clock reaches a name.
 fn is_clock(table: &Table<'_>, clock: &Text, name: &Text) -> bool
     ensures { IsTrue result ↔ (input_at table.now name.now ≡ Some clock.now) }
 {
@@ -31,7 +32,7 @@ fn is_clock(table: &Table<'_>, clock: &Text, name: &Text) -> bool
     }
 }
 
-/// A name among some that the clock reaches.
+// A name among some that the clock reaches.
 fn clock_among<'a>(names: &[&'a Text], table: &Table<'_>, clock: &Text) -> Option<&'a Text>
     ensures { Finds (λ x. Among (map name_meant names.now) x × (input_at table.now x ≡ Some clock.now)) (option_copied result) }
 {
@@ -43,7 +44,7 @@ fn clock_among<'a>(names: &[&'a Text], table: &Table<'_>, clock: &Text) -> Optio
     None
 }
 
-/// A name in an expression that the clock reaches.
+// A name in an expression that the clock reaches.
 fn clock_in<'a>(
     alloc: Global,
     expr: &'a Expr,
@@ -56,7 +57,7 @@ fn clock_in<'a>(
     Ok(clock_among(&names, table, clock))
 }
 
-/// A name by which one of some expressions reads the clock.
+// A name by which one of some expressions reads the clock.
 fn read_among<'a>(
     alloc: Global,
     exprs: &[&'a Expr],
@@ -73,7 +74,7 @@ fn read_among<'a>(
     Ok(None)
 }
 
-/// A name by which a text reads the clock, or one of the expressions of its connections that pass nothing on.
+// A name by which a text reads the clock, or one of the expressions of its connections that pass nothing on.
 fn clock_read<'a>(
     alloc: Global,
     text: &'a Module,

@@ -16,7 +16,7 @@ pub struct Reset<'a> {
     pub high: bool,
 }
 
-/// Whether a number is an unsigned one of one bit.
+// Whether a number is an unsigned one of one bit.
 fn is_bit(number: &Number) -> bool
     ensures { result ≡ is_bit number.now }
 {
@@ -45,7 +45,7 @@ fn is_equal(op: Binary) -> bool
     }
 }
 
-/// `!r` and `~r`
+// `!r` and `~r`
 fn negated(op: Unary, operand: &Expr) -> Option<Reset<'_>>
     ensures { option_map reset_meant result ≡ negated op operand.now }
 {
@@ -74,7 +74,7 @@ fn at_level<'a>(name: &'a Text, number: &Number) -> Option<Reset<'a>>
     }
 }
 
-/// `r == 1'b0` and `r == 1'b1`
+// `r == 1'b0` and `r == 1'b1`
 fn level_of<'a>(op: Binary, a: &'a Expr, b: &Expr) -> Option<Reset<'a>>
     ensures { option_map reset_meant result ≡ level_of op a.now b.now }
 {
@@ -96,7 +96,8 @@ fn level_of<'a>(op: Binary, a: &'a Expr, b: &Expr) -> Option<Reset<'a>>
     }
 }
 
-/// The reset that a condition tests, with the level at which it is active; none where the condition isn't one of the forms.
+/// The reset that a condition tests, with the level at which it is active; none where the condition isn't one of the
+/// forms.
 pub fn reset_of(condition: &Expr) -> Option<Reset<'_>>
     ensures { option_map reset_meant result ≡ reset_of condition.now }
 {

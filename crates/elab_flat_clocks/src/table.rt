@@ -111,7 +111,7 @@ fn given_names<'a>(alloc: Global, given: &[Given<'a>]) -> Result<Vec<&'a Text>, 
     Ok(all)
 }
 
-/// What a name is given.
+// What a name is given.
 fn given_at<'a>(names: &Names<'_>, given: &[Given<'a>], name: &Text) -> Option<&'a Expr>
     requires { names.now ≡ map given_name (map given_meant given.now) }
     ensures { option_copied result ≡ given_at (map given_meant given.now) name.now }
@@ -125,7 +125,7 @@ fn given_at<'a>(names: &Names<'_>, given: &[Given<'a>], name: &Text) -> Option<&
     }
 }
 
-/// The input of the top that reaches an expression of the outer scope, which must be a name.
+// The input of the top that reaches an expression of the outer scope, which must be a name.
 fn reached<'a>(outer: &Table<'a>, value: Option<&Expr>) -> Option<&'a Text>
     ensures { option_copied result ≡ reached outer.now (option_copied value.entry) }
 {

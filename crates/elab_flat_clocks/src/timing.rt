@@ -1,4 +1,5 @@
-// The clock and the asynchronous reset of a block with edges (IEEE 1364-2005, section 9.7.4; IEEE 1364.1-2002, section 5.2.2).
+// The clock and the asynchronous reset of a block with edges (IEEE 1364-2005, section 9.7.4; IEEE 1364.1-2002, section
+// 5.2.2).
 
 ghost use Rattle.std.specs.Prelude.{◌≡◌, ◌↔◌, IsTrue, Option};
 ghost use Rattle.std.specs.Option.{option_map};
@@ -19,7 +20,7 @@ pub struct Timing<'a> {
     pub reset: Option<Reset<'a>>,
 }
 
-/// Whether an edge is that of a reset.
+// Whether an edge is that of a reset.
 fn is_reset_edge(edge: &Edge, reset: Reset<'_>) -> bool
     ensures { IsTrue result ↔ IsResetEdge edge.now (reset_meant reset.entry) }
 {
@@ -33,7 +34,7 @@ fn is_reset_edge(edge: &Edge, reset: Reset<'_>) -> bool
     }
 }
 
-/// What a block with one edge waits for.
+// What a block with one edge waits for.
 fn one_edge(edge: &Edge) -> Option<Timing<'_>>
     ensures { (x : Name) (r : Option Asynchronous) → WaitsForOne edge.now x r ↔ IsTimedBy result x r }
 {
@@ -47,7 +48,7 @@ fn one_edge(edge: &Edge) -> Option<Timing<'_>>
     }
 }
 
-/// What a block with two edges waits for: one is that of the reset that its body tests, the other the clock's.
+// What a block with two edges waits for: one is that of the reset that its body tests, the other the clock's.
 fn two_edges<'a>(one: &'a Edge, other: &'a Edge, reset: Reset<'a>) -> Option<Timing<'a>>
     ensures { (x : Name) (r : Option Asynchronous) → WaitsForTwo one.now other.now (reset_meant reset.entry) x r ↔ IsTimedBy result x r }
 {
@@ -68,7 +69,7 @@ fn two_edges<'a>(one: &'a Edge, other: &'a Edge, reset: Reset<'a>) -> Option<Tim
     None
 }
 
-/// The reset that the body of a block tests.
+// The reset that the body of a block tests.
 fn reset_in(body: &Stmt) -> Option<Reset<'_>>
     ensures { option_map reset_meant result ≡ reset_in body.now }
 {
@@ -78,7 +79,8 @@ fn reset_in(body: &Stmt) -> Option<Reset<'_>>
     }
 }
 
-/// The clock and the asynchronous reset that a block with edges waits for; none where its edges and its body have none of the accepted forms.
+/// The clock and the asynchronous reset that a block with edges waits for; none where its edges and its body have none
+/// of the accepted forms.
 pub fn timing_of<'a>(edges: &'a [Edge], body: &'a Stmt) -> Option<Timing<'a>>
     ensures { IsTimingOf edges.now body.now result }
 {

@@ -1,4 +1,5 @@
-// What the blocks with edges of all scopes wait for, in inputs of the top (IEEE 1364-2005, section 9.7.4; IEEE 1364.1-2002, section 5.2.2).
+// What the blocks with edges of all scopes wait for, in inputs of the top (IEEE 1364-2005, section 9.7.4; IEEE
+// 1364.1-2002, section 5.2.2).
 
 ghost use Rattle.std.specs.Prelude.{◌≡◌, ◌++◌, ◌∷◌, [], IfOk, IfErr, OnOk, length, map, option_to_list};
 ghost use Rattle.std.specs.Option.{option_map};
@@ -16,7 +17,7 @@ use elab_flat_scopes::{Block, blocks_in};
 use std::alloc::{AllocError, Global};
 use vlog_tree::{Edge, Events, Stmt};
 
-/// The input of the top that a reset is.
+// The input of the top that a reset is.
 fn reset_reached<'a>(table: &Table<'a>, reset: Reset<'_>) -> Option<Reset<'a>>
     ensures { option_map reset_meant result ≡ reset_reached table.now (reset_meant reset.entry) }
 {
@@ -29,7 +30,7 @@ fn reset_reached<'a>(table: &Table<'a>, reset: Reset<'_>) -> Option<Reset<'a>>
     }
 }
 
-/// The inputs of the top that a clock and its reset are.
+// The inputs of the top that a clock and its reset are.
 fn timed_reached<'a>(table: &Table<'a>, timing: Timing<'_>) -> Option<Timing<'a>>
     ensures { option_map timed_meant result ≡ timed_reached table.now (timed_meant timing.entry) }
 {
@@ -49,7 +50,7 @@ fn timed_reached<'a>(table: &Table<'a>, timing: Timing<'_>) -> Option<Timing<'a>
     }
 }
 
-/// What a block with edges waits for, in inputs of the top.
+// What a block with edges waits for, in inputs of the top.
 fn driven<'a>(table: &Table<'a>, edges: &[Edge], body: &Stmt) -> Option<Timing<'a>>
     ensures { IsDrivenBy table.now edges.now body.now (option_map timed_meant result) }
 {
@@ -59,7 +60,7 @@ fn driven<'a>(table: &Table<'a>, edges: &[Edge], body: &Stmt) -> Option<Timing<'
     }
 }
 
-/// What a block waits for, none where it has no edges. A refusal's fault stands at the scope.
+// What a block waits for, none where it has no edges. A refusal's fault stands at the scope.
 fn block_timing<'a>(
     alloc: Global,
     scope: &Scope<'_>,
@@ -115,7 +116,7 @@ fn timings_among<'a>(
     Ok(all)
 }
 
-/// What the blocks with edges of a scope wait for. A refusal's fault stands at the scope.
+// What the blocks with edges of a scope wait for. A refusal's fault stands at the scope.
 fn scope_timings<'a>(
     alloc: Global,
     scope: &Scope<'_>,

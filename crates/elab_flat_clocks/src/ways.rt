@@ -22,7 +22,8 @@ pub struct Ways<'a> {
     pub kept: Vec<Vec<&'a Expr>>,
 }
 
-/// The tables of some instances with their scopes, by that of the scope that they stand in. A refusal's fault stands at one of them.
+// The tables of some instances with their scopes, by that of the scope that they stand in. A refusal's fault stands at
+// one of them.
 fn tables_below<'a>(
     alloc: Global,
     outer: &Table<'a>,

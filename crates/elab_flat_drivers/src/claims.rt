@@ -32,7 +32,7 @@ pub struct Run {
     pub to: i128,
 }
 
-/// The integer of an expression without names; none where it has one. Refused only for want of memory.
+/// The integer of an expression without names; none where it has one.
 pub fn known(alloc: Global, expr: &Expr) -> Result<Option<i128>, AllocError>
     requires { IsEvaluable expr.now }
     ensures known { IfOk result (λ o. o ≡ known expr.now) }
@@ -112,7 +112,7 @@ pub fn span_run(span: Span, a: i128, b: i128) -> Run
     }
 }
 
-/// The numbers of the bits that a part names; none: all bits of its signal. Refused only for want of memory.
+/// The numbers of the bits that a part names; none: all bits of its signal.
 pub fn run_of(alloc: Global, part: Part<'_>) -> Result<Option<Run>, AllocError>
     requires { IsPartReady (part_meant part) }
     ensures run { IfOk result (λ o. o ≡ part_run (part_meant part.entry)) }

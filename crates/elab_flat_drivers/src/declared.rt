@@ -35,7 +35,7 @@ impl<'a> Model for Declared<'a> {
     ghost invariant = { λ x. x.names ≡ map signal_name x.list.now };
 }
 
-/// The names of signals, in their order. Refused only for want of memory.
+/// The names of signals, in their order.
 pub fn names_of<'a>(alloc: Global, signals: &'a [Signal]) -> Result<Vec<&'a Text>, AllocError>
     ensures { IfOk result (λ names. map name_meant names.items ≡ map signal_name signals.now) }
 {
@@ -47,7 +47,7 @@ pub fn names_of<'a>(alloc: Global, signals: &'a [Signal]) -> Result<Vec<&'a Text
 }
 
 impl<'a> Declared<'a> {
-    /// The signals of a list. Refused only for want of memory.
+    /// The signals of a list.
     pub fn of(alloc: Global, list: &'a [Signal]) -> Result<Declared<'a>, AllocError>
         ensures { IfOk result (λ signals. signals ≡ list.now) }
     {

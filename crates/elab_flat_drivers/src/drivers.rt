@@ -78,7 +78,7 @@ fn add_blocks<'a>(all: &mut Vec<Driver<'a>>, blocks: &'a [Always]) -> Result<(),
     Ok(())
 }
 
-/// The drivers of a module: inputs, parts of assignments, blocks. Refused only for want of memory.
+/// The drivers of a module: inputs, parts of assignments, blocks.
 pub fn drivers_of(alloc: Global, flat: &Flat) -> Result<Vec<Driver<'_>>, AllocError>
     ensures { IfOk result (λ r. map driver_meant r.items ≡ drivers_of flat.now) }
 {
@@ -89,7 +89,7 @@ pub fn drivers_of(alloc: Global, flat: &Flat) -> Result<Vec<Driver<'_>>, AllocEr
     Ok(all)
 }
 
-/// Adds the bits that a part names. Refused only for want of memory.
+/// Adds the bits that a part names.
 pub fn add_claim(
     claims: &mut Vec<Claim>,
     alloc: Global,
@@ -143,7 +143,7 @@ fn add_body_claims(
     Ok(())
 }
 
-/// The bits that a driver drives. Refused only for want of memory.
+/// The bits that a driver drives.
 pub fn driver_claims(
     alloc: Global,
     driver: Driver<'_>,
@@ -184,7 +184,7 @@ fn twice(
     Ok(None)
 }
 
-/// A bit by the name of its signal and its declared number. Refused only for want of memory.
+/// A bit by the name of its signal and its declared number.
 pub fn numbered(alloc: Global, bit: Bit, signals: &Declared<'_>) -> Result<(Text, u64), AllocError>
     requires { IsBitAt signals.now bit.place bit.number }
     ensures { IfOk result (λ r. Numbers signals.now bit.place bit.number r.0 r.1) }
@@ -219,8 +219,8 @@ fn driven_twice_among(
     }
 }
 
-/// A bit that has two drivers, by the name of its signal and its declared number. Inputs of the top, the parts of the left sides of
-/// continuous assignments, and blocks are drivers. Refused only for want of memory.
+/// A bit that has two drivers, by the name of its signal and its declared number. Inputs of the top, the parts of the
+/// left sides of continuous assignments, and blocks are drivers.
 pub fn driven_twice(alloc: Global, flat: &Flat) -> Result<Option<(Text, u64)>, AllocError>
     requires { CanDrive flat.now }
     ensures some { IfOk result (λ o. IfSome o (λ r. Stands flat.now (f.Drivers r.0 r.1))) }

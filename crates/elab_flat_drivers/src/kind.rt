@@ -89,8 +89,8 @@ fn kept(alloc: Global, name: &Text) -> Result<Option<Text>, AllocError>
     Ok(Some(Text::copy(alloc, name.bytes())?))
 }
 
-/// A signal with the wrong form of assignment: by a continuous assignment though it is declared by `reg`, or by a block though it
-/// isn't; by `=` in a clocked block, or by `<=` in a combinational one; or by both kinds of blocks. Refused only for want of memory.
+/// A signal with the wrong form of assignment: by a continuous assignment though it is declared by `reg`, or by a block
+/// though it isn't; by `=` in a clocked block, or by `<=` in a combinational one; or by both kinds of blocks.
 pub fn wrongly_assigned(alloc: Global, flat: &Flat) -> Result<Option<Text>, AllocError>
     ensures some { IfOk result (λ o. IfSome o (λ x. Stands flat.now (f.Kind x))) }
     ensures none { IfOk result (λ o. IfNone o ((x : Name) → Stands flat.now (f.Kind x) → ⊥)) }

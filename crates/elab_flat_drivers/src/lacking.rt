@@ -35,7 +35,7 @@ fn add_whole<'a>(all: &mut Vec<Driver<'a>>, names: &[&'a Text]) -> Result<(), Al
     Ok(())
 }
 
-/// The drivers of a module, and each register as driven. Refused only for want of memory.
+/// The drivers of a module, and each register as driven.
 pub fn covers(alloc: Global, flat: &Flat) -> Result<Vec<Driver<'_>>, AllocError>
     ensures { IfOk result (λ r. map driver_meant r.items ≡ covers flat.now) }
 {
@@ -46,7 +46,7 @@ pub fn covers(alloc: Global, flat: &Flat) -> Result<Vec<Driver<'_>>, AllocError>
     Ok(all)
 }
 
-/// The bits that drivers drive. Refused only for want of memory.
+/// The bits that drivers drive.
 pub fn driven(
     alloc: Global,
     drivers: &[Driver<'_>],
@@ -64,7 +64,7 @@ pub fn driven(
     Ok(table)
 }
 
-/// The bits that parts name. Refused only for want of memory.
+/// The bits that parts name.
 pub fn named(
     alloc: Global,
     parts: &[Part<'_>],
@@ -100,7 +100,7 @@ pub fn missing(table: &[u64], claims: &[Claim]) -> Option<Bit>
     None
 }
 
-/// The bits that the drivers and the registers of a module have. Refused only for want of memory.
+// The bits that the drivers and the registers of a module have.
 fn covered(alloc: Global, flat: &Flat, signals: &Declared<'_>) -> Result<Vec<u64>, AllocError>
     requires can { CanTell flat.now }
     requires same { signals.now ≡ flat.now.signals }
@@ -110,7 +110,7 @@ fn covered(alloc: Global, flat: &Flat, signals: &Declared<'_>) -> Result<Vec<u64
     driven(alloc, &covers, signals)
 }
 
-/// The bits that are read, and those of the outputs of the top. Refused only for want of memory.
+// The bits that are read, and those of the outputs of the top.
 fn wanted(alloc: Global, flat: &Flat, signals: &Declared<'_>) -> Result<Vec<Claim>, AllocError>
     requires can { CanTell flat.now }
     requires same { signals.now ≡ flat.now.signals }
@@ -156,8 +156,8 @@ fn undriven_among(
     }
 }
 
-/// A bit that is read, or that is of an output of the top, and that has no driver and is of no register, by the name of its signal
-/// and its declared number. Refused only for want of memory.
+/// A bit that is read, or that is of an output of the top, and that has no driver and is of no register, by the name of
+/// its signal and its declared number.
 pub fn undriven(alloc: Global, flat: &Flat) -> Result<Option<(Text, u64)>, AllocError>
     requires { CanTell flat.now }
     ensures some { IfOk result (λ o. IfSome o (λ r. Stands flat.now (f.Undriven r.0 r.1))) }

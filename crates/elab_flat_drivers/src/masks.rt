@@ -15,7 +15,7 @@ pub struct Bit {
     pub number: u32,
 }
 
-/// A table of so many words without bits. Refused only for want of memory.
+/// A table of so many words without bits.
 pub fn no_bits(alloc: Global, count: usize) -> Result<Vec<u64>, AllocError>
     ensures { IfOk result (λ r. r.items ≡ replicate count 0) }
 {

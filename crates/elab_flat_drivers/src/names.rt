@@ -33,7 +33,7 @@ fn is_same(a: bool, b: bool) -> bool
     if a { b } else { !b }
 }
 
-/// Adds the names of the signals that a left side assigns. Refused only for want of memory.
+/// Adds the names of the signals that a left side assigns.
 pub fn add_left_names<'a>(
     all: &mut Vec<&'a Text>,
     alloc: Global,
@@ -84,7 +84,7 @@ fn add_body_names<'a>(
     Ok(())
 }
 
-/// The names that assignments of a form in clocked or in combinational blocks have on their left. Refused only for want of memory.
+/// The names that assignments of a form in clocked or in combinational blocks have on their left.
 pub fn block_names(
     alloc: Global,
     blocks: &[Always],
@@ -102,7 +102,7 @@ pub fn block_names(
     Ok(all)
 }
 
-/// The names that continuous assignments have on their left. Refused only for want of memory.
+/// The names that continuous assignments have on their left.
 pub fn assign_names(alloc: Global, assigns: &[Assign]) -> Result<Vec<&Text>, AllocError>
     ensures { IfOk result (λ r. map name_meant r.items ≡ flat_map (λ (a : Equation). left_names a.left) assigns.now) }
 {
@@ -113,7 +113,7 @@ pub fn assign_names(alloc: Global, assigns: &[Assign]) -> Result<Vec<&Text>, All
     Ok(all)
 }
 
-/// The names of the signals that are declared by `reg`, or of those that aren't. Refused only for want of memory.
+/// The names of the signals that are declared by `reg`, or of those that aren't.
 pub fn declared_names(alloc: Global, signals: &[Signal], reg: bool) -> Result<Names<'_>, AllocError>
     ensures { IfOk result (λ r. r ≡ flat_map (declared_names reg) signals.now) }
 {

@@ -34,7 +34,7 @@ pub fn name_of(part: Part<'_>) -> &Text
     }
 }
 
-/// Adds the parts of a left side, from the left. Refused only for want of memory.
+/// Adds the parts of a left side, from the left.
 #[cycle(parts)]
 pub fn add_parts<'a>(all: &mut Vec<Part<'a>>, left: &'a Lval) -> Result<(), AllocError>
     ensures { OnOk result (map part_meant all.new.items ≡ map part_meant all.old.items ++ parts_of left.now) }
@@ -66,7 +66,7 @@ fn add_row_parts<'a>(all: &mut Vec<Part<'a>>, lefts: &'a [Lval]) -> Result<(), A
     Ok(())
 }
 
-/// The parts of a left side, from the left. Refused only for want of memory.
+/// The parts of a left side, from the left.
 pub fn parts_of(alloc: Global, left: &Lval) -> Result<Vec<Part<'_>>, AllocError>
     ensures { IfOk result (λ r. map part_meant r.items ≡ parts_of left.now) }
 {
@@ -75,7 +75,7 @@ pub fn parts_of(alloc: Global, left: &Lval) -> Result<Vec<Part<'_>>, AllocError>
     Ok(all)
 }
 
-/// Adds what an expression reads, from the left, with what its indices read. Refused only for want of memory.
+/// Adds what an expression reads, from the left, with what its indices read.
 #[cycle(reads)]
 pub fn add_reads<'a>(all: &mut Vec<Part<'a>>, expr: &'a Expr) -> Result<(), AllocError>
     ensures { OnOk result (map part_meant all.new.items ≡ map part_meant all.old.items ++ reads_of expr.now) }
@@ -133,7 +133,7 @@ fn add_row_reads<'a>(all: &mut Vec<Part<'a>>, exprs: &'a [Expr]) -> Result<(), A
     Ok(())
 }
 
-/// What an expression reads, from the left, with what its indices read. Refused only for want of memory.
+/// What an expression reads, from the left, with what its indices read.
 pub fn reads_of(alloc: Global, expr: &Expr) -> Result<Vec<Part<'_>>, AllocError>
     ensures { IfOk result (λ r. map part_meant r.items ≡ reads_of expr.now) }
 {

@@ -90,7 +90,7 @@ fn add_items<'a>(all: &mut Vec<Piece<'a>>, items: &'a [CaseItem]) -> Result<(), 
     Ok(())
 }
 
-/// What a statement does, in the order of its text. Refused only for want of memory.
+/// What a statement does, in the order of its text.
 pub fn pieces_of(alloc: Global, stmt: &Stmt) -> Result<Vec<Piece<'_>>, AllocError>
     ensures { IfOk result (λ r. map piece_meant r.items ≡ actions stmt.now) }
 {

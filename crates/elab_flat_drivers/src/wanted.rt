@@ -41,7 +41,7 @@ fn add_left_reads<'a>(
     Ok(())
 }
 
-/// Adds what an assignment reads: the numbers of its left side, and its right side. Refused only for want of memory.
+/// Adds what an assignment reads: the numbers of its left side, and its right side.
 pub fn add_store_reads<'a>(
     all: &mut Vec<Part<'a>>,
     alloc: Global,
@@ -121,7 +121,7 @@ fn add_block_reads<'a>(
     Ok(())
 }
 
-/// The outputs of the top and what is read in a module. Refused only for want of memory.
+/// The outputs of the top and what is read in a module.
 pub fn wanted_parts(alloc: Global, flat: &Flat) -> Result<Vec<Part<'_>>, AllocError>
     ensures { IfOk result (λ r. map part_meant r.items ≡ wanted_parts flat.now) }
 {

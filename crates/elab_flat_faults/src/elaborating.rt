@@ -4,7 +4,8 @@ ghost use Rattle.elab_flat_faults.specs.declared.elaborating.ElabFault.TheVarian
 use outside::Text;
 use std::alloc::{AllocError, AllocFailed};
 
-/// Why a module without instances has no functions. A name is that of the signal at fault, and a bit goes by its declared number.
+/// Why a module without instances has no functions. A name is that of the signal at fault, and a bit goes by its
+/// declared number.
 #[derive(Drop)]
 pub enum ElabFault {
     /// A combinational block drives a bit that some path through it doesn't set.
@@ -17,9 +18,10 @@ pub enum ElabFault {
     Undriven(Text, u64),
     /// A list of names leaves out one that its block reads.
     Sensitivity(Text),
-    /// The wrong form of assignment for the block or the declaration, or a signal that a clocked and a combinational block both assign.
+    /// The wrong form of assignment for the block or the declaration, or a signal that a clocked and a combinational
+    /// block both assign.
     Kind(Text),
-    /// Want of memory.
+    /// Out of memory.
     Memory,
 }
 

@@ -72,7 +72,7 @@ impl Search {
         })
     }
 
-    /// Follows the next edge of the top, or leaves it where it has none.
+    // Follows the next edge of the top, or leaves it where it has none.
     fn turn(&mut self, graph: &Graph, node: usize) -> Option<usize>
         requires search { IsSearch graph.now self.old }
         requires top { slice_get self.old.stack 0 ≡ Some node }
@@ -92,7 +92,7 @@ impl Search {
         Some(targets[targets.len() - left])
     }
 
-    /// Enters the node that the top has just led to, where it is new.
+    // Enters the node that the top has just led to, where it is new.
     fn enter(&mut self, graph: &Graph, node: usize) -> Result<(), AllocError>
         requires followed { HasFollowed graph.now self.old node }
         requires off { get_or self.old.marks.items node false ≡ false }
@@ -108,7 +108,7 @@ impl Search {
         Ok(())
     }
 
-    /// The edge that a node on the stack has just followed.
+    // The edge that a node on the stack has just followed.
     fn edge(&self, graph: &Graph, node: usize) -> usize
         requires node { node < length graph.now }
         requires turns { length self.now.left.items ≡ length graph.now }
@@ -118,7 +118,7 @@ impl Search {
         graph.targets(node).len() - self.left[node]
     }
 
-    /// The cycle that the top has just closed by an edge to a node on the stack.
+    // The cycle that the top has just closed by an edge to a node on the stack.
     fn cycle(&self, alloc: Global, graph: &Graph, target: usize) -> Result<Cycle, AllocError>
         requires followed { HasFollowed graph.now self.now target }
         requires on { get_or self.now.marks.items target false ≡ true }
@@ -136,8 +136,8 @@ impl Search {
     }
 }
 
-/// A cycle that walks from a node come to; none where no walk from it comes back to a node that it has been at. Its time is linear in the nodes and
-/// edges of the graph. Refused only for want of memory.
+/// A cycle that walks from a node come to; none where no walk from it comes back to a node that it has been at. Its
+/// time is linear in the nodes and edges of the graph.
 pub fn cycle_from(alloc: Global, graph: &Graph, start: usize) -> Result<Option<Cycle>, AllocError>
     requires node { start < length graph.now }
     requires graph { IsGraph graph.now }

@@ -50,7 +50,7 @@ fn sort(vertices: &mut Vec<usize>, levels: &[usize], keys: &[usize]) -> Result<(
     Ok(())
 }
 
-/// The vertices of an order by their levels, and those of one level by their keys. It is refused for want of memory alone.
+/// The vertices of an order by their levels, and those of one level by their keys.
 pub fn levelized(
     alloc: Global,
     graph: &[Vec<usize>],

@@ -14,7 +14,8 @@ pub enum Mark {
     Done,
 }
 
-/// A search of a graph: the mark of each vertex, how many of its successors are known to be done, the path, and the vertices that are done.
+/// A search of a graph: the mark of each vertex, how many of its successors are known to be done, the path, and the
+/// vertices that are done.
 #[derive(Drop)]
 pub struct Search<'a> {
     pub graph: &'a [Vec<usize>],
@@ -187,7 +188,8 @@ impl<'a> Search<'a> {
         }
     }
 
-    // One step: the last vertex of the path is done, or one of its successors is opened, or, where it is open, closes a cycle.
+    // One step: the last vertex of the path is done, or one of its successors is opened, or, where it is open, closes a
+    // cycle.
     fn step(&mut self, v: usize) -> Result<Option<usize>, AllocError>
         requires graph { IsGraph (searched self.old) }
         requires search { Searches self.old }

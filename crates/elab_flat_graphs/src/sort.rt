@@ -36,9 +36,10 @@ fn search(alloc: Global, graph: &[Vec<usize>]) -> Result<Sorted, AllocError>
     Ok(Sorted::Order(search.done))
 }
 
-/// Each vertex once, after its successors; or, where there is no such order, a cycle. The successors of each vertex are vertices.
-/// The order goes by levels, those of one level by their keys: a vertex without successors has level 0, another is one level above the highest of
-/// its successors, and a vertex without a key has 0. It takes time linear in the graph's size, but for a sort. It is refused for want of memory alone.
+/// Each vertex once, after its successors; or, where there is no such order, a cycle. The successors of each vertex are
+/// vertices. The order goes by levels, those of one level by their keys: a vertex without successors has level 0,
+/// another is one level above the highest of its successors, and a vertex without a key has 0. It takes time linear in
+/// the graph's size, but for a sort.
 pub fn order(alloc: Global, graph: &[Vec<usize>], keys: &[usize]) -> Result<Sorted, AllocError>
     requires { IsGraph (graph_of graph.now) }
     ensures sorted { IfOk result (IsSorted (graph_of graph.now)) }

@@ -33,7 +33,7 @@ pub fn module_names<'a>(alloc: Global, modules: &'a [Module]) -> Result<Names<'a
     Names::of(alloc, names)
 }
 
-/// The node of the module of the instance at a place, among so many modules.
+// The node of the module of the instance at a place, among so many modules.
 fn target(
     modules: &Names<'_>,
     count: usize,
@@ -92,7 +92,7 @@ fn targets(
     targets_of(alloc, modules, count, &names, &instances)
 }
 
-/// The graph of modules. Refused only for want of memory.
+/// The graph of modules.
 pub fn graph_of(alloc: Global, modules: &[Module], names: &Names<'_>) -> Result<Graph, AllocError>
     requires { names.now ≡ map module_name modules.now }
     ensures { IfOk result (λ graph. graph ≡ graph_of modules.now) }

@@ -38,7 +38,7 @@ pub fn prefix_name(alloc: Global, top: &[u8], prefix: &[u8]) -> Result<Text, All
     }
 }
 
-/// The name of the instance at a place in a module.
+// The name of the instance at a place in a module.
 fn name_at(alloc: Global, text: &Module, at: usize) -> Result<Text, AllocError>
     requires { at < length (instances_in text.now) }
     ensures { IfOk result (λ name. option_map inner_name (slice_get (instances_in text.now) at) ≡ Some name) }
@@ -47,7 +47,8 @@ fn name_at(alloc: Global, text: &Module, at: usize) -> Result<Text, AllocError>
     Text::copy(alloc, instances[at].name.bytes())
 }
 
-/// What stands in front of the names of the instance at a place in a module, by what stands in front of the module's own.
+// What stands in front of the names of the instance at a place in a module, by what stands in front of the module's
+// own.
 fn prefix_at(alloc: Global, prefix: &[u8], text: &Module, at: usize) -> Result<Text, AllocError>
     requires { at < length (instances_in text.now) }
     ensures { IfOk result (λ r. (name : Name) × (option_map inner_name (slice_get (instances_in text.now) at) ≡ Some name) × (r ≡ inner_prefix prefix.now name)) }
@@ -56,7 +57,7 @@ fn prefix_at(alloc: Global, prefix: &[u8], text: &Module, at: usize) -> Result<T
     inner_prefix(alloc, prefix, name.bytes())
 }
 
-/// What stands in front of the names of the instance that a walk leads to.
+// What stands in front of the names of the instance that a walk leads to.
 fn prefix_along(
     alloc: Global,
     modules: &[Module],
@@ -79,7 +80,7 @@ fn prefix_along(
     Ok(prefix)
 }
 
-/// The name of a module's instance that stands in an instance of the same module, by the graph of the modules.
+// The name of a module's instance that stands in an instance of the same module, by the graph of the modules.
 fn recursion_in(
     alloc: Global,
     modules: &[Module],
@@ -101,8 +102,8 @@ fn recursion_in(
     }
 }
 
-/// The name of a module's instance that stands in an instance of the same module, or none where no module contains itself. Its time is linear in the
-/// texts of the modules. Refused only for want of memory.
+/// The name of a module's instance that stands in an instance of the same module, or none where no module contains
+/// itself. Its time is linear in the texts of the modules.
 pub fn recursion(
     alloc: Global,
     modules: &[Module],

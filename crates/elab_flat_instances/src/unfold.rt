@@ -24,7 +24,7 @@ use outside::Text;
 use std::alloc::{AllocError, Global};
 use vlog_tree::{Module, Valuation};
 
-/// Whether a name stands first at a place.
+// Whether a name stands first at a place.
 fn is_first(names: &Names<'_>, at: usize, name: &[u8]) -> bool
     ensures { IsTrue result ↔ (place_in names.now name.now ≡ Some at) }
 {
@@ -62,7 +62,8 @@ fn children_of<'a>(
     Ok(all)
 }
 
-/// The instances in a scope, in the order of its text. A refusal has a fault that stands at the scope or at one of them.
+/// The instances in a scope, in the order of its text. A refusal has a fault that stands at the scope or at one of
+/// them.
 pub fn children<'a>(
     alloc: Global,
     modules: &Modules<'a>,
@@ -76,10 +77,10 @@ pub fn children<'a>(
     children_of(alloc, modules, outer, &names, &instances)
 }
 
-/// The most scopes that a list of modules may have, the top among them.
+// The most scopes that a list of modules may have, the top among them.
 const MOST: usize = 4096;
 
-/// The scopes from the top, the first one. A refusal's fault stands.
+// The scopes from the top, the first one. A refusal's fault stands.
 fn unfold<'a>(
     alloc: Global,
     modules: &Modules<'a>,
@@ -125,7 +126,8 @@ fn top_scope<'a>(alloc: Global, text: &'a Module) -> Result<Scope<'a>, FlatFault
     }
 }
 
-/// The name of a module's instance that stands in an instance of the same module, or none where no module below the top contains itself.
+// The name of a module's instance that stands in an instance of the same module, or none where no module below the top
+// contains itself.
 fn top_recursion(alloc: Global, modules: &[Module], top: &[u8]) -> Result<Option<Text>, AllocError>
     requires { (m : Design) × (module_at modules.now top.now ≡ Some m) }
     ensures { IfOk result (IsRecursionAnswer modules.now top.now) }
@@ -164,8 +166,8 @@ fn scopes_from<'a>(
     unfold(alloc, all, top, first)
 }
 
-/// The scopes of a list of modules from its top: the top, and then each one's instances after one another. A refusal's fault stands. Its time is linear in
-/// the texts of the modules, and in the sizes of the scopes.
+/// The scopes of a list of modules from its top: the top, and then each one's instances after one another. A refusal's
+/// fault stands. Its time is linear in the texts of the modules, and in the sizes of the scopes.
 pub fn scopes_of<'a>(
     alloc: Global,
     modules: &'a [Module],

@@ -6,7 +6,7 @@ use crate::expr::moved_expr;
 use std::alloc::{AllocError, Global};
 use vlog_tree::{Expr, Valuation};
 
-/// An expression once more. Refused only for want of memory.
+/// An expression once more.
 pub fn copied(alloc: Global, expr: &Expr) -> Result<Expr, AllocError>
     ensures { IfOk result (λ r. r ≡ expr.now) }
 {

@@ -58,7 +58,7 @@ impl Mover<'_> {
         })
     }
 
-    /// What a name stands for, where it is a parameter's.
+    // What a name stands for, where it is a parameter's.
     fn meaning(&self, name: &Name) -> Option<Constant>
         ensures { result ≡ meaning_of self.now.params.now name.now }
     {
@@ -172,7 +172,7 @@ impl Mover<'_> {
     }
 }
 
-/// An expression of a scope with this prefix and these parameters. Refused only for want of memory.
+/// An expression of a scope with this prefix and these parameters.
 pub fn moved_expr(
     alloc: Global,
     prefix: &[u8],

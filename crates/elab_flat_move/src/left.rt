@@ -30,7 +30,7 @@ impl Mover<'_> {
         }
     }
 
-    /// Left sides of the scope.
+    // Left sides of the scope.
     #[cycle(left)]
     fn lefts(&self, lefts: &[Lval]) -> Result<Items<Lval>, AllocError>
         ensures { IfOk result (λ r. r ≡ map (moved_left self.now.prefix.now self.now.params.now) lefts.now) }

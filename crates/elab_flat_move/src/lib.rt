@@ -1,4 +1,5 @@
-//! The text of a scope as a module without instances has it: its names under its prefix, its parameters replaced by their numbers.
+//! The text of a scope as a module without instances has it: its names under its prefix, its parameters replaced by
+//! their numbers.
 #![tactic(auto)]
 
 mod copies;

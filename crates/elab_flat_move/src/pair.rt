@@ -4,7 +4,8 @@ ghost use Rattle.std.specs.Prelude.{◌≡◌, IfOk};
 
 use std::alloc::AllocError;
 
-/// Both of two values. Where one is refused the other is dropped here: dropped where it is made, each tree would be proved anew there.
+/// Both of two values. Where one is refused the other is dropped here: dropped where it is made, each tree would be
+/// proved anew there.
 pub fn both<A: Drop, B: Drop>(
     first: Result<A, AllocError>,
     second: Result<B, AllocError>,

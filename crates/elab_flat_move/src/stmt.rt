@@ -97,7 +97,7 @@ impl Mover<'_> {
         Ok(Stmt::Case(kind, subject, items))
     }
 
-    /// Statements of the scope.
+    // Statements of the scope.
     #[cycle(stmt)]
     fn stmts(&self, stmts: &[Stmt]) -> Result<Items<Stmt>, AllocError>
         ensures { IfOk result (λ r. r ≡ map (moved_stmt self.now.prefix.now self.now.params.now) stmts.now) }
@@ -109,7 +109,7 @@ impl Mover<'_> {
         Ok(all)
     }
 
-    /// Case items of the scope.
+    // Case items of the scope.
     #[cycle(stmt)]
     fn cases(&self, items: &[CaseItem]) -> Result<Items<CaseItem>, AllocError>
         ensures { IfOk result (λ r. r ≡ map (moved_case self.now.prefix.now self.now.params.now) items.now) }
@@ -123,7 +123,7 @@ impl Mover<'_> {
     }
 }
 
-/// A statement of a scope with this prefix and these parameters. Refused only for want of memory.
+/// A statement of a scope with this prefix and these parameters.
 pub fn moved_stmt(
     alloc: Global,
     prefix: &[u8],

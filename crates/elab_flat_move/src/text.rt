@@ -13,7 +13,7 @@ use std::alloc::{AllocError, Global};
 use vlog_tree::{Assign, Events, Expr, Lval, Stmt, Valuation};
 use vlog_tree_runs::{Always, Signal};
 
-/// A signal of a scope with this prefix. Refused only for want of memory.
+/// A signal of a scope with this prefix.
 pub fn moved_signal(alloc: Global, prefix: &[u8], signal: &Signal) -> Result<Signal, AllocError>
     ensures { IfOk result (λ r. r ≡ moved_signal prefix.now signal.now) }
 {
@@ -60,7 +60,7 @@ fn moved_names(
     }
 }
 
-/// An `always` block of a scope with this prefix and these parameters. Refused only for want of memory.
+/// An `always` block of a scope with this prefix and these parameters.
 pub fn moved_block(
     alloc: Global,
     prefix: &[u8],
@@ -84,8 +84,8 @@ pub fn moved_block(
     })
 }
 
-/// A continuous assignment or the connection of a port: its left side stands in one scope, its right side in one that may be
-/// another. Refused only for want of memory.
+/// A continuous assignment or the connection of a port: its left side stands in one scope, its right side in one that
+/// may be another.
 pub fn moved_link(
     into: &Mover<'_>,
     left: &Lval,

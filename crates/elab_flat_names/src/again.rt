@@ -23,7 +23,7 @@ use std::alloc::{AllocError, Global};
 use std::collections::HashSet;
 use vlog_tree::{Module, Ports};
 
-/// The declarations of names that an earlier one declares.
+// The declarations of names that an earlier one declares.
 fn again<'a>(alloc: Global, decls: &[Decl<'a>]) -> Result<Vec<Decl<'a>>, AllocError>
     ensures { IfOk result (λ r. map decl_meant r.items ≡ again [] (map decl_meant decls.now)) }
 {
@@ -37,7 +37,7 @@ fn again<'a>(alloc: Global, decls: &[Decl<'a>]) -> Result<Vec<Decl<'a>>, AllocEr
     Ok(all)
 }
 
-/// The names that a header declares itself.
+// The names that a header declares itself.
 fn headed_names(alloc: Global, text: &Module) -> Result<Vec<&Text>, AllocError>
     ensures { IfOk result (λ r. map name_meant r.items ≡ headed_names text.now) }
 {
@@ -68,7 +68,7 @@ fn has_words(decl: &Decl<'_>) -> bool
     }
 }
 
-/// Whether a second declaration may go with the first one, their shapes apart.
+// Whether a second declaration may go with the first one, their shapes apart.
 fn may_go(headed: &Names<'_>, first: &Decl<'_>, second: &Decl<'_>) -> bool
     ensures { IsTrue result ↔ MayGoWith headed.now (decl_meant first.now) (decl_meant second.now) }
 {
@@ -130,7 +130,7 @@ fn goes_with(
     }
 }
 
-/// The first declaration of a name.
+// The first declaration of a name.
 fn first_of<'d, 'a>(places: &Names<'_>, decls: &'d [Decl<'a>], name: &[u8]) -> Option<&'d Decl<'a>>
     requires { places.now ≡ map decl_name (map decl_meant decls.now) }
     ensures { option_map (λ d. decl_meant d.now) result ≡ decl_at (map decl_meant decls.now) name.now }
@@ -141,7 +141,7 @@ fn first_of<'d, 'a>(places: &Names<'_>, decls: &'d [Decl<'a>], name: &[u8]) -> O
     }
 }
 
-/// The name of a declaration that doesn't go with the first one of its name.
+// The name of a declaration that doesn't go with the first one of its name.
 fn misfit<'a>(
     alloc: Global,
     scope: &Scope<'_>,
@@ -168,7 +168,8 @@ fn misfit<'a>(
     Ok(None)
 }
 
-/// A name that is declared more than once and not as a port of the body once more there. A refusal's fault stands at the scope.
+/// A name that is declared more than once and not as a port of the body once more there. A refusal's fault stands at
+/// the scope.
 pub fn declared_again<'a>(alloc: Global, scope: &Scope<'a>) -> Result<Option<&'a Text>, FlatFault>
     ensures ok { IfOk result (λ r. Finds (IsWronglyAgain scope.now.text.now scope.now.params) (option_copied r)) }
     ensures err { IfErr result (Refuses (StandsAlone (scope_meant scope.now))) }

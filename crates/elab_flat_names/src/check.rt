@@ -22,7 +22,7 @@ use elab_flat_scopes::{Inner, Modules, Names, instances_in};
 use outside::Text;
 use std::alloc::{AllocError, Global};
 
-/// The full name of something in a scope.
+// The full name of something in a scope.
 fn scoped(alloc: Global, scope: &Scope<'_>, name: &[u8]) -> Result<Text, AllocError>
     ensures { IfOk result (λ text. text ≡ (scope_meant scope.now).prefix ++ name.now) }
 {
@@ -30,8 +30,8 @@ fn scoped(alloc: Global, scope: &Scope<'_>, name: &[u8]) -> Result<Text, AllocEr
     Ok(text)
 }
 
-/// Each name that a scope's text reads is a parameter or a signal of it, and each that it assigns or waits for a signal. A refusal's fault stands at
-/// the scope.
+/// Each name that a scope's text reads is a parameter or a signal of it, and each that it assigns or waits for a
+/// signal. A refusal's fault stands at the scope.
 pub fn check_used(alloc: Global, scope: &Scope<'_>) -> Result<(), FlatFault>
     ensures ok { OnOk result ((x : Name) → IsUsedUnknown (scope_meant scope.now) x → ⊥) }
     ensures err { IfErr result (Refuses (StandsAlone (scope_meant scope.now))) }
@@ -72,7 +72,8 @@ pub fn check_declared(alloc: Global, scope: &Scope<'_>) -> Result<(), FlatFault>
     }
 }
 
-/// The header of a scope's module lists the ports that are declared with a direction. A refusal's fault stands at the scope.
+/// The header of a scope's module lists the ports that are declared with a direction. A refusal's fault stands at the
+/// scope.
 pub fn check_ports(alloc: Global, scope: &Scope<'_>) -> Result<(), FlatFault>
     ensures ok { OnOk result ((x : Name) → LacksDirection scope.now.text.now x ⊎ IsUnlisted scope.now.text.now x → ⊥) }
     ensures err { IfErr result (Refuses (StandsAlone (scope_meant scope.now))) }
@@ -107,7 +108,8 @@ fn check_inners(
     Ok(())
 }
 
-/// The instances in a scope have modules, which their overrides and their connections fit. A refusal's fault stands at the scope.
+/// The instances in a scope have modules, which their overrides and their connections fit. A refusal's fault stands at
+/// the scope.
 pub fn check_instances(
     alloc: Global,
     modules: &Modules<'_>,
@@ -121,9 +123,9 @@ pub fn check_instances(
     check_inners(alloc, modules, scope, &signals, &instances)
 }
 
-/// The rules on names and ports hold in a scope: neither `Unknown` nor `Twice` nor `Port` stands there. A refusal's fault stands at the scope; it is
-/// `Constant` or `Width` where the range of a signal that is declared again, or of a memory, declares nothing. Its time is linear in the scope's text
-/// and in the modules of its instances.
+/// The rules on names and ports hold in a scope: neither `Unknown` nor `Twice` nor `Port` stands there. A refusal's
+/// fault stands at the scope; it is `Constant` or `Width` where the range of a signal that is declared again, or of a
+/// memory, declares nothing. Its time is linear in the scope's text and in the modules of its instances.
 pub fn check_names(alloc: Global, modules: &Modules<'_>, scope: &Scope<'_>) -> Result<(), FlatFault>
     ensures none { OnOk result ((fault : Fault) → IsOfNames fault → (path : Name) → StandsAt modules.now path (scope_meant scope.now) fault → ⊥) }
     ensures err { IfErr result (Refuses (StandsIn modules.now (scope_meant scope.now))) }

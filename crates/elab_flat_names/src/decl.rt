@@ -36,7 +36,7 @@ fn range_of(shape: Option<&Shape>) -> Option<&Range>
     }
 }
 
-/// Adds the bounds of a declaration's ranges. Refused only for want of memory.
+/// Adds the bounds of a declaration's ranges.
 pub fn add_decl<'a>(all: &mut Vec<&'a Expr>, decl: &Decl<'a>) -> Result<(), AllocError>
     ensures { OnOk result (map expr_meant all.new.items ≡ map expr_meant all.old.items ++ decl_exprs (decl_meant decl.now)) }
 {
@@ -45,7 +45,7 @@ pub fn add_decl<'a>(all: &mut Vec<&'a Expr>, decl: &Decl<'a>) -> Result<(), Allo
     Ok(())
 }
 
-/// Adds the bounds of a parameter's range, and its value. Refused only for want of memory.
+/// Adds the bounds of a parameter's range, and its value.
 pub fn add_param<'a>(all: &mut Vec<&'a Expr>, param: &Param<'a>) -> Result<(), AllocError>
     ensures { OnOk result (map expr_meant all.new.items ≡ map expr_meant all.old.items ++ param_exprs (param_meant param.now)) }
 {
@@ -84,7 +84,7 @@ fn add_args<'a>(all: &mut Vec<&'a Expr>, args: &'a Option<Args>) -> Result<(), A
     }
 }
 
-/// Adds the overrides and the connections of an instance. Refused only for want of memory.
+/// Adds the overrides and the connections of an instance.
 pub fn add_inner<'a>(all: &mut Vec<&'a Expr>, inner: &Inner<'a>) -> Result<(), AllocError>
     ensures { OnOk result (map expr_meant all.new.items ≡ map expr_meant all.old.items ++ inner_exprs (inner_meant inner.now)) }
 {

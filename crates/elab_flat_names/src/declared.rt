@@ -81,7 +81,7 @@ fn add_open_names<'a>(
     Ok(())
 }
 
-/// The names of the parameters that an instance may override. Refused only for want of memory.
+/// The names of the parameters that an instance may override.
 pub fn open_names(alloc: Global, text: &Module) -> Result<Vec<&Text>, AllocError>
     ensures { IfOk result (λ r. map name_meant r.items ≡ open_params text.now) }
 {
@@ -91,7 +91,7 @@ pub fn open_names(alloc: Global, text: &Module) -> Result<Vec<&Text>, AllocError
     Ok(all)
 }
 
-/// The names of declarations. Refused only for want of memory.
+/// The names of declarations.
 pub fn decl_names<'a>(alloc: Global, decls: &[Decl<'a>]) -> Result<Vec<&'a Text>, AllocError>
     ensures { IfOk result (λ r. map name_meant r.items ≡ map decl_name (map decl_meant decls.now)) }
 {
@@ -100,7 +100,7 @@ pub fn decl_names<'a>(alloc: Global, decls: &[Decl<'a>]) -> Result<Vec<&'a Text>
     Ok(all)
 }
 
-/// The names of a module's signals. Refused only for want of memory.
+/// The names of a module's signals.
 pub fn signal_names(alloc: Global, text: &Module) -> Result<Vec<&Text>, AllocError>
     ensures { IfOk result (λ r. map name_meant r.items ≡ map decl_name (signals_in text.now)) }
 {
@@ -108,7 +108,7 @@ pub fn signal_names(alloc: Global, text: &Module) -> Result<Vec<&Text>, AllocErr
     decl_names(alloc, &signals)
 }
 
-/// The names of a module's parameters. Refused only for want of memory.
+/// The names of a module's parameters.
 pub fn param_names(alloc: Global, text: &Module) -> Result<Vec<&Text>, AllocError>
     ensures { IfOk result (λ r. map name_meant r.items ≡ map param_name (params_in text.now)) }
 {
@@ -118,7 +118,7 @@ pub fn param_names(alloc: Global, text: &Module) -> Result<Vec<&Text>, AllocErro
     Ok(all)
 }
 
-/// The names of the declarations that give a direction. Refused only for want of memory.
+/// The names of the declarations that give a direction.
 pub fn directed_names(alloc: Global, text: &Module) -> Result<Vec<&Text>, AllocError>
     ensures { IfOk result (λ r. map name_meant r.items ≡ directed_names text.now) }
 {
@@ -128,7 +128,7 @@ pub fn directed_names(alloc: Global, text: &Module) -> Result<Vec<&Text>, AllocE
     Ok(all)
 }
 
-/// The names of the parameters and the signals of a scope. Refused only for want of memory.
+/// The names of the parameters and the signals of a scope.
 pub fn scope_names<'s>(alloc: Global, scope: &'s Scope<'_>) -> Result<Names<'s>, AllocError>
     ensures { IfOk result (λ names. names ≡ scope_names (scope_meant scope.now)) }
 {
@@ -139,7 +139,7 @@ pub fn scope_names<'s>(alloc: Global, scope: &'s Scope<'_>) -> Result<Names<'s>,
     Names::of(alloc, all)
 }
 
-/// The names of the parameters, the instances and the signals of a module. Refused only for want of memory.
+/// The names of the parameters, the instances and the signals of a module.
 pub fn declared_names(alloc: Global, text: &Module) -> Result<Vec<&Text>, AllocError>
     ensures { IfOk result (λ r. map name_meant r.items ≡ declared_names text.now) }
 {

@@ -93,7 +93,7 @@ fn text_exprs(alloc: Global, text: &Module) -> Result<Vec<&Expr>, AllocError>
     Ok(all)
 }
 
-/// The expressions of a module's text outside its instances. Refused only for want of memory.
+/// The expressions of a module's text outside its instances.
 pub fn own_exprs_in(alloc: Global, text: &Module) -> Result<Vec<&Expr>, AllocError>
     ensures { IfOk result (λ r. (a : Form) → Among (map expr_meant r.items) a ↔ Among (own_exprs text.now) a) }
 {
@@ -101,7 +101,7 @@ pub fn own_exprs_in(alloc: Global, text: &Module) -> Result<Vec<&Expr>, AllocErr
     Ok(own)
 }
 
-/// All expressions of a module's text, those of overrides and connections among them. Refused only for want of memory.
+/// All expressions of a module's text, those of overrides and connections among them.
 pub fn exprs_in(alloc: Global, text: &Module) -> Result<Vec<&Expr>, AllocError>
     ensures { IfOk result (λ r. (a : Form) → Among (map expr_meant r.items) a ↔ Among (all_exprs text.now) a) }
 {

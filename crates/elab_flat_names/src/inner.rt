@@ -36,7 +36,7 @@ fn connection_names<'a>(
     Ok(all)
 }
 
-/// The names that arguments give something to, where they go by names.
+// The names that arguments give something to, where they go by names.
 fn arg_names<'a>(alloc: Global, args: &'a Option<Args>) -> Result<Vec<&'a Text>, AllocError>
     ensures { IfOk result (λ r. map name_meant r.items ≡ arg_names args.now) }
 {
@@ -47,7 +47,7 @@ fn arg_names<'a>(alloc: Global, args: &'a Option<Args>) -> Result<Vec<&'a Text>,
     }
 }
 
-/// Whether arguments by position are more than so many names.
+// Whether arguments by position are more than so many names.
 fn overshoots(count: usize, args: &Option<Args>) -> bool
     ensures { (names : List Name) → length names ≡ count → (IsTrue result ↔ Overshoots names args.now) }
 {
@@ -58,7 +58,7 @@ fn overshoots(count: usize, args: &Option<Args>) -> bool
     }
 }
 
-/// Whether arguments by position are more or fewer than so many names.
+// Whether arguments by position are more or fewer than so many names.
 fn misses(count: usize, args: &Option<Args>) -> bool
     ensures { (names : List Name) → length names ≡ count → (IsTrue result ↔ MissesPorts names args.now) }
 {
@@ -69,7 +69,7 @@ fn misses(count: usize, args: &Option<Args>) -> bool
     }
 }
 
-/// The full name of something of an instance's module.
+// The full name of something of an instance's module.
 fn inside(
     alloc: Global,
     scope: &Scope<'_>,
@@ -83,7 +83,7 @@ fn inside(
     Ok(text)
 }
 
-/// Whether an output is connected to an expression that can't be assigned.
+// Whether an output is connected to an expression that can't be assigned.
 fn is_bad(gift: &Given<'_>, ports: &Signals<'_>, signals: &Names<'_>) -> bool
     ensures { IsTrue result ↔ IsBadGiven ports.now signals.now (given_meant gift.now) }
 {
@@ -101,7 +101,7 @@ fn is_bad(gift: &Given<'_>, ports: &Signals<'_>, signals: &Names<'_>) -> bool
     }
 }
 
-/// An output that is connected to an expression that can't be assigned.
+// An output that is connected to an expression that can't be assigned.
 fn bad_output<'a>(given: &[Given<'a>], ports: &Signals<'_>, signals: &Names<'_>) -> Option<&'a Text>
     ensures { Finds (IsBadOutput (map given_meant given.now) ports.now signals.now) (option_copied result) }
 {
@@ -171,7 +171,8 @@ pub fn check_named(
     Ok(())
 }
 
-/// Each output of an instance is connected to an expression that can be assigned. A refusal's fault stands at the scope.
+/// Each output of an instance is connected to an expression that can be assigned. A refusal's fault stands at the
+/// scope.
 pub fn check_outputs(
     alloc: Global,
     scope: &Scope<'_>,
@@ -194,7 +195,8 @@ pub fn check_outputs(
     Ok(())
 }
 
-/// An instance in a scope has a module, which its overrides and its connections fit. A refusal's fault stands at the scope.
+/// An instance in a scope has a module, which its overrides and its connections fit. A refusal's fault stands at the
+/// scope.
 pub fn check_inner(
     alloc: Global,
     modules: &Modules<'_>,

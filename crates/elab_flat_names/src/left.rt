@@ -30,7 +30,7 @@ fn add_part_numbers<'a>(all: &mut Vec<&'a Expr>, part: Part<'a>) -> Result<(), A
     }
 }
 
-/// Adds the numbers of a left side. Refused only for want of memory.
+/// Adds the numbers of a left side.
 pub fn add_numbers<'a>(
     all: &mut Vec<&'a Expr>,
     alloc: Global,
@@ -45,7 +45,7 @@ pub fn add_numbers<'a>(
     Ok(())
 }
 
-/// Adds the names of the signals that a left side assigns. Refused only for want of memory.
+/// Adds the names of the signals that a left side assigns.
 pub fn add_left_names<'a>(
     all: &mut Vec<&'a Text>,
     alloc: Global,

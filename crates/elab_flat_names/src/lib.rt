@@ -1,6 +1,6 @@
 //! Names and ports of the instances of a list of modules: what is used and isn't declared, what stands twice, and ports
-//! that don't fit. The expressions in a module's text, and the names that it reads, assigns and waits for, are views that
-//! borrow from it.
+//! that don't fit. The expressions in a module's text, and the names that it reads, assigns and waits for, are views
+//! that borrow from it.
 #![tactic(auto)]
 
 mod again;

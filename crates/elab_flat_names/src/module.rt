@@ -17,7 +17,7 @@ use outside::Text;
 use std::alloc::{AllocError, Global};
 use vlog_tree::Module;
 
-/// A name in an expression that isn't declared. Refused only for want of memory.
+/// A name in an expression that isn't declared.
 pub fn undeclared<'a>(
     alloc: Global,
     text: &'a Module,
@@ -30,7 +30,7 @@ pub fn undeclared<'a>(
     Ok(absent(&names, declared))
 }
 
-/// A name that is assigned or waited for and is no signal. Refused only for want of memory.
+/// A name that is assigned or waited for and is no signal.
 pub fn unassignable<'a>(
     alloc: Global,
     text: &'a Module,
@@ -44,7 +44,7 @@ pub fn unassignable<'a>(
     Ok(absent(&names, signals))
 }
 
-/// A port that the header names twice. Refused only for want of memory.
+/// A port that the header names twice.
 pub fn listed_twice(alloc: Global, text: &Module) -> Result<Option<&Text>, AllocError>
     ensures { IfOk result (λ r. Finds (Repeats (port_names text.now)) (option_copied r)) }
 {
@@ -52,7 +52,7 @@ pub fn listed_twice(alloc: Global, text: &Module) -> Result<Option<&Text>, Alloc
     repeated(alloc, &names)
 }
 
-/// A name that two of the parameters, instances and signals have. Refused only for want of memory.
+/// A name that two of the parameters, instances and signals have.
 pub fn named_twice(alloc: Global, text: &Module) -> Result<Option<&Text>, AllocError>
     ensures { IfOk result (λ r. Finds (Repeats (declared_names text.now)) (option_copied r)) }
 {
@@ -60,7 +60,7 @@ pub fn named_twice(alloc: Global, text: &Module) -> Result<Option<&Text>, AllocE
     repeated(alloc, &names)
 }
 
-/// A name of the header that no declaration gives a direction. Refused only for want of memory.
+/// A name of the header that no declaration gives a direction.
 pub fn undirected(alloc: Global, text: &Module) -> Result<Option<&Text>, AllocError>
     ensures { IfOk result (λ r. Finds (LacksDirection text.now) (option_copied r)) }
 {
@@ -69,7 +69,7 @@ pub fn undirected(alloc: Global, text: &Module) -> Result<Option<&Text>, AllocEr
     Ok(absent(&ports, &directed))
 }
 
-/// A port of the body that the header doesn't list. Refused only for want of memory.
+/// A port of the body that the header doesn't list.
 pub fn unlisted(alloc: Global, text: &Module) -> Result<Option<&Text>, AllocError>
     ensures { IfOk result (λ r. Finds (IsUnlisted text.now) (option_copied r)) }
 {

@@ -27,7 +27,7 @@ fn add_expr<'a>(all: &mut Vec<&'a Text>, alloc: Global, expr: &'a Expr) -> Resul
     Ok(())
 }
 
-/// The names in an expression, in the order of its text. Refused only for want of memory.
+/// The names in an expression, in the order of its text.
 pub fn names_in(alloc: Global, expr: &Expr) -> Result<Vec<&Text>, AllocError>
     ensures { IfOk result (λ r. map name_meant r.items ≡ names_in expr.now) }
 {
@@ -36,7 +36,7 @@ pub fn names_in(alloc: Global, expr: &Expr) -> Result<Vec<&Text>, AllocError>
     Ok(all)
 }
 
-/// The names in some expressions. Refused only for want of memory.
+/// The names in some expressions.
 pub fn names_read<'a>(alloc: Global, exprs: &[&'a Expr]) -> Result<Vec<&'a Text>, AllocError>
     ensures { IfOk result (λ r. map name_meant r.items ≡ flat_map names_in (map expr_meant exprs.now)) }
 {
@@ -113,7 +113,7 @@ fn add_blocks<'a>(
     Ok(())
 }
 
-/// The names that the assignments of a module have on their left. Refused only for want of memory.
+/// The names that the assignments of a module have on their left.
 pub fn assigned_in(alloc: Global, text: &Module) -> Result<Vec<&Text>, AllocError>
     ensures { IfOk result (λ r. map name_meant r.items ≡ assigned_in text.now) }
 {
@@ -163,7 +163,7 @@ fn waited<'a>(alloc: Global, blocks: &[Block<'a>]) -> Result<Vec<&'a Text>, Allo
     Ok(all)
 }
 
-/// The names that the blocks of a module wait for. Refused only for want of memory.
+/// The names that the blocks of a module wait for.
 pub fn waited_in(alloc: Global, text: &Module) -> Result<Vec<&Text>, AllocError>
     ensures { IfOk result (λ r. map name_meant r.items ≡ waited_in text.now) }
 {

@@ -11,7 +11,7 @@ use outside::Text;
 use std::alloc::{AllocError, Global};
 use std::collections::HashSet;
 
-/// A name that stands twice in a list; none where each stands once. Refused only for want of memory.
+/// A name that stands twice in a list; none where each stands once.
 pub fn repeated<'a>(alloc: Global, names: &[&'a Text]) -> Result<Option<&'a Text>, AllocError>
     ensures { IfOk result (λ r. Finds (Repeats (map name_meant names.now)) (option_copied r)) }
 {

@@ -26,7 +26,7 @@ fn add_assignment<'a>(
     Ok(())
 }
 
-/// Adds the expressions of a continuous assignment. Refused only for want of memory.
+/// Adds the expressions of a continuous assignment.
 pub fn add_assigned<'a>(
     all: &mut Vec<&'a Expr>,
     alloc: Global,
@@ -56,7 +56,7 @@ fn add_piece<'a>(all: &mut Vec<&'a Expr>, alloc: Global, piece: Piece<'a>) -> Re
     }
 }
 
-/// Adds the expressions of a block, in the order of its text. Refused only for want of memory.
+/// Adds the expressions of a block, in the order of its text.
 pub fn add_block<'a>(
     all: &mut Vec<&'a Expr>,
     alloc: Global,

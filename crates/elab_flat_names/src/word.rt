@@ -30,7 +30,7 @@ fn word_name(alloc: Global, name: &[u8], index: u8) -> Result<Text, AllocError>
     Ok(text)
 }
 
-/// A name among others that a word of a memory has.
+// A name among others that a word of a memory has.
 fn word_among(alloc: Global, signal: &Signal, names: &Names<'_>) -> Result<Option<Text>, AllocError>
     ensures { IfOk result (Finds (λ x. Among names.now x × Among (words_of signal.now) x)) }
 {

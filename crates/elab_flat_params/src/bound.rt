@@ -10,7 +10,7 @@ use std::alloc::{AllocError, Global};
 use vlog_tree::{Expr, Valuation};
 use vlog_tree_values::{evaluated, integer};
 
-/// The integer that a constant expression stands for by itself. An `AllocError` is want of memory.
+/// The integer that a constant expression stands for by itself.
 pub fn bound(
     alloc: Global,
     expr: &Expr,

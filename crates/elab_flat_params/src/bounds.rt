@@ -53,7 +53,7 @@ fn bound_defined(
     }
 }
 
-/// Whether no divisor is 0 in the bounds, widths and counts of an expression that are well formed. Refused only for want of memory.
+/// Whether no divisor is 0 in the bounds, widths and counts of an expression that are well formed.
 #[cycle(bounds)]
 pub fn bounds_defined(alloc: Global, expr: &Expr, valuation: &Valuation) -> Result<bool, AllocError>
     ensures { IfOk result (λ r. MatchBool r (BoundsDefined valuation.now expr.now) (BoundsDefined valuation.now expr.now → ⊥)) }

@@ -22,7 +22,7 @@ pub struct Number {
     pub word: Word,
 }
 
-/// The length and the sign of an expression over parameters. An `AllocError` is want of memory.
+/// The length and the sign of an expression over parameters.
 pub fn known_shape(
     alloc: Global,
     expr: &Expr,
@@ -48,8 +48,8 @@ pub fn known_shape(
     }
 }
 
-/// The value of an expression over parameters in a place of so many bits, of which 0 says that it stands alone. Each refusal has
-/// its cause, the names first. An `AllocError` is want of memory.
+/// The value of an expression over parameters in a place of so many bits, of which 0 says that it stands alone. Each
+/// refusal has its cause, the names first.
 pub fn number_at(
     alloc: Global,
     expr: &Expr,

@@ -21,7 +21,7 @@ use vlog_tree::{Constant, Entry, Expr, Module, Valuation};
 pub enum ParamFault {
     /// The parameter with this place among those of the module has none, for this cause.
     Bad(usize, BadParam),
-    /// Want of memory.
+    /// Out of memory.
     Memory,
 }
 
@@ -68,7 +68,7 @@ fn names_of<'a>(alloc: Global, given: &[Given<'a>]) -> Result<Vec<&'a Text>, All
     Ok(names)
 }
 
-/// What a name is given.
+// What a name is given.
 fn given_at<'a>(names: &Names<'_>, given: &[Given<'a>], name: &Text) -> Option<&'a Expr>
     requires { names.now ≡ map given_name (map given_meant given.now) }
     ensures { option_copied result ≡ given_at (map given_meant given.now) name.now }
@@ -82,15 +82,16 @@ fn given_at<'a>(names: &Names<'_>, given: &[Given<'a>], name: &Text) -> Option<&
     }
 }
 
-/// What overrides a parameter, if it can be overridden.
+// What overrides a parameter, if it can be overridden.
 fn override_of<'a>(text: &Module, param: &Param<'_>, given: Option<&'a Expr>) -> Option<&'a Expr>
     ensures { option_copied result ≡ override_of (is_open text.now (param_meant param.now)) (option_copied given.entry) }
 {
     if is_open(text, param) { given } else { None }
 }
 
-/// What the parameters of an instance of a module stand for, `given` its overrides, which are read over the outer parameters. The
-/// parameters stand in the order of their declarations, each over those before it. A refusal names one that has no value.
+/// What the parameters of an instance of a module stand for, `given` its overrides, which are read over the outer
+/// parameters. The parameters stand in the order of their declarations, each over those before it. A refusal names one
+/// that has no value.
 pub fn params_of(
     alloc: Global,
     text: &Module,

@@ -17,7 +17,7 @@ pub struct Vector {
     pub low: u64,
 }
 
-/// The bits from a lowest to a highest number.
+// The bits from a lowest to a highest number.
 fn spanned(high: i128, low: i128) -> Result<Vector, BadRange>
     requires bottom { negsuc (2 ^ 64) ≤ℤ low }
     requires least { negsuc (2 ^ 64) ≤ℤ high }
@@ -38,8 +38,7 @@ fn spanned(high: i128, low: i128) -> Result<Vector, BadRange>
     })
 }
 
-/// The bits that a range over parameters declares. Each refusal has its cause, the higher bound first. An `AllocError` is want of
-/// memory.
+/// The bits that a range over parameters declares. Each refusal has its cause, the higher bound first.
 pub fn vector_of(
     alloc: Global,
     range: &Range,

@@ -15,7 +15,7 @@ fn is_known(name: &Text, params: &Valuation) -> bool
     params.find(name.bytes(), 0).is_some()
 }
 
-/// The name itself, where it stands for no parameter.
+// The name itself, where it stands for no parameter.
 fn itself<'a>(name: &'a Text, params: &Valuation) -> Option<&'a Text>
     ensures { option_copied result ≡ find (is_strange params.now) (name.now ∷ []) }
 {
@@ -61,7 +61,7 @@ pub fn stranger_in<'a>(expr: &'a Expr, params: &Valuation) -> Option<&'a Text>
     }
 }
 
-/// The first such name in some expressions.
+// The first such name in some expressions.
 #[cycle(strangers)]
 fn stranger_among<'a>(exprs: &'a [Expr], params: &Valuation) -> Option<&'a Text>
     ensures { option_copied result ≡ find (is_strange params.now) (flat_map names_in exprs.now) }

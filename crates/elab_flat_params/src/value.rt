@@ -29,7 +29,7 @@ pub fn range_of<'a>(shape: Option<&'a Shape>) -> Option<&'a Range>
     }
 }
 
-/// The bits that a range declares, where there is one. An `AllocError` is want of memory.
+/// The bits that a range declares, where there is one.
 pub fn bits_of(
     alloc: Global,
     range: Option<&Range>,
@@ -50,7 +50,7 @@ pub fn bits_of(
     }
 }
 
-/// The value of an expression in a vector of these bits.
+// The value of an expression in a vector of these bits.
 fn in_vector(
     alloc: Global,
     expr: &Expr,
@@ -74,7 +74,7 @@ fn in_vector(
     }
 }
 
-/// The value of an expression at its own length.
+// The value of an expression at its own length.
 fn alone(
     alloc: Global,
     expr: &Expr,
@@ -122,8 +122,8 @@ pub fn is_signed(shape: Option<&Shape>) -> bool
     }
 }
 
-/// What a parameter stands for: the value of its declaration over those before it, or what overrides it over the outer ones. An
-/// `AllocError` is want of memory.
+/// What a parameter stands for: the value of its declaration over those before it, or what overrides it over the outer
+/// ones.
 pub fn value_of(
     alloc: Global,
     param: &Param<'_>,

@@ -24,8 +24,8 @@ fn counted(first: i128, last: i128) -> Result<u8, BadWords>
     Ok(last as u8 + 1)
 }
 
-/// How many words a range `[0:n]` over parameters declares, from 1 to 64. Each refusal has its cause, the first bound first. An
-/// `AllocError` is want of memory.
+/// How many words a range `[0:n]` over parameters declares, from 1 to 64. Each refusal has its cause, the first bound
+/// first.
 pub fn words_of(
     alloc: Global,
     range: &Range,

@@ -59,7 +59,7 @@ fn add_item_assigns<'a>(all: &mut Vec<Assigned<'a>>, item: &'a Item) -> Result<(
     }
 }
 
-/// The continuous assignments of a module, in the order of its text. Refused only for want of memory.
+/// The continuous assignments of a module, in the order of its text.
 pub fn assigns_in(alloc: Global, text: &Module) -> Result<Vec<Assigned<'_>>, AllocError>
     ensures { IfOk result (λ r. map assigned_meant r.items ≡ assigns_in text.now) }
 {

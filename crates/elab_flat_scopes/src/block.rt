@@ -27,7 +27,7 @@ fn add_item_blocks<'a>(all: &mut Vec<Block<'a>>, item: &'a Item) -> Result<(), A
     }
 }
 
-/// The `always` blocks of a module, in the order of its text. Refused only for want of memory.
+/// The `always` blocks of a module, in the order of its text.
 pub fn blocks_in(alloc: Global, text: &Module) -> Result<Vec<Block<'_>>, AllocError>
     ensures { IfOk result (λ r. map block_meant r.items ≡ blocks_in text.now) }
 {

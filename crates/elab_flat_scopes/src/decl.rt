@@ -74,7 +74,7 @@ fn port_decl<'a>(group: Group<'a>, name: &'a Text) -> Decl<'a>
     }
 }
 
-/// A port of a header with its group, `before` being the group before it.
+// A port of a header with its group, `before` being the group before it.
 fn header_decl<'a>(before: Group<'a>, port: &'a HeaderPort) -> (Group<'a>, Decl<'a>)
     ensures { (rest : List HeaderPort) →
         decl_meant result.1 ∷ header_decls result.0.kind (shape_meant result.0.shape) rest
@@ -197,7 +197,7 @@ fn add_item_decls<'a>(all: &mut Vec<Decl<'a>>, item: &'a Item) -> Result<(), All
     }
 }
 
-/// The declarations of signals in a module, in the order of its text. Refused only for want of memory.
+/// The declarations of signals in a module, in the order of its text.
 pub fn decls_in(alloc: Global, text: &Module) -> Result<Vec<Decl<'_>>, AllocError>
     ensures { IfOk result (λ r. map decl_meant r.items ≡ decls_in text.now) }
 {

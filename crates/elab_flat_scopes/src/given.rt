@@ -1,4 +1,5 @@
-// Names that are given expressions: overrides of parameters, and connections of ports (IEEE 1364-2005, sections 12.2 and 12.3).
+// Names that are given expressions: overrides of parameters, and connections of ports (IEEE 1364-2005, sections 12.2
+// and 12.3).
 
 ghost use Rattle.std.specs.Prelude.{◌≡◌, ◌++◌, IfOk, OnOk, map, filter};
 ghost use Rattle.std.specs.List.{flat_map};
@@ -55,7 +56,7 @@ fn by_name<'a>(alloc: Global, connections: &'a [Connection]) -> Result<Vec<Given
     Ok(all)
 }
 
-/// What names in this order are given, by their positions or by their names. Refused only for want of memory.
+/// What names in this order are given, by their positions or by their names.
 pub fn given_to<'a>(
     alloc: Global,
     names: &[&'a Text],
@@ -86,7 +87,7 @@ fn open_names<'a>(
     Ok(all)
 }
 
-/// An instance's overrides, by the names of the parameters of its module that can be overridden. Refused only for want of memory.
+/// An instance's overrides, by the names of the parameters of its module that can be overridden.
 pub fn overriding<'a>(
     alloc: Global,
     text: &'a Module,

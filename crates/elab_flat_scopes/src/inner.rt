@@ -50,7 +50,7 @@ fn add_item_instances<'a>(all: &mut Vec<Inner<'a>>, item: &'a Item) -> Result<()
     }
 }
 
-/// The instances of a module, in the order of its text. Refused only for want of memory.
+/// The instances of a module, in the order of its text.
 pub fn instances_in(alloc: Global, text: &Module) -> Result<Vec<Inner<'_>>, AllocError>
     ensures { IfOk result (λ r. map inner_meant r.items ≡ instances_in text.now) }
 {

@@ -48,7 +48,7 @@ fn names_of<'a>(alloc: Global, modules: &'a [Module]) -> Result<Vec<&'a Text>, A
 }
 
 impl<'a> Modules<'a> {
-    /// The modules of a list. Refused only for want of memory.
+    /// The modules of a list.
     pub fn of(alloc: Global, list: &'a [Module]) -> Result<Modules<'a>, AllocError>
         ensures { IfOk result (λ modules. modules ≡ list.now) }
     {

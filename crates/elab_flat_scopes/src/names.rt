@@ -56,7 +56,7 @@ fn first_places<'a>(
 }
 
 impl<'a> Names<'a> {
-    /// The names of a list, in its order. Refused only for want of memory.
+    /// The names of a list, in its order.
     pub fn of(alloc: Global, list: Vec<&'a Text>) -> Result<Names<'a>, AllocError>
         ensures { IfOk result (λ names. names ≡ map name_meant list.entry.items) }
     {

@@ -23,7 +23,7 @@ pub struct Param<'a> {
     pub is_local: bool,
 }
 
-/// A parameter of a header's list, `shape` being that of the group before it.
+// A parameter of a header's list, `shape` being that of the group before it.
 fn header_param<'a>(shape: Option<&'a Shape>, parameter: &'a HeaderParameter) -> Param<'a>
     ensures { (rest : List HeaderParameter) →
         param_meant result ∷ header_params (shape_meant result.shape) rest ≡ header_params (shape_meant shape.entry) (parameter.now ∷ rest) }
@@ -101,7 +101,7 @@ fn add_item_params<'a>(all: &mut Vec<Param<'a>>, item: &'a Item) -> Result<(), A
     }
 }
 
-/// The parameters of a module, in the order of its text. Refused only for want of memory.
+/// The parameters of a module, in the order of its text.
 pub fn params_in(alloc: Global, text: &Module) -> Result<Vec<Param<'_>>, AllocError>
     ensures { IfOk result (λ r. map param_meant r.items ≡ params_in text.now) }
 {
@@ -112,8 +112,8 @@ pub fn params_in(alloc: Global, text: &Module) -> Result<Vec<Param<'_>>, AllocEr
     Ok(all)
 }
 
-/// Whether an instance may override a parameter of its module: with a list in the header those of the list alone, and never a
-/// local one.
+/// Whether an instance may override a parameter of its module: with a list in the header those of the list alone, and
+/// never a local one.
 pub fn is_open(text: &Module, param: &Param<'_>) -> bool
     ensures { result ≡ is_open text.now (param_meant param.now) }
 {

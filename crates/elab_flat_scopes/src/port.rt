@@ -38,7 +38,7 @@ fn names<'a>(alloc: Global, names: &'a [Text]) -> Result<Vec<&'a Text>, AllocErr
     Ok(all)
 }
 
-/// The names of a module's ports, in the order of its header. Refused only for want of memory.
+/// The names of a module's ports, in the order of its header.
 pub fn port_names(alloc: Global, text: &Module) -> Result<Vec<&Text>, AllocError>
     ensures { IfOk result (λ r. map name_meant r.items ≡ port_names text.now) }
 {

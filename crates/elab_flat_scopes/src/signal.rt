@@ -63,7 +63,7 @@ fn sides_of<'a>(alloc: Global, decls: &[Decl<'a>]) -> Result<Sides<'a>, AllocErr
     })
 }
 
-/// A declaration with what all declarations of its name say.
+// A declaration with what all declarations of its name say.
 fn joined<'a>(sides: &Sides<'_>, decl: &Decl<'a>) -> Decl<'a>
     ensures { (all : List Declaration) → AreSides all sides.now → decl_meant result ≡ joined all (decl_meant decl.now) }
 {
@@ -78,7 +78,7 @@ fn joined<'a>(sides: &Sides<'_>, decl: &Decl<'a>) -> Decl<'a>
     }
 }
 
-/// Each name once, in the order of the first declarations.
+// Each name once, in the order of the first declarations.
 fn once<'a>(
     alloc: Global,
     decls: &[Decl<'a>],
@@ -97,8 +97,8 @@ fn once<'a>(
     Ok(all)
 }
 
-/// The signals of a module, in the order of their first declarations: each name once, with what all its declarations say together.
-/// Refused only for want of memory.
+/// The signals of a module, in the order of their first declarations: each name once, with what all its declarations
+/// say together.
 pub fn signals_in(alloc: Global, text: &Module) -> Result<Vec<Decl<'_>>, AllocError>
     ensures { IfOk result (λ r. map decl_meant r.items ≡ signals_in text.now) }
 {
@@ -142,7 +142,7 @@ fn names_of<'a>(alloc: Global, decls: &[Decl<'a>]) -> Result<Vec<&'a Text>, Allo
 }
 
 impl<'a> Signals<'a> {
-    /// The signals of a module. Refused only for want of memory.
+    /// The signals of a module.
     pub fn of(alloc: Global, text: &'a Module) -> Result<Signals<'a>, AllocError>
         ensures { IfOk result (λ signals. signals ≡ signals_in text.now) }
     {

@@ -18,8 +18,9 @@ use elab_flat_instances::Scope;
 use elab_flat_scopes::Modules;
 use std::alloc::Global;
 
-/// The rules on constants and lengths hold in a scope of this name: neither `Constant` nor `Width` stands there. A refusal's fault stands at the scope, or
-/// at an instance in it: there a range of the port that something is connected to breaks a rule.
+/// The rules on constants and lengths hold in a scope of this name: neither `Constant` nor `Width` stands there. A
+/// refusal's fault stands at the scope, or at an instance in it: there a range of the port that something is connected
+/// to breaks a rule.
 pub fn check_texts<'a>(
     alloc: Global,
     modules: &Modules<'a>,

@@ -1,4 +1,5 @@
-// Parts of expressions that must be constant: bounds, widths and counts, and operands of a division (IEEE 1364-2005, sections 5.1.14 and 5.2.1).
+// Parts of expressions that must be constant: bounds, widths and counts, and operands of a division (IEEE 1364-2005,
+// sections 5.1.14 and 5.2.1).
 
 ghost use Rattle.std.specs.Prelude.{◌≡◌, ◌&&◌};
 ghost use Rattle.std.specs.Bool.{MatchBool};

@@ -29,17 +29,17 @@ use outside::Text;
 use std::alloc::{AllocError, Global};
 use vlog_tree::{Expr, Module, Valuation};
 
-/// The scope that instances stand in, with what its names stand for.
+// The scope that instances stand in, with what its names stand for.
 #[derive(Drop)]
 struct Parent<'a, 'b> {
     alloc: Global,
     modules: &'b Modules<'a>,
     scope: &'b Scope<'a>,
-    /// What its names stand for where its signals are 0.
+    // What its names stand for where its signals are 0.
     rest: &'b Valuation,
-    /// The names of its signals.
+    // The names of its signals.
     signals: &'b Names<'a>,
-    /// The name that faults have for it.
+    // The name that faults have for it.
     path: &'b [u8],
 }
 
@@ -86,7 +86,7 @@ pub fn named_fault(
 }
 
 impl<'a> Parent<'a, '_> {
-    // The scope of an instance. Refused only for want of memory.
+    // The scope of an instance.
     fn inner_scope(&self, inner: &Inner<'a>) -> Result<Scope<'a>, Violation>
         requires { IsSoundInner self.now.modules.now (scope_meant self.now.scope.now) (inner_meant inner.now) }
         ensures ok { IfOk result (λ t. child self.now.modules.now (scope_meant self.now.scope.now) (inner_meant inner.now) ≡ Some (scope_meant t)) }
@@ -229,7 +229,8 @@ fn signal_names(alloc: Global, text: &Module) -> Result<Vec<&Text>, AllocError>
     Ok(all)
 }
 
-/// What is connected to the instances of a scope keeps the rules. A refusal's fault is of a connection, or of a range in an instance's scope.
+/// What is connected to the instances of a scope keeps the rules. A refusal's fault is of a connection, or of a range
+/// in an instance's scope.
 pub fn check_inners<'a>(
     alloc: Global,
     modules: &Modules<'a>,

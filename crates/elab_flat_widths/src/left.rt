@@ -109,8 +109,8 @@ pub fn check_numbers(
     Ok(())
 }
 
-/// How many bits the parts of a left side have together, from 1 to 64; none where they haven't, or a part isn't well formed. An
-/// `AllocError` is want of memory.
+/// How many bits the parts of a left side have together, from 1 to 64; none where they haven't, or a part isn't well
+/// formed.
 pub fn total_bits(
     alloc: Global,
     parts: &[Part<'_>],

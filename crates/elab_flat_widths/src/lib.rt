@@ -1,4 +1,5 @@
-//! Constants and lengths in the texts of instances: ranges of declarations, expressions in their places, and left sides.
+//! Constants and lengths in the texts of instances: ranges of declarations, expressions in their places, and left
+//! sides.
 #![tactic(auto)]
 
 mod assignment;

@@ -83,8 +83,8 @@ fn copied(alloc: Global, params: &Valuation) -> Result<Valuation, AllocError>
     Ok(all)
 }
 
-/// What the names of a scope stand for where its signals are 0: its parameters, its signals, and the words of its memories. Refused only for want of
-/// memory.
+/// What the names of a scope stand for where its signals are 0: its parameters, its signals, and the words of its
+/// memories.
 pub fn at_rest(alloc: Global, scope: &Scope<'_>) -> Result<Valuation, Violation>
     requires { AreDeclared (scope_meant scope.now) }
     ensures ok { IfOk result (λ v. v ≡ at_rest (place_of (scope_meant scope.now))) }

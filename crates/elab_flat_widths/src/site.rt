@@ -72,7 +72,7 @@ fn add_items<'a>(all: &mut Vec<Site<'a>>, items: &'a [CaseItem]) -> Result<(), A
     Ok(())
 }
 
-/// What a statement does with expressions. Refused only for want of memory.
+/// What a statement does with expressions.
 pub fn sites_of(alloc: Global, stmt: &Stmt) -> Result<Vec<Site<'_>>, AllocError>
     ensures { IfOk result (λ r. map site_meant r.items ≡ usages stmt.now) }
 {

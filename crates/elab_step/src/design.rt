@@ -17,8 +17,8 @@ use elab_step_nets::Solution;
 use std::alloc::{AllocError, Global};
 use vlog_tree_runs::Flat;
 
-/// The design of a module whose nets are solved group after group in an order of their dependences. The flags tell the nets.
-/// It is refused for want of memory alone.
+/// The design of a module whose nets are solved group after group in an order of their dependences. The flags tell the
+/// nets.
 pub fn design_of(
     alloc: Global,
     flat: &Flat,

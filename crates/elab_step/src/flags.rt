@@ -11,7 +11,7 @@ use outside::Text;
 use std::alloc::{AllocError, Global};
 use vlog_tree_runs::{Flat, Signal};
 
-/// The names of signals, in their order. It is refused for want of memory alone.
+/// The names of signals, in their order.
 pub fn signal_names(alloc: Global, signals: &[Signal]) -> Result<Names<'_>, AllocError>
     ensures { IfOk result (λ r. r ≡ signal_names signals.now) }
 {
@@ -31,7 +31,7 @@ pub fn name_at(signals: &[Signal], place: usize) -> &Text
     &signals[place].name
 }
 
-/// The names of the signals at places, in the order of the places. It is refused for want of memory alone.
+/// The names of the signals at places, in the order of the places.
 pub fn names_at<'a>(
     alloc: Global,
     signals: &'a [Signal],
@@ -47,7 +47,7 @@ pub fn names_at<'a>(
     Names::of(alloc, all)
 }
 
-/// Flags that tell the signals that have one of some names. It is refused for want of memory alone.
+/// Flags that tell the signals that have one of some names.
 pub fn flags_among(
     alloc: Global,
     names: &Names<'_>,
@@ -62,7 +62,7 @@ pub fn flags_among(
     Ok(all)
 }
 
-/// Flags that tell the registers. It is refused for want of memory alone.
+/// Flags that tell the registers.
 pub fn register_flags(alloc: Global, flat: &Flat) -> Result<Vec<bool>, AllocError>
     ensures { IfOk result (λ r. r.items ≡ flags_among (clocked_names flat.now) flat.now.signals) }
 {

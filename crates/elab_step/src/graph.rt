@@ -80,9 +80,9 @@ fn looped(alloc: Global, signals: &[Signal], place: usize) -> Result<ElabFault, 
     Ok(ElabFault::Loop(Text::copy(alloc, name.bytes())?))
 }
 
-/// The design of a module, from the graph of its dependences: for each signal the places of those that it depends on within a cycle. It is
-/// refused where a signal depends on itself, and for want of memory. Where no fault of the module stands, the design has the module's cycles,
-/// and the same cycles follow.
+/// The design of a module, from the graph of its dependences: for each signal the places of those that it depends on
+/// within a cycle. It is refused where a signal depends on itself, or where memory runs out. Where no fault of the
+/// module stands, the design has the module's cycles, and the same cycles follow.
 pub fn design_by_graph(
     alloc: Global,
     flat: &Flat,

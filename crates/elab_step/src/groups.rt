@@ -102,8 +102,8 @@ fn joins(graph: &[Vec<usize>], places: &[Vec<usize>], groups: &Grouping, net: us
     none_has(&groups.numbers, list_of(graph, net), groups.done.len())
 }
 
-/// Nets in groups, in their order: the same statements assign all nets of a group, and none of them depends on one of the group. The graph has
-/// for each signal the places of those that it depends on. It is refused for want of memory alone.
+/// Nets in groups, in their order: the same statements assign all nets of a group, and none of them depends on one of
+/// the group. The graph has for each signal the places of those that it depends on.
 pub fn groups_of(
     alloc: Global,
     graph: &[Vec<usize>],

@@ -33,8 +33,8 @@ fn input_among<'a>(ports: &'a [TopPort], names: &Names<'_>) -> Option<&'a Text>
     None
 }
 
-/// An input of the top that a clocked block assigns: an input is a net, and so it isn't to be assigned there (IEEE 1364-2005, section 12.3.3). It
-/// is refused for want of memory alone.
+/// An input of the top that a clocked block assigns: an input is a net, and so it isn't to be assigned there (IEEE
+/// 1364-2005, section 12.3.3).
 pub fn assigned_input(alloc: Global, flat: &Flat) -> Result<Option<Text>, AllocError>
     requires { CanElaborate flat.now }
     ensures some { IfOk result (λ o. IfSome o (λ x. IsInput flat.now x × IsRegister flat.now x)) }

@@ -48,9 +48,10 @@ fn fault_of(alloc: Global, flat: &Flat) -> Result<Option<ElabFault>, AllocError>
     Ok(None)
 }
 
-/// The design of a module without instances: it has the module's cycles, and the same cycles follow (IEEE 1364-2005, sections 6.1 and 9.2). It is
-/// refused where a fault of the module stands, and for want of memory. Faults are looked for in this order: wrong forms of assignment, inputs of
-/// the top that clocked blocks assign among them; bits with two drivers; bits without one; latches; lists of names that leave one out; and loops.
+/// The design of a module without instances: it has the module's cycles, and the same cycles follow (IEEE 1364-2005,
+/// sections 6.1 and 9.2). It is refused where a fault of the module stands, or where memory runs out. Faults are looked
+/// for in this order: wrong forms of assignment, inputs of the top that clocked blocks assign among them; bits with two
+/// drivers; bits without one; latches; lists of names that leave one out; and loops.
 #[tactic(auto, using(crate::proofs::Passing::can_pass))]
 pub fn elaborate(alloc: Global, flat: &Flat) -> Result<Design, ElabFault>
     requires can { CanElaborate flat.now }

@@ -19,9 +19,10 @@ use elab_step_nets::{solve, solved_designs_have_the_modules_runs};
 use std::alloc::{AllocError, Global};
 use vlog_tree_runs::Flat;
 
-/// The design of a module, from the graph of its dependences, the places of the statements that assign each signal, and the places of its nets
-/// among its signals, each after those that it depends on within a cycle. Where no fault of the module stands, the design has the module's
-/// cycles, and the same cycles follow (IEEE 1364-2005, sections 6.1 and 9.2). It is refused for want of memory alone.
+/// The design of a module, from the graph of its dependences, the places of the statements that assign each signal, and
+/// the places of its nets among its signals, each after those that it depends on within a cycle. Where no fault of the
+/// module stands, the design has the module's cycles, and the same cycles follow (IEEE 1364-2005, sections 6.1 and
+/// 9.2).
 pub fn design_in_order(
     alloc: Global,
     flat: &Flat,

@@ -42,7 +42,7 @@ fn net_node(is_net: bool, begun: &Leaf, solved: &Leaf) -> u64
     if is_net { solved.node } else { begun.node }
 }
 
-/// The signals, in their order. The flags tell the nets. It is refused for want of memory alone.
+/// The signals, in their order. The flags tell the nets.
 pub fn nets_of(
     alloc: Global,
     flags: &[bool],
@@ -78,7 +78,7 @@ fn add_register(
     Ok(())
 }
 
-/// The registers, in the order of the signals. The flags tell them. It is refused for want of memory alone.
+/// The registers, in the order of the signals. The flags tell them.
 pub fn registers_of(
     alloc: Global,
     flags: &[bool],
@@ -117,7 +117,7 @@ fn add_input(
     Ok(())
 }
 
-/// The inputs of the top, in the order of its header. It is refused for want of memory alone.
+/// The inputs of the top, in the order of its header.
 pub fn inputs_of(
     alloc: Global,
     ports: &[TopPort],
@@ -144,7 +144,7 @@ fn add_output(all: &mut Vec<Text>, alloc: Global, port: &TopPort) -> Result<(), 
     Ok(())
 }
 
-/// The names of the outputs of the top, in the order of its header. It is refused for want of memory alone.
+/// The names of the outputs of the top, in the order of its header.
 pub fn outputs_of(alloc: Global, ports: &[TopPort]) -> Result<Vec<Text>, AllocError>
     ensures { IfOk result (λ r. r.items ≡ flat_map output_of ports.now) }
 {
@@ -155,7 +155,7 @@ pub fn outputs_of(alloc: Global, ports: &[TopPort]) -> Result<Vec<Text>, AllocEr
     Ok(all)
 }
 
-/// A copy of the clock's name. It is refused for want of memory alone.
+/// A copy of the clock's name.
 pub fn clock_of(alloc: Global, clock: &Option<Text>) -> Result<Option<Text>, AllocError>
     ensures { IfOk result (λ r. r ≡ clock.now) }
 {
@@ -165,7 +165,7 @@ pub fn clock_of(alloc: Global, clock: &Option<Text>) -> Result<Option<Text>, All
     }
 }
 
-/// A copy of the resets. It is refused for want of memory alone.
+/// A copy of the resets.
 pub fn asyncs_of(alloc: Global, asyncs: &[Async]) -> Result<Vec<Async>, AllocError>
     ensures { IfOk result (λ r. r.items ≡ asyncs.now) }
 {

@@ -133,8 +133,8 @@ fn no_places(alloc: Global, count: usize) -> Result<Vec<Vec<usize>>, AllocError>
     Ok(all)
 }
 
-/// For each signal the places of the continuous assignments and the combinational blocks that assign it, of the assignments first. It is refused
-/// for want of memory alone.
+/// For each signal the places of the continuous assignments and the combinational blocks that assign it, of the
+/// assignments first.
 pub fn places_of(alloc: Global, flat: &Flat) -> Result<Vec<Vec<usize>>, AllocError>
     requires { CanElaborate flat.now }
     ensures { IfOk result (λ r. ArePlacesOf flat.now flat.now.signals r.items) }
@@ -156,7 +156,7 @@ fn first_in(list: &[usize]) -> usize
     list.first().copied().unwrap_or(0)
 }
 
-/// The first place of each list: 0 where it has none. It is refused for want of memory alone.
+/// The first place of each list: 0 where it has none.
 pub fn first_places(alloc: Global, lists: &[Vec<usize>]) -> Result<Vec<usize>, AllocError>
     ensures { IfOk result (λ r. r.items ≡ map first_place lists.now) }
 {

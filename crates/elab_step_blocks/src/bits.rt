@@ -134,7 +134,8 @@ fn from_below(dag: &mut Dag, old: Wire, bits: Wire, skipped: u8) -> Result<u64, 
     Ok(number)
 }
 
-/// A word with bits from the one with a number upwards, counted from its lowest one; bits that it hasn't aren't written.
+/// A word with bits from the one with a number upwards, counted from its lowest one; bits that it hasn't aren't
+/// written.
 pub fn written(dag: &mut Dag, old: Wire, bits: Wire, at: i128) -> Result<u64, AllocError>
     requires old { IsWire dag.old old }
     requires bits { IsWire dag.old bits }

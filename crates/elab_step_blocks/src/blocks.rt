@@ -60,9 +60,9 @@ fn default_at(items: &[CaseItem]) -> usize
     at
 }
 
-/// Runs a statement: the leaves then have the nodes of what their names hold after it, whatever the free words are. Expressions are read
-/// from the leaves of the cycle before the edge, and where there are none, assignments take effect at once. It is refused for want of memory
-/// alone, and then the leaves are half changed.
+/// Runs a statement: the leaves then have the nodes of what their names hold after it, whatever the free words are.
+/// Expressions are read from the leaves of the cycle before the edge, and where there are none, assignments take effect
+/// at once. On an error the leaves are half changed.
 #[cycle(run)]
 #[tactic(auto, using(crate::proofs::Storing::block_ready, elab_step_expr::proofs::Kept::keeps_then, elab_step_expr::proofs::Kept::keeps_same))]
 pub fn run(
@@ -121,8 +121,8 @@ pub fn run(
     }
 }
 
-// A branch: the statement is run on the nodes that stood before, and where a bit is 0, the leaves keep their nodes. Nodes are saved for all
-// leaves that it may assign, so the others are left alone.
+// A branch: the statement is run on the nodes that stood before, and where a bit is 0, the leaves keep their nodes.
+// Nodes are saved for all leaves that it may assign, so the others are left alone.
 #[cycle(run)]
 #[tactic(auto, using(elab_step_expr::proofs::Kept::keeps_then, elab_step_expr::proofs::Kept::keeps_same, elab_step_expr::proofs::Kept::node_kept))]
 fn branch(
@@ -263,7 +263,8 @@ fn run_items(
     Ok(())
 }
 
-// The first item whose test is 1, or the default: the nodes of all leaves that one of them assigns are saved once, and joined for each item.
+// The first item whose test is 1, or the default: the nodes of all leaves that one of them assigns are saved once, and
+// joined for each item.
 #[cycle(run)]
 #[tactic(auto, using(elab_step_expr::proofs::Kept::keeps_then, elab_step_expr::proofs::Kept::keeps_same))]
 fn run_joined(
@@ -291,8 +292,8 @@ fn run_joined(
     Ok(())
 }
 
-// The items of a case statement, from the first to the last, each where its test is 1 and no earlier one is. The result is a bit that is 1
-// where one of them is run.
+// The items of a case statement, from the first to the last, each where its test is 1 and no earlier one is. The result
+// is a bit that is 1 where one of them is run.
 #[cycle(run)]
 #[tactic(auto, using(elab_step_expr::proofs::Kept::keeps_then, elab_step_expr::proofs::Kept::keeps_same))]
 fn run_each(
@@ -327,8 +328,8 @@ fn run_each(
     Ok(matched)
 }
 
-// The first item whose test is 1, or the default: each is run where no other one is, so that only what it assigns itself is joined. It takes
-// no more than the text is long, whichever leaves the items assign.
+// The first item whose test is 1, or the default: each is run where no other one is, so that only what it assigns
+// itself is joined. It takes no more than the text is long, whichever leaves the items assign.
 #[cycle(run)]
 #[tactic(auto, using(elab_step_expr::proofs::Kept::keeps_then, elab_step_expr::proofs::Kept::keeps_same))]
 fn run_apart(

@@ -16,8 +16,8 @@ use vlog_tree::{CaseKind, Expr, Labels};
 use vlog_tree_values::low_bits;
 use word_dag::{Dag, Op};
 
-/// What the labels of a case statement of some kind are compared with: its case expression, at the length and the sign at which they are
-/// compared.
+/// What the labels of a case statement of some kind are compared with: its case expression, at the length and the sign
+/// at which they are compared.
 #[derive(Clone, Copy)]
 pub struct Subject {
     pub kind: CaseKind,

@@ -10,7 +10,7 @@ use elab_step_expr::{Leaves, Wire, choice, constant};
 use std::alloc::AllocError;
 use word_dag::Dag;
 
-/// A test where none before it is 1, else 0. It is refused for want of memory alone.
+/// A test where none before it is 1, else 0.
 #[tactic(auto, using(crate::proofs::Storing::set_kept, elab_step_expr::proofs::Kept::keeps_then, elab_step_expr::proofs::Kept::keeps_same, elab_step_expr::proofs::Kept::made_node, elab_step_expr::proofs::Kept::node_kept))]
 pub fn first_of(
     dag: &mut Dag,
@@ -45,7 +45,7 @@ pub fn first_of(
     Ok(number)
 }
 
-/// A bit that is 1 where a test is or one before it. It is refused for want of memory alone.
+/// A bit that is 1 where a test is or one before it.
 #[tactic(auto, using(elab_step_expr::proofs::Kept::keeps_then, elab_step_expr::proofs::Kept::keeps_same, elab_step_expr::proofs::Kept::made_node, elab_step_expr::proofs::Kept::node_kept))]
 pub fn or_matched(dag: &mut Dag, matched: u64, test: u64) -> Result<u64, AllocError>
     requires matched { IsNode dag.old matched 1 }
@@ -70,7 +70,7 @@ pub fn or_matched(dag: &mut Dag, matched: u64, test: u64) -> Result<u64, AllocEr
     Ok(number)
 }
 
-/// A bit that is 1 where no test is. It is refused for want of memory alone.
+/// A bit that is 1 where no test is.
 #[tactic(auto, using(crate::proofs::Storing::set_kept, elab_step_expr::proofs::Kept::keeps_then, elab_step_expr::proofs::Kept::keeps_same, elab_step_expr::proofs::Kept::made_node, elab_step_expr::proofs::Kept::node_kept))]
 pub fn unmatched(
     dag: &mut Dag,

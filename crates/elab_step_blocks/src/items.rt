@@ -87,7 +87,8 @@ fn item_node(
     }
 }
 
-/// For each item a bit that is 1 where one of its labels matches the case expression, all of them read from these leaves.
+/// For each item a bit that is 1 where one of its labels matches the case expression, all of them read from these
+/// leaves.
 pub fn item_tests(dag: &mut Dag, case: Case<'_>, leaves: &Leaves) -> Result<Vec<u64>, AllocError>
     requires ready { AreReady leaves.now dag.old }
     requires placed { ArePlaced (declared leaves.now) (case.subject.now ∷ each_labels case.items.now) (case_width (declared leaves.now) case.subject.now (each_labels case.items.now)) (case_sign (declared leaves.now) case.subject.now (each_labels case.items.now)) }

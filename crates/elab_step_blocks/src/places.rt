@@ -124,7 +124,7 @@ fn saved_once(alloc: Global, places: Vec<usize>, leaves: &Leaves) -> Result<Vec<
     Ok(nodes)
 }
 
-/// The nodes of the leaves that a blocking assignment to a left side assigns. It is refused for want of memory alone.
+/// The nodes of the leaves that a blocking assignment to a left side assigns.
 pub fn before_assign(alloc: Global, left: &Lval, leaves: &Leaves) -> Result<Vec<Saved>, AllocError>
     requires apart { AreApart leaves.now }
     requires left { IsReadyLeft (declared leaves.now) left.now }
@@ -137,7 +137,7 @@ pub fn before_assign(alloc: Global, left: &Lval, leaves: &Leaves) -> Result<Vec<
     Ok(before)
 }
 
-/// The nodes of the leaves that a statement assigns. It is refused for want of memory alone.
+/// The nodes of the leaves that a statement assigns.
 pub fn before_one(alloc: Global, stmt: &Stmt, leaves: &Leaves) -> Result<Vec<Saved>, AllocError>
     requires apart { AreApart leaves.now }
     requires stmt { IsReadyStmt (declared leaves.now) stmt.now }
@@ -188,16 +188,16 @@ pub fn before_items(
     Ok(before)
 }
 
-// Whether joining all leaves at each item takes at most four times as many choices as joining the items' own. So a case of up to four items
-// is always joined whole.
+// Whether joining all leaves at each item takes at most four times as many choices as joining the items' own. So a case
+// of up to four items is always joined whole.
 fn is_dense(items: usize, all: usize, own: usize) -> bool
     ensures { IsTrue result ↔ items * all ≤ 4 * own }
 {
     items as u128 * all as u128 <= 4 * own as u128
 }
 
-/// Whether items mostly assign the same leaves, so that joining all of them at each item costs little more than joining what each assigns
-/// itself. Both ways are right, and this is a matter of cost alone. It is refused for want of memory alone.
+/// Whether items mostly assign the same leaves, so that joining all of them at each item costs little more than joining
+/// what each assigns itself. Both ways are right, and this is a matter of cost alone.
 pub fn are_alike(alloc: Global, items: &[CaseItem], leaves: &Leaves) -> Result<bool, AllocError>
     requires apart { AreApart leaves.now }
     requires items { EachReadyItem (declared leaves.now) items.now }

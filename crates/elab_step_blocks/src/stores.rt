@@ -45,9 +45,9 @@ fn bits(targets: &[Target]) -> u8
     }
 }
 
-/// Runs an assignment: the leaves then have the nodes of what their names hold after it, whatever the free words are. Both sides are read
-/// from the leaves of the cycle before the edge, and where there are none, from those that stand now. It is refused for want of memory
-/// alone, and then the leaves are half changed.
+/// Runs an assignment: the leaves then have the nodes of what their names hold after it, whatever the free words are.
+/// Both sides are read from the leaves of the cycle before the edge, and where there are none, from those that stand
+/// now. On an error the leaves are half changed.
 #[tactic(auto, using(crate::proofs::Storing::set_kept, elab_step_expr::proofs::Kept::keeps_then, elab_step_expr::proofs::Kept::ready_kept, elab_step_expr::proofs::Kept::made_node))]
 pub fn assign(
     alloc: Global,

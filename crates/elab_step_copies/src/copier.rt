@@ -21,8 +21,8 @@ use elab_step_expr::Leaves;
 use std::alloc::{AllocError, Global};
 use word_dag::{Dag, Node};
 
-/// Makes nodes of a source again in another dag, where the source's free words are the nodes of leaves. What a node becomes is kept
-/// until a leaf that it reads gets another node.
+/// Makes nodes of a source again in another dag, where the source's free words are the nodes of leaves. What a node
+/// becomes is kept until a leaf that it reads gets another node.
 #[derive(Drop)]
 pub struct Copier {
     source: Dag,
@@ -60,7 +60,7 @@ fn is_stale(copies: &[Option<u64>], numbers: &[u64], node: u64) -> bool
 }
 
 impl Copier {
-    /// A copier that has made nothing yet, for so many leaves. Refused only for want of memory.
+    /// A copier that has made nothing yet, for so many leaves.
     pub fn new(alloc: Global, source: Dag, leaves: usize) -> Result<Copier, AllocError>
         ensures source { IfOk result (λ k. k.source ≡ source) }
         ensures copies { IfOk result (λ k. (ls : List Leaf) (ns : List OneNode) → length ls ≡ leaves → AreOfLeaves source ls → AreCopies k ls ns) }
@@ -77,8 +77,8 @@ impl Copier {
         })
     }
 
-    /// Forgets the copies that read a leaf of these places which has another node by now, and all that was made over them. Refused only
-    /// for want of memory, and then the copier is half changed.
+    /// Forgets the copies that read a leaf of these places which has another node by now, and all that was made over
+    /// them. On an error the copier is half changed.
     pub fn renew(
         &mut self,
         alloc: Global,
@@ -96,9 +96,9 @@ impl Copier {
         Ok(())
     }
 
-    /// For each of these nodes of the source a node of the dag that has its word, where the free words of the source have the values of
-    /// the leaves' nodes. Each takes time once, until a leaf that it reads gets another node. Refused only for want of memory, and then
-    /// the copier is half changed.
+    /// For each of these nodes of the source a node of the dag that has its word, where the free words of the source
+    /// have the values of the leaves' nodes. Each takes time once, until a leaf that it reads gets another node. On an
+    /// error the copier is half changed.
     pub fn copy_each(
         &mut self,
         alloc: Global,

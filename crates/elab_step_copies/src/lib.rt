@@ -1,4 +1,5 @@
-//! Nodes of one dag made again in another one, where the free words of the first are the nodes of leaves (composition of functions).
+//! Nodes of one dag made again in another one, where the free words of the first are the nodes of leaves (composition
+//! of functions).
 #![tactic(auto)]
 
 mod copier;

@@ -1,5 +1,5 @@
-// Counts within one another: numbers of part-selects and counts of replications that have such numbers in them. Each says how long an expression is, so
-// that one is taken anew for each that it stands in.
+// Counts within one another: numbers of part-selects and counts of replications that have such numbers in them. Each
+// says how long an expression is, so that one is taken anew for each that it stands in.
 
 use vlog_tree::Expr;
 

@@ -33,8 +33,8 @@ fn one_bit(dag: &mut Dag, bit: u64, length: u8) -> Result<u64, AllocError>
     Ok(number)
 }
 
-/// The node of an operator that doesn't divide, at the length and the sign of its expression, from those of its operands, which
-/// are compared by the sign `sign`.
+/// The node of an operator that doesn't divide, at the length and the sign of its expression, from those of its
+/// operands, which are compared by the sign `sign`.
 #[tactic(auto, using(crate::proofs::Kept::keeps_then, crate::proofs::Kept::made_node))]
 pub fn joined(
     dag: &mut Dag,

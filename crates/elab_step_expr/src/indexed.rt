@@ -123,8 +123,8 @@ fn with_position(
     }
 }
 
-/// The bits of a word from the one that an index names upwards, where the word's lowest bit has the number `from`; a bit out of
-/// range is 0.
+/// The bits of a word from the one that an index names upwards, where the word's lowest bit has the number `from`; a
+/// bit out of range is 0.
 #[tactic(auto, using(crate::proofs::Kept::keeps_then, crate::proofs::Kept::made_node, crate::proofs::Kept::node_kept))]
 pub fn indexed(dag: &mut Dag, a: Wire, index: Own, from: i128, width: u8) -> Result<u64, AllocError>
     requires node { IsWire dag.old a }

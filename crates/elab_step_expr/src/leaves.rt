@@ -1,4 +1,4 @@
-//! What names stand for, as nodes of a dag.
+// What names stand for, as nodes of a dag.
 ghost use Rattle.std.specs.Prelude.{◌≡◌, ◌<◌, ◌++◌, [], ◌∷◌, get_or, length, IfSome, IfNone, IfOk, Some, None, OnOk, OnErr};
 ghost use Rattle.vlog_tree.specs.Valuation.{IsLength};
 ghost use Rattle.elab_step_expr.specs.Leaves.{leaf_at, declared, AreWide, entry_of, with_node};
@@ -8,7 +8,8 @@ use std::alloc::{AllocError, Global};
 use std::marker::Model;
 use vlog_tree::{Entry, Valuation};
 
-/// What a name stands for at an offset: its length in bits, the number of its lowest bit, its sign, and the node of its value.
+/// What a name stands for at an offset: its length in bits, the number of its lowest bit, its sign, and the node of its
+/// value.
 #[derive(Drop)]
 pub struct Leaf {
     pub name: Text,
@@ -102,7 +103,7 @@ impl Leaves {
         &self.entries
     }
 
-    /// Adds a leaf at the end. It is refused for want of memory alone, and then nothing changes.
+    /// Adds a leaf at the end. On an error nothing changes.
     pub fn push(&mut self, alloc: Global, leaf: Leaf) -> Result<(), AllocError>
         requires { IsLength leaf.width }
         ensures ok { OnOk result (self.new ≡ self.old ++ leaf ∷ []) }

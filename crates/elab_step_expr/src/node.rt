@@ -1,4 +1,4 @@
-//! Expressions as nodes.
+// Expressions as nodes.
 ghost use Rattle.std.specs.Prelude.{◌≡◌, ◌≤◌, max, not, nat_eq, IfOk};
 ghost use Rattle.word_dag.specs.Adding.{Keeps};
 ghost use Rattle.vlog_tree.specs.Valuation.{IsLength};
@@ -192,9 +192,9 @@ fn row_node(dag: &mut Dag, items: &[Expr], leaves: &Leaves) -> Result<Wire, Allo
     Ok(all)
 }
 
-/// The node of an expression at a length in bits, at least its own, and a sign, as they come from the expression that it stands in. Its number
-/// is the expression's value, each name having the number of its leaf's node, whatever the free words are. It is refused for want of memory
-/// alone, and then the nodes that were there stay as they were.
+/// The node of an expression at a length in bits, at least its own, and a sign, as they come from the expression that
+/// it stands in. Its number is the expression's value, each name having the number of its leaf's node, whatever the
+/// free words are. On an error the nodes that were there stay as they were.
 #[tactic(auto, using(crate::proofs::Kept::keeps_then, crate::proofs::Kept::ready_kept))]
 pub fn node_of(
     dag: &mut Dag,
@@ -213,8 +213,8 @@ pub fn node_of(
     Ok(node)
 }
 
-/// The node of what an assignment gives to a left side of so many bits (IEEE 1364-2005, 5.4). It is refused for want of memory alone, and then
-/// the nodes that were there stay as they were.
+/// The node of what an assignment gives to a left side of so many bits (IEEE 1364-2005, 5.4). On an error the nodes
+/// that were there stay as they were.
 #[tactic(auto, using(crate::proofs::Kept::keeps_then, crate::proofs::Kept::ready_kept))]
 pub fn assigned_node(
     dag: &mut Dag,
@@ -243,8 +243,7 @@ pub fn assigned_node(
     Ok(number)
 }
 
-/// The node of an expression's own value, at its own length. It is refused for want of memory alone, and then the nodes that were there stay
-/// as they were.
+/// The node of an expression's own value, at its own length. On an error the nodes that were there stay as they were.
 #[tactic(auto, using(crate::proofs::Kept::keeps_then, crate::proofs::Kept::ready_kept))]
 pub fn value_node(dag: &mut Dag, expr: &Expr, leaves: &Leaves) -> Result<u64, AllocError>
     requires ready { AreReady leaves.now dag.old }
@@ -258,8 +257,8 @@ pub fn value_node(dag: &mut Dag, expr: &Expr, leaves: &Leaves) -> Result<u64, Al
     Ok(own.wire.node)
 }
 
-/// The node of a condition: one bit that is 1 exactly where the expression's own value isn't 0. It is refused for want of memory alone, and
-/// then the nodes that were there stay as they were.
+/// The node of a condition: one bit that is 1 exactly where the expression's own value isn't 0. On an error the nodes
+/// that were there stay as they were.
 #[tactic(auto, using(crate::proofs::Kept::keeps_then, crate::proofs::Kept::ready_kept))]
 pub fn holds_node(dag: &mut Dag, expr: &Expr, leaves: &Leaves) -> Result<u64, AllocError>
     requires ready { AreReady leaves.now dag.old }

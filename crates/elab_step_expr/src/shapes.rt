@@ -16,8 +16,8 @@ use vlog_tree_values::{
     shape_of, sizing,
 };
 
-// The shape of an expression, of which each part is looked at. A copy of it, in which each count is taken once, is made only where counts stand within
-// one another.
+// The shape of an expression, of which each part is looked at. A copy of it, in which each count is taken once, is made
+// only where counts stand within one another.
 fn whole_shape(expr: &Expr, leaves: &Leaves) -> Result<(u8, bool), AllocError>
     requires { IsFormed (declared leaves.now) expr.now }
     ensures { IfOk result (λ s. HasShape (declared leaves.now) expr.now s.0 s.1) }
@@ -33,7 +33,7 @@ fn whole_shape(expr: &Expr, leaves: &Leaves) -> Result<(u8, bool), AllocError>
     }
 }
 
-/// The integer that an expression is by itself, each name having the value 0. It is refused for want of memory alone.
+/// The integer that an expression is by itself, each name having the value 0.
 pub fn own_number(boxed: &Boxed<Expr>, leaves: &Leaves) -> Result<i128, AllocError>
     requires formed { IsFormed (declared leaves.now) boxed.now }
     requires defined { IsTrue (own_defined (operand_of (declared leaves.now) boxed.now)) }
@@ -97,8 +97,8 @@ fn formed<'a>(boxed: &'a Boxed<Expr>, leaves: &Leaves) -> &'a Expr
     boxed.get()
 }
 
-/// The length and the sign that an expression has by itself (IEEE 1364-2005, 5.4 and 5.5). Operands on which they don't depend aren't looked at: those
-/// of a comparison and of a reduction, a condition, the index of a bit. It is refused for want of memory alone.
+/// The length and the sign that an expression has by itself (IEEE 1364-2005, 5.4 and 5.5). Operands on which they don't
+/// depend aren't looked at: those of a comparison and of a reduction, a condition, the index of a bit.
 #[cycle(shaping)]
 pub fn shape(expr: &Expr, leaves: &Leaves) -> Result<(u8, bool), AllocError>
     requires { IsFormed (declared leaves.now) expr.now }

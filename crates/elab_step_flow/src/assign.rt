@@ -58,7 +58,7 @@ fn assign_parts(
     Ok(())
 }
 
-/// Sets a left side, which depends on the places of a set. Refused only for want of memory.
+/// Sets a left side, which depends on the places of a set.
 pub fn assign_left(
     flow: &mut BlockFlow,
     alloc: Global,

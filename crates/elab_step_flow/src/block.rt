@@ -13,7 +13,7 @@ use crate::scope::Scope;
 use std::alloc::{AllocError, Global};
 use vlog_tree::Stmt;
 
-/// What the paths through a combinational block do, from its beginning to its end. Refused only for want of memory.
+/// What the paths through a combinational block do, from its beginning to its end.
 pub fn flow_of(alloc: Global, scope: &Scope<'_>, body: &Stmt) -> Result<BlockFlow, AllocError>
     requires signals { AreVectors scope.now }
     requires body { IsPassable scope.now body.now }

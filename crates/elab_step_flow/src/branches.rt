@@ -62,7 +62,7 @@ fn add_spots(
     Ok(())
 }
 
-/// What paths do at some places. Refused only for want of memory.
+/// What paths do at some places.
 pub fn spots_at(alloc: Global, flow: &BlockFlow, places: &[usize]) -> Result<Vec<Spot>, AllocError>
     requires sized { IsSized (length flow.now.unset.items) flow.now }
     requires within { (i : ℕ) → Among places.now i → i < length flow.now.unset.items }
@@ -87,7 +87,7 @@ impl Branches {
         }
     }
 
-    /// Adds what a branch does that assigns some places, and before which so many reads were found. Refused only for want of memory.
+    /// Adds what a branch does that assigns some places, and before which so many reads were found.
     pub fn add(
         &mut self,
         alloc: Global,
@@ -124,7 +124,7 @@ impl BlockFlow {
         Ok(())
     }
 
-    /// Puts back what was at some places. Refused only for want of memory.
+    /// Puts back what was at some places.
     pub fn put_back(&mut self, alloc: Global, spots: &[Spot]) -> Result<(), AllocError>
         requires sized { IsSized (length self.old.unset.items) self.old }
         requires within { (x : At) → Among spots.now x → x.place < length self.old.unset.items }
@@ -178,7 +178,7 @@ impl BlockFlow {
         Ok(())
     }
 
-    /// Where branches end that began here. Refused only for want of memory.
+    /// Where branches end that began here.
     pub fn join(&mut self, alloc: Global, branches: &Branches) -> Result<(), AllocError>
         requires sized { IsSized (length self.old.unset.items) self.old }
         requires within { AreInside (length self.old.unset.items) branches.now }

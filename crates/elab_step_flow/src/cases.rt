@@ -40,7 +40,7 @@ fn add_labels<'a>(all: &mut Vec<&'a Expr>, labels: &'a Labels) -> Result<(), All
     }
 }
 
-/// The labels of a case statement, in the order of its text. Refused only for want of memory.
+/// The labels of a case statement, in the order of its text.
 pub fn labels_of(alloc: Global, items: &[CaseItem]) -> Result<Vec<&Expr>, AllocError>
     ensures { IfOk result (λ r. map expr_meant r.items ≡ labels_of items.now) }
 {
@@ -252,7 +252,7 @@ fn covers_all(
     Ok(has_all(&values, own.0, length, signed))
 }
 
-/// Whether no path leads past the items of a case statement with these labels. Refused only for want of memory.
+/// Whether no path leads past the items of a case statement with these labels.
 pub fn is_full(
     alloc: Global,
     kind: CaseKind,

@@ -62,7 +62,7 @@ fn add_assign_edges(
     Ok(())
 }
 
-/// From what continuous assignments assign to what they read. It takes time linear in their size. Refused only for want of memory.
+/// From what continuous assignments assign to what they read. It takes time linear in their size.
 pub fn assigns_edges(
     alloc: Global,
     names: &Names<'_>,
@@ -140,7 +140,7 @@ fn add_own_edges(
     Ok(())
 }
 
-/// Adds from what combinational blocks assign to what the assignments depend on. Refused only for want of memory.
+/// Adds from what combinational blocks assign to what the assignments depend on.
 pub fn add_blocks_edges(
     all: &mut Vec<Edge>,
     alloc: Global,

@@ -84,7 +84,7 @@ fn add_open(all: &mut Vec<usize>, words: &[u64], places: &[usize]) -> Result<(),
 }
 
 impl BlockFlow {
-    /// What is so before the first statement of a block. Refused only for want of memory.
+    /// What is so before the first statement of a block.
     pub fn start(alloc: Global, signals: &[Signal]) -> Result<BlockFlow, AllocError>
         requires distinct { AreDistinct signals.now }
         requires narrow { AreNarrow signals.now }
@@ -103,7 +103,7 @@ impl BlockFlow {
         *self.outside.allocator()
     }
 
-    /// Reads places; what they count as, with the places that the conditions around count as. Refused only for want of memory.
+    /// Reads places; what they count as, with the places that the conditions around count as.
     pub fn enter(
         &mut self,
         alloc: Global,
@@ -125,7 +125,7 @@ impl BlockFlow {
         Ok(inner)
     }
 
-    /// Sets the bits of a word at a place, which depend on the places of a set. Refused only for want of memory.
+    /// Sets the bits of a word at a place, which depend on the places of a set.
     pub fn set(&mut self, place: usize, word: u64, sources: &[usize]) -> Result<(), AllocError>
         requires sized { IsSized (length self.old.unset.items) self.old }
         requires within { place < length self.old.unset.items }

@@ -75,8 +75,9 @@ fn dependences_among(
     Ok(graph)
 }
 
-/// For each signal the places of those that it depends on within a cycle, in the order of the module's signals: by continuous assignments,
-/// and by the assignments on the paths through combinational blocks. A register depends on none. Refused only for want of memory.
+/// For each signal the places of those that it depends on within a cycle, in the order of the module's signals: by
+/// continuous assignments, and by the assignments on the paths through combinational blocks. A register depends on
+/// none.
 pub fn dependences(alloc: Global, flat: &Flat) -> Result<Vec<Vec<usize>>, AllocError>
     requires { CanPass flat.now }
     ensures size { IfOk result (λ r. length r.items ≡ length flat.now.signals) }

@@ -1,4 +1,5 @@
-// Bits that a combinational block drives and that some path through it doesn't set (IEEE 1364-2005, sections 9.4 and 9.5).
+// Bits that a combinational block drives and that some path through it doesn't set (IEEE 1364-2005, sections 9.4 and
+// 9.5).
 
 ghost use Rattle.std.specs.Prelude.{◌≡◌, ◌<◌, false, length, IfOk, IfSome, IfNone};
 ghost use Rattle.vlog_tree_runs.specs.Places.{Name};
@@ -111,7 +112,7 @@ fn missed_of(
     Ok(None)
 }
 
-/// The name of the signal at a place. Refused only for want of memory.
+/// The name of the signal at a place.
 pub fn name_at(alloc: Global, signals: &[Signal], place: usize) -> Result<Text, AllocError>
     requires { place < length signals.now }
     ensures { IfOk result (λ r. IsAt signals.now place r) }
@@ -136,7 +137,7 @@ fn latch_in(alloc: Global, scope: &Scope<'_>, flat: &Flat) -> Result<Option<Text
     }
 }
 
-/// A signal of which a combinational block drives a bit that some path through it doesn't set. Refused only for want of memory.
+/// A signal of which a combinational block drives a bit that some path through it doesn't set.
 pub fn latch_of(alloc: Global, flat: &Flat) -> Result<Option<Text>, AllocError>
     requires { CanPass flat.now }
     ensures some { IfOk result (λ o. IfSome o (λ x. Stands flat.now (f.Latch x))) }

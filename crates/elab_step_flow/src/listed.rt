@@ -165,8 +165,8 @@ fn unlisted_name(alloc: Global, scope: &Scope<'_>, flat: &Flat) -> Result<Option
     }
 }
 
-/// A signal that a combinational block with a list of names reads on some path where it hasn't set all of it, though the list leaves it
-/// out. Refused only for want of memory.
+/// A signal that a combinational block with a list of names reads on some path where it hasn't set all of it, though
+/// the list leaves it out.
 pub fn unlisted_in(alloc: Global, flat: &Flat) -> Result<Option<Text>, AllocError>
     requires { CanPass flat.now }
     ensures some { IfOk result (λ o. IfSome o (λ x. Stands flat.now (f.Sensitivity x))) }

@@ -1,5 +1,5 @@
-// The signals that a statement names, apart from all others of a module: what is done for each signal then goes with the size of the statement
-// alone.
+// The signals that a statement names, apart from all others of a module: what is done for each signal then goes with
+// the size of the statement alone.
 
 ghost use Rattle.std.specs.Prelude.{◌≡◌, ◌++◌, ◌<◌, ◌↔◌, ℕ, length, map, slice_index, IfOk, OnOk};
 ghost use Rattle.std.specs.List.{flat_map};
@@ -114,7 +114,7 @@ fn signals_at(
     Ok(copies)
 }
 
-/// The signals that a statement names, among which it does what it does among all of them. Refused only for want of memory.
+/// The signals that a statement names, among which it does what it does among all of them.
 pub fn own_signals(alloc: Global, scope: &Scope<'_>, body: &Stmt) -> Result<OwnSignals, AllocError>
     requires vectors { AreVectors scope.now }
     requires body { IsPassable scope.now body.now }

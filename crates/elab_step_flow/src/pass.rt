@@ -1,6 +1,6 @@
-// One pass through the text of a block (IEEE 1364-2005, sections 9.2, 9.4, 9.5 and 9.8). The branches of a statement begin one after another
-// where the statement does: what a branch changes is noted, and put back after it. So a statement takes time by what it names, and not by all
-// that the block names.
+// One pass through the text of a block (IEEE 1364-2005, sections 9.2, 9.4, 9.5 and 9.8). The branches of a statement
+// begin one after another where the statement does: what a branch changes is noted, and put back after it. So a
+// statement takes time by what it names, and not by all that the block names.
 
 ghost use Rattle.std.specs.Prelude.{◌≡◌, ◌↔◌, ◌∷◌, ℕ, Bool, false, true, [], map, length, List, MatchBool, OnOk, IfOk};
 ghost use Rattle.vlog_tree.specs.declared.stmt.Lval.{Lval as Left};
@@ -26,7 +26,7 @@ use sqlite_items::{Boxed, Items};
 use std::alloc::{AllocError, Global};
 use vlog_tree::{CaseItem, CaseKind, Expr, Lval, Stmt};
 
-/// After an assignment, with the places that the conditions around it count as. Refused only for want of memory.
+/// After an assignment, with the places that the conditions around it count as.
 pub fn pass_assignment(
     flow: &mut BlockFlow,
     scope: &Scope<'_>,
@@ -85,7 +85,8 @@ fn branches_of(
     Ok(Branches::of(alloc, places))
 }
 
-// A case statement on its way through the pass: its kind, the case expression, and the items with all their labels in the order of the text.
+// A case statement on its way through the pass: its kind, the case expression, and the items with all their labels in
+// the order of the text.
 #[derive(Clone, Copy)]
 struct Case<'a> {
     kind: CaseKind,
@@ -147,7 +148,7 @@ impl<'a> Case<'a> {
     }
 }
 
-/// After a statement, with the places that the conditions around it count as. Refused only for want of memory.
+/// After a statement, with the places that the conditions around it count as.
 #[cycle(pass)]
 pub fn pass(
     flow: &mut BlockFlow,

@@ -31,7 +31,7 @@ fn add_place(all: &mut Vec<usize>, names: &Names<'_>, part: Part<'_>) -> Result<
     Ok(())
 }
 
-/// The places of the signals that parts name, in the order of the parts. Refused only for want of memory.
+/// The places of the signals that parts name, in the order of the parts.
 pub fn places_of(
     alloc: Global,
     names: &Names<'_>,
@@ -46,7 +46,7 @@ pub fn places_of(
     Ok(all)
 }
 
-/// The places of the names that an assignment reads. Refused only for want of memory.
+/// The places of the names that an assignment reads.
 pub fn places_read(
     alloc: Global,
     scope: &Scope<'_>,
@@ -62,7 +62,7 @@ pub fn places_read(
     Ok(places)
 }
 
-/// The places of the names in an expression. Refused only for want of memory.
+/// The places of the names in an expression.
 pub fn places_tested(
     alloc: Global,
     scope: &Scope<'_>,
@@ -86,7 +86,7 @@ fn add_all_reads<'a>(all: &mut Vec<Part<'a>>, exprs: &[&'a Expr]) -> Result<(), 
     Ok(())
 }
 
-/// The places of the names in a case expression and in labels. Refused only for want of memory.
+/// The places of the names in a case expression and in labels.
 pub fn places_compared(
     alloc: Global,
     scope: &Scope<'_>,
@@ -127,7 +127,7 @@ fn assigned_parts(alloc: Global, body: &Stmt) -> Result<Vec<Part<'_>>, AllocErro
     Ok(all)
 }
 
-/// The places of the signals that a statement assigns, in their order. Refused only for want of memory.
+/// The places of the signals that a statement assigns, in their order.
 pub fn assigned(alloc: Global, scope: &Scope<'_>, body: &Stmt) -> Result<Vec<usize>, AllocError>
     ensures rises { IfOk result (λ r. IsStrictlyIncreasing r.items) }
     ensures assigned { IfOk result (λ r. (i : ℕ) → Among r.items i ↔ IsAssigned scope.now body.now i) }

@@ -17,8 +17,8 @@ use std::marker::Model;
 use vlog_tree::{Entry, Valuation};
 use vlog_tree_runs::Signal;
 
-/// Declared signals, of which one is found at once by its name, and what their names stand for at rest, where each is 0. Contracts see
-/// them as their list.
+/// Declared signals, of which one is found at once by its name, and what their names stand for at rest, where each is
+/// 0. Contracts see them as their list.
 #[derive(Drop)]
 pub struct Scope<'a> {
     list: &'a [Signal],
@@ -69,7 +69,7 @@ fn all_at_rest(alloc: Global, signals: &[Signal]) -> Result<Valuation, AllocErro
 }
 
 impl<'a> Scope<'a> {
-    /// The signals of a list. Refused only for want of memory.
+    /// The signals of a list.
     pub fn of(alloc: Global, list: &'a [Signal]) -> Result<Scope<'a>, AllocError>
         requires vectors { AreVectors list.now }
         requires wide { AreWide list.now }

@@ -9,7 +9,7 @@ ghost use Rattle.elab_flat_graphs.specs.Graphs.{graph_of};
 
 use std::alloc::{AllocError, Global};
 
-/// A set of so many places that has none. Refused only for want of memory.
+/// A set of so many places that has none.
 pub fn none(alloc: Global, count: usize) -> Result<Vec<bool>, AllocError>
     ensures size { IfOk result (λ r. length r.items ≡ count) }
     ensures items { IfOk result (λ r. r.items ≡ replicate count false) }
@@ -17,7 +17,7 @@ pub fn none(alloc: Global, count: usize) -> Result<Vec<bool>, AllocError>
     vec![in alloc; false; count]
 }
 
-/// So many lists of places that have none. Refused only for want of memory.
+/// So many lists of places that have none.
 pub fn empty_rows(alloc: Global, count: usize) -> Result<Vec<Vec<usize>>, AllocError>
     ensures { IfOk result (λ r. graph_of r.items ≡ replicate count []) }
 {
@@ -72,10 +72,11 @@ fn add_each(all: &mut Vec<usize>, places: &[usize]) -> Result<(), AllocError>
     Ok(())
 }
 
-// So many places are added one by one, which only moves those above them. For more, a pass over the whole list takes less time.
+// So many places are added one by one, which only moves those above them. For more, a pass over the whole list takes
+// less time.
 const FEW: usize = 16;
 
-/// Adds places to a list of places, in which each stands once. Refused only for want of memory.
+/// Adds places to a list of places, in which each stands once.
 pub fn add_places(all: &mut Vec<usize>, places: &[usize]) -> Result<(), AllocError>
     ensures { OnOk result ((i : ℕ) → Among all.new.items i ↔ (Among all.old.items i ⊎ Among places.now i)) }
 {
@@ -95,7 +96,7 @@ fn has(rising: &[usize], place: usize) -> bool
     rising.binary_search(&place).is_ok()
 }
 
-/// Those of some places that stand in a list, too. Refused only for want of memory.
+/// Those of some places that stand in a list, too.
 pub fn both(alloc: Global, places: &[usize], rising: &[usize]) -> Result<Vec<usize>, AllocError>
     requires { IsStrictlyIncreasing rising.now }
     ensures { IfOk result (λ r. (i : ℕ) → Among r.items i ↔ (Among places.now i × Among rising.now i)) }

@@ -45,7 +45,7 @@ fn word_at(shape: Shape, run: Run) -> u64
     ones(bits_below(run.from, shape), bits_below(run.to, shape))
 }
 
-/// A 1 for each bit of a signal that a part of a left side surely sets. Refused only for want of memory.
+/// A 1 for each bit of a signal that a part of a left side surely sets.
 pub fn set_word(alloc: Global, part: Part<'_>, shape: Shape) -> Result<u64, AllocError>
     requires ready { IsPartReady (part_meant part) }
     requires narrow { shape.width ≤ 64 }

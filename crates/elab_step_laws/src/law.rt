@@ -20,8 +20,8 @@ pub fn bits_are_apart()
     bits_are_written();
 }
 
-/// A bit that an assignment surely sets depends on the names that it reads alone. A bit that a block sets on every path depends on those that
-/// assignments to its signal depend on, by the pass through the text as by its paths.
+/// A bit that an assignment surely sets depends on the names that it reads alone. A bit that a block sets on every path
+/// depends on those that assignments to its signal depend on, by the pass through the text as by its paths.
 pub fn bits_follow()
     ensures assignment { StoreFollows }
     ensures flow { FlowFollows }
@@ -30,8 +30,8 @@ pub fn bits_follow()
     bits_are_written();
 }
 
-/// One pass through a block says which bits some path leaves unset, what assignments on some path depend on, and what some path reads before
-/// it has set all of it.
+/// One pass through a block says which bits some path leaves unset, what assignments on some path depend on, and what
+/// some path reads before it has set all of it.
 pub fn passes_are_paths()
     ensures { PassesArePaths }
 {}

@@ -41,8 +41,8 @@ pub fn copy_of(alloc: Global, leaves: &Leaves) -> Result<Leaves, AllocError>
     Ok(copy)
 }
 
-/// Runs the clocked blocks one after another, which all read the leaves of the cycle before the edge. It is refused for want of memory alone,
-/// and then the leaves are half changed.
+/// Runs the clocked blocks one after another, which all read the leaves of the cycle before the edge. On an error the
+/// leaves are half changed.
 pub fn run_clocked(
     alloc: Global,
     dag: &mut Dag,

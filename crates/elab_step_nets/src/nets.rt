@@ -30,7 +30,8 @@ use std::alloc::{AllocError, Global};
 use vlog_tree_runs::Flat;
 use word_dag::Dag;
 
-/// A module's continuous assignments, and what its combinational blocks leave, with the leaves over which they were run.
+/// A module's continuous assignments, and what its combinational blocks leave, with the leaves over which they were
+/// run.
 #[derive(Drop)]
 pub struct Processes<'a> {
     flat: &'a Flat,
@@ -141,7 +142,8 @@ fn outcomes_of(flat: &Flat, source: &mut Dag, first: &Leaves) -> Result<Vec<Outc
     Ok(all)
 }
 
-// A module's processes, ready to solve groups of its nets: its combinational blocks are run, once each, over a source of their own.
+// A module's processes, ready to solve groups of its nets: its combinational blocks are run, once each, over a source
+// of their own.
 fn processes_of<'a>(alloc: Global, flat: &'a Flat) -> Result<Processes<'a>, AllocError>
     requires { CanElaborate flat.now }
     ensures flat { IfOk result (λ p. p.flat.now ≡ flat.now) }
@@ -252,7 +254,8 @@ fn drive(
     Ok(())
 }
 
-// Solves nets together: their leaves are 0 and then in turn what each statement of these places makes of them; the others stay as they are.
+// Solves nets together: their leaves are 0 and then in turn what each statement of these places makes of them; the
+// others stay as they are.
 fn settle(
     text: &mut Processes<'_>,
     dag: &mut Dag,
@@ -297,8 +300,9 @@ fn list_of<'a>(places: &'a [Vec<usize>], nets: &[usize]) -> &'a [usize]
     }
 }
 
-/// Solves groups of nets one after another, in an order of their places, each by the places of the statements that assign it. Each combinational
-/// block is run once, over free words, and a group's nodes are made of what it leaves. It is refused for want of memory alone, and then the leaves are half changed.
+/// Solves groups of nets one after another, in an order of their places, each by the places of the statements that
+/// assign it. Each combinational block is run once, over free words, and a group's nodes are made of what it leaves. On
+/// an error the leaves are half changed.
 pub fn solve_nets(
     dag: &mut Dag,
     flat: &Flat,

@@ -72,7 +72,7 @@ fn nodes_at(alloc: Global, leaves: &Leaves, places: &[usize]) -> Result<Vec<u64>
     Ok(nodes)
 }
 
-/// Runs a block once over a source, and puts back what it assigns. Refused only for want of memory, and then the leaves are half changed.
+/// Runs a block once over a source, and puts back what it assigns. On an error the leaves are half changed.
 pub fn outcome_of(source: &mut Dag, body: &Stmt, leaves: &mut Leaves) -> Result<Outcome, AllocError>
     requires set { AreSet None leaves.old source.old }
     requires body { IsReadyStmt (declared leaves.old) body.now }

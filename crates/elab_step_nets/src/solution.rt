@@ -20,8 +20,8 @@ pub struct Solution {
     pub next: Leaves,
 }
 
-/// Solves groups of a module's nets in an order of their places, each by the places of the statements that assign it, and runs its clocked blocks.
-/// The flags tell the nets; every other signal is a free word. It is refused for want of memory alone.
+/// Solves groups of a module's nets in an order of their places, each by the places of the statements that assign it,
+/// and runs its clocked blocks. The flags tell the nets; every other signal is a free word.
 pub fn solve(
     alloc: Global,
     flat: &Flat,

@@ -1,4 +1,4 @@
-//! What helpers are and say.
+// What helpers are and say.
 ghost use Rattle.std.specs.Prelude.{◌≡◌, ℕ, Bool, false};
 ghost use Rattle.helper_box.specs.Asked.{one_more, counted};
 
@@ -18,8 +18,8 @@ pub enum Claim {
 
 /// Claims that are made out of turn, so that many can be made side by side.
 pub trait Claims {
-    /// What it claims of an obligation, of which these are the clauses, and none where it claims in its turn alone. It is refused for its own want
-    /// of memory.
+    /// What it claims of an obligation, of which these are the clauses, and none where it claims in its turn alone. It
+    /// is refused where its own memory runs out.
     fn claim(&self, _alloc: Global, _ob: &Ob, _cnf: &Cnf) -> Result<Option<Claim>, AllocError> {
         Ok(None)
     }
@@ -31,7 +31,8 @@ pub trait Helper: Claims + Drop + Sync {
 
     ghost ahead: { Self → Bool } = { λ _. false };
 
-    /// Its claim about an obligation, of which these are the clauses. It is refused for the helper's own want of memory.
+    /// Its claim about an obligation, of which these are the clauses. It is refused where the helper's own memory runs
+    /// out.
     fn offer(&mut self, alloc: Global, ob: &Ob, cnf: &Cnf) -> Result<Claim, AllocError>
         ensures { asked self.new ≡ one_more (asked self.old) };
 

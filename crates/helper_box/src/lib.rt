@@ -1,5 +1,5 @@
-//! Helpers that may claim how an obligation ends. A claim counts only where it passes a check of our own, so nothing is promised of
-//! what helpers claim.
+//! Helpers that may claim how an obligation ends. A claim counts only where it passes a check of our own, so nothing is
+//! promised of what helpers claim.
 #![tactic(auto)]
 
 mod claim;

@@ -1,4 +1,4 @@
-//! Helpers that are asked in turn, and their claims out of turn.
+// Helpers that are asked in turn, and their claims out of turn.
 ghost use Rattle.std.specs.Prelude.{◌≡◌, IfOk, IfSome, Ok, length, map};
 ghost use Rattle.std.specs.Vec.Iter.{into_iter_items};
 ghost use Rattle.helper_box.specs.Asked.{one_more, AreReady, AsksSome, Passes};
@@ -10,7 +10,7 @@ use std::alloc::{AllocError, Global};
 use std::vec::IntoIter;
 use word_dag::Ob;
 
-/// The claim, where it passes.
+// The claim, where it passes.
 fn passed(alloc: Global, ob: &Ob, cnf: &Cnf, claim: Claim) -> Result<Claim, AllocError>
     ensures { IfOk result (Passes ob.now cnf.now) }
 {
@@ -21,8 +21,8 @@ fn passed(alloc: Global, ob: &Ob, cnf: &Cnf, claim: Claim) -> Result<Claim, Allo
     }
 }
 
-/// Asks one helper, or counts it where it makes its claims out of turn and one is ready. A claim that doesn't pass is none, and so is the
-/// helper's want of memory.
+// Asks one helper, or counts it where it makes its claims out of turn and one is ready. A claim that doesn't pass is
+// none, and so is a helper without memory.
 fn ask<H: Helper>(
     helper: &mut H,
     alloc: Global,
@@ -68,8 +68,9 @@ fn ask_each<H: Helper>(
     Ok(Claim::Nothing)
 }
 
-/// Asks the helpers in order about an obligation, of which these are the clauses, and gives the first claim that passes; the helpers after
-/// that one aren't asked. It is refused only where a check of a claim wants memory; a helper that wants memory has claimed nothing.
+/// Asks the helpers in order about an obligation, of which these are the clauses, and gives the first claim that
+/// passes; the helpers after that one aren't asked. It is refused only where a check of a claim wants memory; a helper
+/// that wants memory has claimed nothing.
 pub fn offer_all<H: Helper>(
     helpers: &mut Vec<H>,
     alloc: Global,
@@ -83,8 +84,9 @@ pub fn offer_all<H: Helper>(
     ask_each(helpers.as_mut_slice(), alloc, ob, cnf, Vec::new(alloc))
 }
 
-/// Asks the helpers as `offer_all` does, but for those that make their claims out of turn and whose claims are ready, one for each helper in
-/// their order: these are counted in their turn, and their claims taken. A helper that makes its claims in its turn is asked, whatever is ready.
+/// Asks the helpers as `offer_all` does, but for those that make their claims out of turn and whose claims are ready,
+/// one for each helper in their order: these are counted in their turn, and their claims taken. A helper that makes its
+/// claims in its turn is asked, whatever is ready.
 pub fn offer_ready<H: Helper>(
     helpers: &mut Vec<H>,
     alloc: Global,
@@ -100,7 +102,8 @@ pub fn offer_ready<H: Helper>(
     ask_each(helpers.as_mut_slice(), alloc, ob, cnf, ready)
 }
 
-/// A helper's claim out of turn. One that doesn't pass claims nothing; a helper that wants memory for one is asked in its turn.
+// A helper's claim out of turn. One that doesn't pass claims nothing; a helper that wants memory for one is asked in
+// its turn.
 fn claim_of<C: Claims>(
     helper: &C,
     alloc: Global,
@@ -116,8 +119,8 @@ fn claim_of<C: Claims>(
     }
 }
 
-/// The claims of an obligation that the helpers make out of turn, one entry for each helper in their order: none for a helper that is asked in
-/// its turn. It is refused only where a check of a claim, or the list, wants memory.
+/// The claims of an obligation that the helpers make out of turn, one entry for each helper in their order: none for a
+/// helper that is asked in its turn. It is refused only where a check of a claim, or the list, wants memory.
 pub fn claims_of<C: Claims>(
     helpers: &[C],
     alloc: Global,

@@ -1,4 +1,4 @@
-//! Whether a claim holds, by a check of our own.
+// Whether a claim holds, by a check of our own.
 ghost use Rattle.std.specs.Prelude.{◌≡◌, ◌≤◌, ◌↔◌, IfOk, IsTrue, count_by, length};
 ghost use Rattle.clause_check.specs.Derivations.{IsRefutation};
 ghost use Rattle.word_dag.specs.Given.{is_free};
@@ -9,7 +9,7 @@ use clause_check::{Cnf, Marks, Step, accept};
 use std::alloc::{AllocError, Global};
 use word_dag::{Node, Ob, Table, fits, value_at};
 
-/// How many nodes are free.
+// How many nodes are free.
 fn free_count(nodes: &[Node]) -> usize
     ensures { result ≡ count_by is_free nodes.now }
 {
@@ -46,7 +46,7 @@ fn refutes(alloc: Global, cnf: &Cnf, steps: &[Step]) -> Result<bool, AllocError>
     Ok(accept(cnf, steps, &mut marks))
 }
 
-/// Whether a claim passes. Refused only for want of memory.
+/// Whether a claim passes.
 pub fn passes(alloc: Global, ob: &Ob, cnf: &Cnf, claim: &Claim) -> Result<bool, AllocError>
     ensures { IfOk result (λ b. IsTrue b ↔ Passes ob.now cnf.now claim.now) }
 {

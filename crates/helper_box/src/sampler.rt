@@ -1,4 +1,4 @@
-//! The helper that tries some values.
+// The helper that tries some values.
 ghost use Rattle.std.specs.Prelude.{◌≡◌};
 
 use crate::claim::{Claim, Claims, Helper};
@@ -8,7 +8,7 @@ use clause_check::Cnf;
 use std::alloc::{AllocError, Global};
 use word_dag::{Ob, Table};
 
-/// How many values are tried for one obligation at most.
+// How many values are tried for one obligation at most.
 const TRIES: u64 = 64;
 
 /// Tries values that are drawn from a start number, some for each obligation, until its credit of tries is spent.

@@ -1,4 +1,4 @@
-//! Where values to try come from.
+// Where values to try come from.
 use std::alloc::{AllocError, Global};
 use word_dag::Node;
 
@@ -13,8 +13,8 @@ fn ones(width: u8) -> u64 {
     u64::MAX >> (64 - width.clamp(1, 64))
 }
 
-/// Numbers that follow from a first one and look like random ones (G. L. Steele, D. Lea and C. H. Flood, Fast splittable pseudorandom
-/// number generators, 2014).
+/// Numbers that follow from a first one and look like random ones (G. L. Steele, D. Lea and C. H. Flood, Fast
+/// splittable pseudorandom number generators, 2014).
 #[derive(Debug, Drop)]
 pub struct Random {
     pub state: u64,
@@ -43,7 +43,7 @@ impl Source for Digits {
     }
 }
 
-/// A value for each free node, in the order of the nodes. Refused only for want of memory.
+/// A value for each free node, in the order of the nodes.
 pub fn drawn<S: Source>(
     alloc: Global,
     nodes: &[Node],

@@ -1,4 +1,4 @@
-//! The helper that tries all values.
+// The helper that tries all values.
 ghost use Rattle.std.specs.Prelude.{◌≡◌, ◌≤◌, IfSome};
 
 use crate::claim::{Claim, Claims, Helper};
@@ -8,7 +8,7 @@ use clause_check::Cnf;
 use std::alloc::{AllocError, Global};
 use word_dag::{Node, Ob, Table as Words};
 
-/// How many bits the free words of an obligation may have in all.
+// How many bits the free words of an obligation may have in all.
 const MOST: u64 = 12;
 
 /// Tries all values of the free words, where these have at most 12 bits in all.
@@ -26,7 +26,7 @@ impl Table {
     }
 }
 
-/// How many bits the free nodes have, where these are at most 12.
+// How many bits the free nodes have, where these are at most 12.
 fn few_bits(nodes: &[Node]) -> Option<u64>
     ensures { IfSome result (λ n. n ≤ 12) }
 {

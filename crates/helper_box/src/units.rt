@@ -1,4 +1,4 @@
-//! The helper that propagates units.
+// The helper that propagates units.
 ghost use Rattle.std.specs.Prelude.{◌≡◌, true, OnOk, length};
 
 use crate::claim::{Claim, Claims, Helper};
@@ -6,7 +6,8 @@ use clause_check::{Clause, Cnf, Lit, Look, Step, in_32_bits, look_at};
 use std::alloc::{AllocError, Global};
 use word_dag::Ob;
 
-/// Claims that the clauses can't be met where unit propagation alone leads to a clause that is false: one step suffices then.
+/// Claims that the clauses can't be met where unit propagation alone leads to a clause that is false: one step suffices
+/// then.
 #[derive(Debug, Drop)]
 pub struct Units {
     offers: u64,
@@ -21,33 +22,33 @@ impl Units {
     }
 }
 
-/// What propagation has come to.
+// What propagation has come to.
 #[derive(Drop)]
 struct Trail {
-    /// The values of the variables.
+    // The values of the variables.
     values: Vec<Option<bool>>,
-    /// The literals that were made true, in their order.
+    // The literals that were made true, in their order.
     forced: Vec<Lit>,
-    /// The clauses that forced them, and the one that is false.
+    // The clauses that forced them, and the one that is false.
     hints: Vec<u32>,
 }
 
-/// The place of a literal in a table.
+// The place of a literal in a table.
 fn index_of(lit: Lit) -> usize {
     (lit.var as usize)
         .saturating_mul(2)
         .saturating_add(usize::from(lit.negative))
 }
 
-/// For each literal the numbers of the clauses that have it, the list of one literal behind that of another.
+// For each literal the numbers of the clauses that have it, the list of one literal behind that of another.
 #[derive(Drop)]
 struct Occurrences {
-    /// Where each literal's list begins, and where the last one ends.
+    // Where each literal's list begins, and where the last one ends.
     bounds: Vec<u32>,
     numbers: Vec<u32>,
 }
 
-/// For each literal the numbers of the clauses that have it.
+// For each literal the numbers of the clauses that have it.
 fn occurrences_in(alloc: Global, cnf: &Cnf) -> Result<Occurrences, AllocError> {
     let literals = (cnf.vars as usize).saturating_mul(2);
     let mut bounds = vec![in alloc; 0_u32; literals.saturating_add(2)]?;
@@ -74,7 +75,7 @@ fn occurrences_in(alloc: Global, cnf: &Cnf) -> Result<Occurrences, AllocError> {
     Ok(Occurrences { bounds, numbers })
 }
 
-/// Makes the number at a place greater by 1, and gives what it was.
+// Makes the number at a place greater by 1, and gives what it was.
 fn raise(numbers: &mut [u32], place: usize) -> u32 {
     match numbers.get_mut(place) {
         Some(number) => {
@@ -87,7 +88,7 @@ fn raise(numbers: &mut [u32], place: usize) -> u32 {
 }
 
 impl Occurrences {
-    /// The numbers of the clauses that have the literal.
+    // The numbers of the clauses that have the literal.
     fn of(&self, lit: Lit) -> &[u32] {
         let at = index_of(lit);
         let (Some(start), Some(end)) = (self.bounds.get(at), self.bounds.get(at.saturating_add(1)))
@@ -100,7 +101,7 @@ impl Occurrences {
     }
 }
 
-/// Looks at a clause, and makes true what it forces. Whether the clause is false.
+// Looks at a clause, and makes true what it forces. Whether the clause is false.
 fn is_false(cnf: &Cnf, trail: &mut Trail, number: u32) -> Result<bool, AllocError>
     requires room { length trail.old.values.items ≡ cnf.now.vars }
     ensures room { OnOk result (length trail.new.values.items ≡ cnf.now.vars) }
@@ -124,7 +125,7 @@ fn is_false(cnf: &Cnf, trail: &mut Trail, number: u32) -> Result<bool, AllocErro
     }
 }
 
-/// Looks at the clauses of these numbers in turn, until one is false. Whether one is.
+// Looks at the clauses of these numbers in turn, until one is false. Whether one is.
 fn is_one_false(cnf: &Cnf, trail: &mut Trail, numbers: &[u32]) -> Result<bool, AllocError>
     requires room { length trail.old.values.items ≡ cnf.now.vars }
     ensures room { OnOk result (length trail.new.values.items ≡ cnf.now.vars) }
@@ -137,7 +138,7 @@ fn is_one_false(cnf: &Cnf, trail: &mut Trail, numbers: &[u32]) -> Result<bool, A
     Ok(false)
 }
 
-/// Looks at each clause once, and then at the clauses of each literal that became false. Whether one is false at last.
+// Looks at each clause once, and then at the clauses of each literal that became false. Whether one is false at last.
 fn propagates(alloc: Global, cnf: &Cnf, trail: &mut Trail) -> Result<bool, AllocError>
     requires room { length trail.old.values.items ≡ cnf.now.vars }
 {
@@ -158,7 +159,7 @@ fn propagates(alloc: Global, cnf: &Cnf, trail: &mut Trail) -> Result<bool, Alloc
     Ok(false)
 }
 
-/// The derivation of the empty clause in one step along these clauses.
+// The derivation of the empty clause in one step along these clauses.
 fn one_step(alloc: Global, hints: Vec<u32>) -> Result<Vec<Step>, AllocError> {
     let clause = Clause::new(Vec::new(alloc));
     let mut steps = Vec::new(alloc);
@@ -166,7 +167,7 @@ fn one_step(alloc: Global, hints: Vec<u32>) -> Result<Vec<Step>, AllocError> {
     Ok(steps)
 }
 
-/// What propagation alone shows.
+// What propagation alone shows.
 fn refuted(alloc: Global, cnf: &Cnf) -> Result<Claim, AllocError> {
     let mut trail = Trail {
         values: vec![in alloc; None; cnf.vars as usize]?,

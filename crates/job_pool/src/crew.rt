@@ -1,4 +1,4 @@
-//! Workers over the elements of a list.
+// Workers over the elements of a list.
 ghost use Rattle.std.specs.Prelude.{◌≡◌, ◌+◌, ◌^◌, ◌<◌, ◌≤◌, length, IfOk};
 ghost use Rattle.std.specs.List.{AllZip, range_with_len};
 
@@ -30,9 +30,9 @@ pub struct Ran<X> {
 }
 
 impl<'a, R: Threads + Sync> Crew<'a, R> {
-    /// Does a task once with each element. Each worker draws numbers of elements from one shared word until its number is past
-    /// the last one, so that a worker that is done with a short one takes the next. Refused where a worker, or what is made of
-    /// their ends, wants memory; each worker is joined first.
+    /// Does a task once with each element. Each worker draws numbers of elements from one shared word until its number
+    /// is past the last one, so that a worker that is done with a short one takes the next. Refused where a worker, or
+    /// what is made of their ends, wants memory; each worker is joined first.
     pub fn run<T: Sync, X: Send + Drop, J: Task<T, X> + Sync>(
         &self,
         elements: &[T],

@@ -22,7 +22,7 @@ pub enum Evidence {
     Chain(Vec<Step>),
 }
 
-// Decides an obligation within a budget of steps. It is refused for want of memory alone.
+// Decides an obligation within a budget of steps.
 fn decide(alloc: Global, ob: &Ob, budget: u64) -> Result<Evidence, AllocError>
     requires { 0 < budget }
     ensures { IfOk result (IsShown budget ob.now) }

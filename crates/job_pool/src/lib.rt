@@ -1,5 +1,5 @@
-//! Tasks done with the elements of a list by workers in threads of their own, which draw the numbers of the elements from one
-//! shared word; and obligations decided so.
+//! Tasks done with the elements of a list by workers in threads of their own, which draw the numbers of the elements
+//! from one shared word; and obligations decided so.
 #![tactic(auto)]
 
 mod crew;

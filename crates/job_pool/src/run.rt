@@ -1,4 +1,4 @@
-//! Obligations decided by workers.
+// Obligations decided by workers.
 ghost use Rattle.std.specs.Prelude.{◌≡◌, ◌+◌, ◌^◌, ◌<◌, length, IfOk};
 ghost use Rattle.std.specs.List.{AllZip, range_with_len};
 ghost use Rattle.job_pool.specs.Ample.{DecidesIfAmple};
@@ -11,10 +11,10 @@ use std::alloc::AllocError;
 use std::thread::Threads;
 use word_dag::Ob;
 
-/// Decides each obligation once, by these workers, each drawing numbers of jobs from one shared word until its number is past
-/// the last job. A job is to find `budget` conflicts at most, and with `3 ^ v` of them, v being the number of variables of its
-/// clauses, it is decided. A worker enters the gate before each job that it drew. Refused where a worker, or what is made of
-/// their ends, wants memory; each worker is joined first.
+/// Decides each obligation once, by these workers, each drawing numbers of jobs from one shared word until its number
+/// is past the last job. A job is to find `budget` conflicts at most, and with `3 ^ v` of them, v being the number of
+/// variables of its clauses, it is decided. A worker enters the gate before each job that it drew. Refused where a
+/// worker, or what is made of their ends, wants memory; each worker is joined first.
 pub fn run_jobs<R: Threads + Sync, G: Gate + Sync>(
     crew: &Crew<'_, R>,
     obs: &[Ob],

@@ -7,8 +7,8 @@ use atomic_table::Table;
 use std::alloc::{AllocError, Global};
 use std::marker::{Brand, Model};
 
-/// A shared word from which seats draw numbers, 0 and up, each number once. Contracts see the word's name and the limit,
-/// which is how many numbers may be drawn from it in all.
+/// A shared word from which seats draw numbers, 0 and up, each number once. Contracts see the word's name and the
+/// limit, which is how many numbers may be drawn from it in all.
 #[derive(Drop)]
 pub struct Tickets {
     table: Table<(), Hand, u64, EachOnce, Global>,
@@ -25,8 +25,8 @@ impl Model for Tickets {
     ghost invariant = { λ t. (t.table.shared.table_id.words ≡ 1) × (t.table.shared.table_id.slots ≡ 0) × (t.table.shared.key ≤ 2 ^ 63) };
 }
 
-/// The right to draw some numbers from a word, and the numbers drawn with it. Contracts see the word's name, the numbers
-/// in the order in which the seat came to them, and the allowance, which is how many more it may draw.
+/// The right to draw some numbers from a word, and the numbers drawn with it. Contracts see the word's name, the
+/// numbers in the order in which the seat came to them, and the allowance, which is how many more it may draw.
 #[derive(Drop)]
 pub struct Seat {
     inner: atomic_table::Seat<(), Hand>,
@@ -44,7 +44,7 @@ impl Model for Seat {
 }
 
 impl Tickets {
-    /// A word at 0, and its first seat, which may draw as many numbers as the limit. Refused only for want of memory.
+    /// A word at 0, and its first seat, which may draw as many numbers as the limit.
     pub fn new(alloc: Global, limit: u64) -> Result<(Tickets, Seat), AllocError>
         requires { limit ≤ 2 ^ 63 }
         ensures limit { IfOk result (λ r. r.0.limit ≡ limit) }
@@ -76,8 +76,8 @@ impl Tickets {
         Seat { inner }
     }
 
-    /// Draws the next number of the word by one atomic addition. It goes to the end of the seat's numbers and is greater
-    /// than all of them. Takes no memory, and waits for nobody.
+    /// Draws the next number of the word by one atomic addition. It goes to the end of the seat's numbers and is
+    /// greater than all of them. Takes no memory, and waits for nobody.
     pub fn draw(&self, seat: &mut Seat) -> u64
         requires word { seat.old.word ≡ self.now.word }
         requires allowed { 0 < seat.old.allowance }
@@ -97,8 +97,8 @@ impl Tickets {
         self.table.shared.join_seat::<Both>(&mut seat.inner, inner);
     }
 
-    /// How many numbers were drawn. The seat has just the numbers below this count, each once, where all that was allowed
-    /// came back to it. Takes no memory.
+    /// How many numbers were drawn. The seat has just the numbers below this count, each once, where all that was
+    /// allowed came back to it. Takes no memory.
     pub fn close(self, seat: Seat) -> u64
         requires word { seat.word ≡ self.word }
         requires whole { length seat.numbers + seat.allowance ≡ self.limit }

@@ -73,7 +73,8 @@ fn both<X: Drop>(
     Ok(all)
 }
 
-/// As many workers, in threads of their own, each drawing until its number is past the last job. One worker works in this thread.
+/// As many workers, in threads of their own, each drawing until its number is past the last job. One worker works in
+/// this thread.
 pub(crate) fn work_all<R: Threads + Sync, T: Sync, X: Send + Drop, J: Task<T, X> + Sync>(
     rt: &R,
     shift: &Shift<'_, T, J>,
@@ -93,8 +94,8 @@ pub(crate) fn work_all<R: Threads + Sync, T: Sync, X: Send + Drop, J: Task<T, X>
     let other = shift
         .tickets
         .split(&mut seat, shift.elements.len() as u64 + 1);
-    // The first call is made in a new thread, so that all threads are started from this one: those that a new thread starts are often put onto its
-    // own processor.
+    // The first call is made in a new thread, so that all threads are started from this one: those that a new thread
+    // starts are often put onto its own processor.
     let ((other, theirs), (mut seat, mine)) = join(
         rt,
         || -> (Seat, Result<Vec<Done<X>>, AllocError>)

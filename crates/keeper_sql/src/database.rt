@@ -9,7 +9,8 @@ use std::time::Duration;
 
 const NO_MEMORY: Error = Error::SqliteFailure(ErrorCode::OutOfMemory);
 
-// A file that another program holds is tried this often, with so many milliseconds between two tries: five seconds in all.
+// A file that another program holds is tried this often, with so many milliseconds between two tries: five seconds in
+// all.
 const TRIES: u32 = 250;
 
 const PAUSE: u64 = 20;
@@ -33,7 +34,7 @@ pub trait Tables {
     fn rows(&mut self, sql: &str, params: &[ValueRef<'_>]) -> Result<Vec<Row>, OutFault>;
 }
 
-/// Why a statement was refused. The fault isn't counted yet.
+// Why a statement was refused. The fault isn't counted yet.
 fn fault_of(error: Error) -> OutFault {
     if error == NO_MEMORY {
         OutFault::Memory
@@ -66,7 +67,7 @@ fn query<S: Alter>(
     conn.query_all(sql, params).map_err(fault_of)
 }
 
-/// Opens the file, or makes it with a sum behind each page, unless another program holds it.
+// Opens the file, or makes it with a sum behind each page, unless another program holds it.
 fn try_to_open(rt: &HostRuntime, path: &str) -> Result<Option<Database>, OutFault> {
     match Connection::open_with_sums(rt, path) {
         Ok(conn) => Ok(Some(Database::OnDisk(conn))),

@@ -7,8 +7,8 @@ use crate::statements;
 use outside::{Block, Keeper, OutFault, Sign, Text};
 use std::alloc::{AllocError, Global};
 
-/// A store in tables of a database: blocks, traces, proofs, sign-offs, and an index of these by digests of their texts. It doesn't
-/// tell what they hold. Each call that fails leaves them as they were.
+/// A store in tables of a database: blocks, traces, proofs, sign-offs, and an index of these by digests of their texts.
+/// It doesn't tell what they hold. Each call that fails leaves them as they were.
 #[derive(Drop)]
 pub struct SqlKeeper {
     database: Database,
@@ -16,17 +16,17 @@ pub struct SqlKeeper {
 }
 
 impl SqlKeeper {
-    /// A keeper over the file at this path, with no faults so far. A file that isn't there is made, with a sum behind each page, and so
-    /// is each table that it doesn't have. A file that another program holds is waited for, five seconds at most. Refused only for want
-    /// of memory: where the file can't be opened otherwise, isn't such a database, or has a page that its sum doesn't fit, the keeper's
-    /// every call counts a fault.
+    /// A keeper over the file at this path, with no faults so far. A file that isn't there is made, with a sum behind
+    /// each page, and so is each table that it doesn't have. A file that another program holds is waited for, five
+    /// seconds at most. Refused only where memory runs out: where the file can't be opened otherwise, isn't such a
+    /// database, or has a page that its sum doesn't fit, the keeper's every call counts a fault.
     pub fn over(rt: &HostRuntime, path: &str) -> Result<SqlKeeper, AllocError>
         ensures { IfOk result (λ keeper. ⟦<SqlKeeper as Keeper>⟧.faults keeper ≡ 0) }
     {
         SqlKeeper::on(Database::open(rt, path))
     }
 
-    /// A keeper over tables in memory without rows, with no faults so far. Refused only for want of memory.
+    /// A keeper over tables in memory without rows, with no faults so far.
     pub fn in_memory(alloc: Global) -> Result<SqlKeeper, AllocError>
         ensures { IfOk result (λ keeper. ⟦<SqlKeeper as Keeper>⟧.faults keeper ≡ 0) }
     {
@@ -38,7 +38,7 @@ impl SqlKeeper {
         self.database.is_open()
     }
 
-    /// A keeper over what was opened, with its tables made.
+    // A keeper over what was opened, with its tables made.
     fn on(opened: Result<Database, OutFault>) -> Result<SqlKeeper, AllocError>
         ensures { IfOk result (λ keeper. keeper.faults ≡ 0) }
     {
@@ -61,7 +61,7 @@ fn with_tables(opened: Result<Database, OutFault>) -> Result<Database, OutFault>
     Ok(database)
 }
 
-/// Counts a statement that was refused as a fault, want of memory aside.
+// Counts a statement that was refused as a fault, running out of memory aside.
 fn counted<T>(answer: Result<T, OutFault>, faults: &mut u64) -> Result<T, OutFault>
     ensures { HasCause faults.old faults.new result }
 {

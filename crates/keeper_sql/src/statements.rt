@@ -57,7 +57,7 @@ fn sign_of(row: &Row) -> Result<Sign, OutFault> {
     })
 }
 
-/// The value of an answer of at most one row, which has one column.
+// The value of an answer of at most one row, which has one column.
 fn only_value<T: Tables, V: FromSql>(
     tables: &mut T,
     sql: &str,
@@ -114,7 +114,7 @@ pub fn put_block<T: Tables>(tables: &mut T, name: &[u8], block: &Block) -> Resul
     end(tables, written)
 }
 
-/// Ends a transaction: keeps what was written, or undoes it where not all of it was.
+// Ends a transaction: keeps what was written, or undoes it where not all of it was.
 fn end<T: Tables>(tables: &mut T, written: Result<(), OutFault>) -> Result<(), OutFault> {
     let ended = match written {
         Ok(()) => tables.run("COMMIT", &[]),
@@ -188,7 +188,7 @@ pub fn proof_key_after<T: Tables>(
     Ok(found.map(Text::new))
 }
 
-/// What a sign-off is found by.
+// What a sign-off is found by.
 #[derive(Clone, Copy)]
 struct Texts<'a> {
     block: &'a [u8],
@@ -196,7 +196,7 @@ struct Texts<'a> {
     set: &'a [u8],
 }
 
-/// FNV-1a (Fowler, Noll and Vo, 64 bits) over further bytes.
+// FNV-1a (Fowler, Noll and Vo, 64 bits) over further bytes.
 fn mixed(hash: u64, bytes: &[u8]) -> u64 {
     let mut hash = hash;
     for byte in bytes {
@@ -205,7 +205,7 @@ fn mixed(hash: u64, bytes: &[u8]) -> u64 {
     hash
 }
 
-/// Texts that differ may have one digest, so a sign-off that is found by it is compared.
+// Texts that differ may have one digest, so a sign-off that is found by it is compared.
 fn digest(texts: &Texts<'_>) -> i64 {
     let hash = mixed(0xcbf2_9ce4_8422_2325, texts.block);
     let hash = mixed(mixed(hash, texts.module), texts.set);
@@ -233,7 +233,7 @@ pub fn find_sign<T: Tables>(
     Ok(None)
 }
 
-/// The number, where the sign-off that has it is of these texts.
+// The number, where the sign-off that has it is of these texts.
 fn sign_with<T: Tables>(
     tables: &mut T,
     number: i64,
@@ -283,7 +283,7 @@ fn put_key<T: Tables>(tables: &mut T, number: i64, digest: i64) -> Result<(), Ou
     )
 }
 
-/// One more than the number of sign-offs.
+// One more than the number of sign-offs.
 fn next_sign<T: Tables>(tables: &mut T) -> Result<i64, OutFault> {
     only_value(tables, "SELECT COUNT(*) + 1 FROM sign_keys", &[])?.ok_or(OutFault::Failed)
 }
@@ -301,7 +301,7 @@ pub fn index_signs<T: Tables>(tables: &mut T) -> Result<(), OutFault> {
     Ok(())
 }
 
-/// Enters the first sign-off behind this number, and says which it is.
+// Enters the first sign-off behind this number, and says which it is.
 fn index_sign_after<T: Tables>(tables: &mut T, last: i64) -> Result<Option<i64>, OutFault> {
     let rows = tables.rows(
         "SELECT number, block, module, property_set FROM signs WHERE number > ?1 ORDER BY number LIMIT 1",
@@ -338,7 +338,7 @@ pub fn signs<T: Tables>(tables: &mut T, alloc: Global) -> Result<Vec<Sign>, OutF
     Ok(signs)
 }
 
-/// The first sign-off behind this number.
+// The first sign-off behind this number.
 fn sign_after<T: Tables>(tables: &mut T, last: u64) -> Result<Option<Sign>, OutFault> {
     let Ok(last) = i64::try_from(last) else {
         return Ok(None);

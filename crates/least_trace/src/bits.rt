@@ -1,4 +1,4 @@
-//! The bits of an obligation in their order.
+// The bits of an obligation in their order.
 ghost use Rattle.std.specs.Prelude.{◌≡◌, ◌<◌, ◌≤◌, ◌++◌, ◌↔◌, [], length, slice_index, slice_index_or, IfOk, OnOk, IsTrue};
 ghost use Rattle.std.specs.List.{flat_map};
 ghost use Rattle.least_trace.specs.Bits.{bits_down, bits_of, InOrder, bit_in};

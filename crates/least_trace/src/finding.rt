@@ -1,4 +1,4 @@
-//! The least values.
+// The least values.
 ghost use Rattle.std.specs.Prelude.{◌≡◌, ◌≤◌, ◌^◌, length, IfOk};
 ghost use Rattle.word_dag.specs.Given.{AllFit};
 ghost use Rattle.cnf_build.specs.Lower.{netlist};
@@ -26,14 +26,15 @@ fn padded(alloc: Global, values: &[u64], count: usize) -> Result<Vec<u64>, Alloc
 
 /// The least values at which the root of the obligation is 1, from values at which it is 1.
 ///
-/// The bits of the free nodes stand in this order: by cycle, then side, then name in byte order, then node number, and within a
-/// node the highest bit first. Values come before others where at the first bit in which they differ they have 0. Values are one
-/// for each free node in number order; of those that are given, missing ones count as 0 and further ones aren't read.
+/// The bits of the free nodes stand in this order: by cycle, then side, then name in byte order, then node number, and
+/// within a node the highest bit first. Values come before others where at the first bit in which they differ they have
+/// 0. Values are one for each free node in number order; of those that are given, missing ones count as 0 and further
+/// ones aren't read.
 ///
-/// Each bit in turn is tried at 0, the bits before it being as they were found, and for each bit that is 1 in the end there are
-/// steps that `accept` accepts. A bit that is 0 in the values at hand takes no solving. Where a bit takes more than `budget`
-/// steps, the search stops there with an honest chain of just so many; with `3 ^ v` of them, v being the number of variables of
-/// the clauses, none does. It is refused for want of memory alone.
+/// Each bit in turn is tried at 0, the bits before it being as they were found, and for each bit that is 1 in the end
+/// there are steps that `accept` accepts. A bit that is 0 in the values at hand takes no solving. Where a bit takes
+/// more than `budget` steps, the search stops there with an honest chain of just so many; with `3 ^ v` of them, v being
+/// the number of variables of the clauses, none does.
 pub fn least(alloc: Global, ob: &Ob, values: &[u64], budget: u64) -> Result<LeastEnd, AllocError>
     requires fit { AllFit values.now ob.now.nodes }
     requires root { RootIs1 ob.now.nodes ob.now.root values.now }

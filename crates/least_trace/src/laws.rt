@@ -1,4 +1,4 @@
-//! What least values are.
+// What least values are.
 ghost use Rattle.least_trace.specs.Laws.{OrderIsOne, LeastIsOne};
 
 /// The bits of an obligation stand in one order.

@@ -1,4 +1,4 @@
-//! One bit after another is decided, over one list of clauses that grows by unit clauses.
+// One bit after another is decided, over one list of clauses that grows by unit clauses.
 ghost use Rattle.std.specs.Prelude.{◌≡◌, ◌<◌, ◌≤◌, ◌+◌, ◌-◌, ◌^◌, ◌++◌, ◌∷◌, [], length, take, None, IfOk, OnOk};
 ghost use Rattle.word_dag.specs.Nodes.{Parts};
 ghost use Rattle.least_trace.specs.Walks.{IsWalk, IsNext};
@@ -40,7 +40,8 @@ fn turn_last(alloc: Global, cnf: &mut Cnf, var: u32) -> Result<(), AllocError>
 }
 
 impl Walk {
-    /// Decides the next bit: 0 where it is 0 in the values at hand or can be, else 1. Gives a chain where the budget is spent.
+    /// Decides the next bit: 0 where it is 0 in the values at hand or can be, else 1. Gives a chain where the budget is
+    /// spent.
     pub fn decide(
         &mut self,
         alloc: Global,

@@ -1,4 +1,4 @@
-//! The free words of an obligation, and their order.
+// The free words of an obligation, and their order.
 ghost use Rattle.std.specs.Prelude.{◌≡◌, ◌++◌, ◌∷◌, [], length, IfOk, OnOk, IsPermutation, IsSorted};
 ghost use Rattle.least_trace.specs.Bits.{words_from, word_cmp};
 

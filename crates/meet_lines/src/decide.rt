@@ -76,7 +76,8 @@ fn lines_of(
     Ok(lines)
 }
 
-/// Decides the lines that are asked for: whether a segment of the design meets the line; of a line that is met the segment is shown.
+/// Decides the lines that are asked for: whether a segment of the design meets the line; of a line that is met the
+/// segment is shown.
 pub(crate) fn decide_lines<R: Threads + Sync, K: Keeper, H: Helper, G: Gate + Sync>(
     prover: &mut Prover<'_, '_, '_, R, K, H, G>,
     bound: &Bound,

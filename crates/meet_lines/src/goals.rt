@@ -41,7 +41,7 @@ fn goal_of(
     Ok(Goal { line, ob })
 }
 
-/// The goals of all lines, in the order of the set, which has at most 64 operations. Refused for want of memory alone.
+/// The goals of all lines, in the order of the set, which has at most 64 operations.
 pub(crate) fn all_goals(alloc: Global, bound: &Bound) -> Result<Vec<Goal<MeetLine>>, AllocError>
     ensures each { IfOk result (λ goals. AllZip (IsGoalOf bound.now.design bound.now.set) (meet_lines bound.now.set) goals.items) }
     ensures few { IfOk result (λ goals. length goals.items ≤ 65) }

@@ -16,7 +16,8 @@ pub fn tests_are_of_lines()
     ensures { (d : Parts) (m : Meaning) (set : Set) → IsDesign d → Fits d set → (line : Line) → TestsAreOfLines d m set line }
 {}
 
-/// Where a line is met, some values name a segment that meets it; and where values name such a segment, the line is met.
+/// Where a line is met, some values name a segment that meets it; and where values name such a segment, the line is
+/// met.
 pub fn met_lines_have_values()
     ensures named { (d : Parts) (m : Meaning) (set : Set) → IsDesign d → MetLinesHaveValues d m set }
     ensures met { (d : Parts) (m : Meaning) (set : Set) → ValuesMeetLines d m set }
@@ -27,8 +28,8 @@ pub fn obligations_decide()
     ensures { (d : Parts) (m : Meaning) (set : Set) → IsDesign d → ObligationsDecide d m set }
 {}
 
-/// A line is met in a design of words exactly where it is in the modules, where a module without instances has the modules' cycles and the design
-/// has that module's, and the same cycles follow.
+/// A line is met in a design of words exactly where it is in the modules, where a module without instances has the
+/// modules' cycles and the design has that module's, and the same cycles follow.
 pub fn met_lines_are_the_modules()
     ensures { MetLinesAreTheModules }
 {}

@@ -18,7 +18,7 @@ pub enum MeetLine {
     Operation(u32),
 }
 
-/// The lines of a set: `reset`, and then the operations in the order of the set. It is refused for want of memory alone.
+/// The lines of a set: `reset`, and then the operations in the order of the set.
 pub fn meet_lines_of(alloc: Global, set: &Sound) -> Result<Vec<MeetLine>, AllocError>
     ensures { IfOk result (λ lines. lines.items ≡ meet_lines set.now) }
 {
@@ -31,7 +31,7 @@ pub fn meet_lines_of(alloc: Global, set: &Sound) -> Result<Vec<MeetLine>, AllocE
     Ok(lines)
 }
 
-/// The name of a line: `reset`, or the operation's name. It is refused for want of memory alone.
+/// The name of a line: `reset`, or the operation's name.
 pub fn meet_name(alloc: Global, set: &Set, line: MeetLine) -> Result<Text, AllocError>
     requires { SpeaksOf set.now line }
     ensures { IfOk result (λ name. name ≡ meet_name set.now line) }

@@ -43,14 +43,16 @@ fn decide_texts<R: Threads + Sync, K: Keeper, H: Helper, G: Gate + Sync>(
     }
 }
 
-/// Says what can be met in the modules of a text, from the block of a set's text as their top: empties the book, decides `reset` and each operation, or
-/// the line of this name alone, puts the lines into the book, and gives their report. A line whose verdict is `Refuted` is met, by the segment that is its
-/// trace: `reset` where a run from reset goes on for the largest window, an operation where a segment of its window begins where it is assumed, the
-/// constraints being kept in both. A line whose verdict is `Proved` is met by nothing. The report is complete where all lines were asked for and are met.
+/// Says what can be met in the modules of a text, from the block of a set's text as their top: empties the book,
+/// decides `reset` and each operation, or the line of this name alone, puts the lines into the book, and gives their
+/// report. A line whose verdict is `Refuted` is met, by the segment that is its trace: `reset` where a run from reset
+/// goes on for the largest window, an operation where a segment of its window begins where it is assumed, the
+/// constraints being kept in both. A line whose verdict is `Proved` is met by nothing. The report is complete where all
+/// lines were asked for and are met.
 ///
-/// A refusal names the first stage that refuses, or says that neither `reset` nor an operation has the name that was asked for, that the keeper failed in this
-/// call, or that memory ran out; it leaves the book empty. Whatever is answered, each proof of the keeper that differs from before is one of an obligation of
-/// these lines, under its text.
+/// A refusal names the first stage that refuses, or says that neither `reset` nor an operation has the name that was
+/// asked for, that the keeper failed in this call, or that memory ran out; it leaves the book empty. Whatever is
+/// answered, each proof of the keeper that differs from before is one of an obligation of these lines, under its text.
 pub fn meet<R: Threads + Sync, K: Keeper, H: Helper, G: Gate + Sync>(
     checker: &mut Checker<'_, '_, '_, '_, R, K, H, G>,
     module: &[u8],

@@ -11,10 +11,10 @@ use std::alloc::{AllocError, Global};
 use unroll_binding::Bound;
 use word_dag::Named;
 
-/// The obligations of what can be met: for `reset`, and then for each operation in the order of the set, its name, and nodes whose root is 1
-/// exactly at values whose segment meets the line, no two free words of which have one name and cycle. The free words are the registers' in a
-/// segment's first cycle and the inputs' in each of its cycles, the reset cycles among them; the reset is a constant. It is refused for want of
-/// memory alone.
+/// The obligations of what can be met: for `reset`, and then for each operation in the order of the set, its name, and
+/// nodes whose root is 1 exactly at values whose segment meets the line, no two free words of which have one name and
+/// cycle. The free words are the registers' in a segment's first cycle and the inputs' in each of its cycles, the reset
+/// cycles among them; the reset is a constant.
 pub fn meet_obs(alloc: Global, bound: &Bound) -> Result<Vec<Named>, AllocError>
     ensures { IfOk result (λ obs. AllZip (IsNamedOf bound.now.design bound.now.set) (meet_lines bound.now.set) obs.items) }
 {

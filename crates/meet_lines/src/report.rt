@@ -99,7 +99,7 @@ fn verdicts(alloc: Global, lines: &[Line]) -> Result<Vec<Verdict>, AllocError>
     Ok(all)
 }
 
-/// The report of lines that were asked for: all, or the one of a name. It is refused for want of memory alone.
+/// The report of lines that were asked for: all, or the one of a name.
 pub(crate) fn report_of(
     alloc: Global,
     name: Option<&Text>,

@@ -36,9 +36,9 @@ fn reach_of(set: &Sound, line: MeetLine) -> Reach
     }
 }
 
-/// What is shown of a line that values of its obligation's free nodes meet, one each in number order: the segment that they name, every word that
-/// the obligation doesn't have being 0. It meets the line. Its reset cycles, where the line has them, stand first. It is refused for want of memory
-/// alone.
+/// What is shown of a line that values of its obligation's free nodes meet, one each in number order: the segment that
+/// they name, every word that the obligation doesn't have being 0. It meets the line. Its reset cycles, where the line
+/// has them, stand first.
 pub fn meet_trace(
     alloc: Global,
     bound: &Bound,

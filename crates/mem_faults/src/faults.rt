@@ -32,7 +32,7 @@ fn kind_fault(alloc: Global, name: &Text) -> Result<Option<MemFault>, AllocError
     Ok(Some(MemFault::Kind(Text::copy(alloc, name.bytes())?)))
 }
 
-/// The first fault of a module's memories that stands. Refused only for want of memory.
+/// The first fault of a module's memories that stands.
 pub fn fault_of(alloc: Global, flat: &Flat) -> Result<Option<MemFault>, AllocError>
     requires { IsReady flat.now }
     ensures some { IfOk result (λ o. IfSome o (IsFirstFault flat.now)) }

@@ -154,8 +154,7 @@ fn otherwise<'a>(
     Ok(first_among(&names, memories))
 }
 
-/// A memory that is signed, that nothing assigns, or that is assigned otherwise than by `<=` in a clocked block. Refused only
-/// for want of memory.
+/// A memory that is signed, that nothing assigns, or that is assigned otherwise than by `<=` in a clocked block.
 pub fn wrongly_kept<'a>(
     alloc: Global,
     flat: &'a Flat,

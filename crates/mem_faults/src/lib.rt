@@ -1,4 +1,5 @@
-//! Memories of a module without instances: which of their faults stands, what their names stand for, and the signals that their words become.
+//! Memories of a module without instances: which of their faults stands, what their names stand for, and the signals
+//! that their words become.
 #![tactic(auto)]
 
 mod faults;

@@ -63,7 +63,7 @@ fn all_at_rest(alloc: Global, signals: &[Signal]) -> Result<Valuation, AllocErro
     Ok(rest)
 }
 
-/// What the names of a module stand for where each is 0: its signals and the words of its memories. Refused only for want of memory.
+/// What the names of a module stand for where each is 0: its signals and the words of its memories.
 pub fn at_rest(alloc: Global, flat: &Flat) -> Result<Valuation, AllocError>
     requires { (g : Declared) → Among flat.now.signals g → IsLength g.width }
     ensures { IfOk result (λ v. v ≡ at_rest (flat_place flat.now)) }

@@ -48,7 +48,7 @@ fn word_signal(alloc: Global, memory: &Signal, word: u8) -> Result<Signal, Alloc
     })
 }
 
-/// The words of a memory. Refused only for want of memory.
+/// The words of a memory.
 pub fn words(alloc: Global, memory: &Signal) -> Result<Items<Signal>, AllocError>
     ensures { IfOk result (λ r. r ≡ words_from memory.now 0 memory.now.depth) }
 {
@@ -78,7 +78,7 @@ fn holders(alloc: Global, signal: &Signal) -> Result<Items<Signal>, AllocError>
     }
 }
 
-/// The signals without memories: in the place of each memory its words. Refused only for want of memory.
+/// The signals without memories: in the place of each memory its words.
 pub fn all_holders(alloc: Global, signals: &[Signal]) -> Result<Items<Signal>, AllocError>
     ensures { IfOk result (λ r. r ≡ flat_map holders signals.now) }
 {

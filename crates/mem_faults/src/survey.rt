@@ -143,7 +143,7 @@ fn uses_once(part: Part<'_>, memories: &Names<'_>) -> usize
 }
 
 impl<'a> Survey<'a> {
-    /// The memories of a module, and all uses of names in its texts. Refused only for want of memory.
+    /// The memories of a module, and all uses of names in its texts.
     pub fn of(alloc: Global, flat: &'a Flat) -> Result<Survey<'a>, AllocError>
         ensures memories { IfOk result (λ r. r.memories ≡ memories_of flat.now) }
         ensures uses { IfOk result (λ r. map part_meant r.uses.items ≡ uses_of flat.now) }
@@ -153,7 +153,7 @@ impl<'a> Survey<'a> {
         Ok(Survey { memories, uses })
     }
 
-    /// A memory that is used without exactly one plain index; blocks without edges wait for such uses. Refused only for want of memory.
+    /// A memory that is used without exactly one plain index; blocks without edges wait for such uses.
     pub fn whole(&self, alloc: Global, blocks: &'a [Always]) -> Result<Option<&'a Text>, AllocError>
         ensures some { IfOk result (λ o. IfSome o (λ x.
             Among (flat_map whole_names (map part_meant self.now.uses.items) ++ flat_map block_listed blocks.now) x.now × Among self.now.memories x.now)) }
@@ -166,7 +166,7 @@ impl<'a> Survey<'a> {
         Ok(first_among(&names, &self.memories))
     }
 
-    /// A memory with an index that names a memory. Refused only for want of memory.
+    /// A memory with an index that names a memory.
     pub fn nested(&self, alloc: Global) -> Result<Option<&'a Text>, AllocError>
         ensures some { IfOk result (λ o. IfSome o (λ x.
             (q : Lval) × Among (map part_meant self.now.uses.items) q × (is_nested self.now.memories q ≡ true) × (part_name q ≡ x.now))) }

@@ -95,7 +95,7 @@ fn word_among(
     Ok(None)
 }
 
-/// A word of a memory whose name is declared already: a signal's, or another word's. Refused only for want of memory.
+/// A word of a memory whose name is declared already: a signal's, or another word's.
 pub fn declared_twice(alloc: Global, flat: &Flat) -> Result<Option<Text>, AllocError>
     requires { (g : Declared) → Among flat.now.signals g → IsLength g.width }
     ensures some { IfOk result (λ o. IfSome o (IsDeclaredTwice flat.now)) }

@@ -70,7 +70,7 @@ fn add_blocks<'a>(
     Ok(())
 }
 
-/// All uses of names in the texts of a module, in the order of the texts. Refused only for want of memory.
+/// All uses of names in the texts of a module, in the order of the texts.
 pub fn uses_of(alloc: Global, flat: &Flat) -> Result<Vec<Part<'_>>, AllocError>
     ensures { IfOk result (λ r. map part_meant r.items ≡ uses_of flat.now) }
 {

@@ -85,7 +85,7 @@ fn add_keepers(
     Ok(())
 }
 
-/// Blocks that keep the words that none of these blocks assigns. Refused only for want of memory.
+/// Blocks that keep the words that none of these blocks assigns.
 pub fn keepers(
     alloc: Global,
     blocks: &[Always],

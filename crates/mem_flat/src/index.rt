@@ -112,7 +112,7 @@ fn unfixed_words(alloc: Global, depth: u8, index: &Expr) -> Result<Items<u8>, Al
     }
 }
 
-/// The words of a memory of so many words that an index may name. Refused only for want of memory.
+/// The words of a memory of so many words that an index may name.
 pub fn named_words(alloc: Global, depth: u8, index: &Expr) -> Result<Items<u8>, AllocError>
     requires { IsEvaluable index.now }
     ensures { IfOk result (λ r. r ≡ named_words depth index.now) }
@@ -123,7 +123,7 @@ pub fn named_words(alloc: Global, depth: u8, index: &Expr) -> Result<Items<u8>, 
     }
 }
 
-/// The words of a memory of so many words that a read with this index looks at. Refused only for want of memory.
+/// The words of a memory of so many words that a read with this index looks at.
 pub fn read_words(alloc: Global, depth: u8, index: &Expr) -> Result<Items<u8>, AllocError>
     requires { IsEvaluable index.now }
     ensures { IfOk result (λ r. r ≡ read_words depth index.now) }

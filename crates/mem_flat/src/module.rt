@@ -184,7 +184,7 @@ fn copied_head(alloc: Global, flat: &Flat) -> Result<Head, AllocError>
     })
 }
 
-/// The module whose registers are the words of its memories. Refused only for want of memory.
+/// The module whose registers are the words of its memories.
 pub fn spread_flat(alloc: Global, flat: &Flat) -> Result<Flat, AllocError>
     requires { IsReady flat.now }
     ensures { IfOk result (λ r. r ≡ spread_flat flat.now) }
@@ -194,10 +194,11 @@ pub fn spread_flat(alloc: Global, flat: &Flat) -> Result<Flat, AllocError>
     spreader.flat(flat)
 }
 
-/// The module whose registers are the words of its memories: it has the module's cycles and runs. Refused for the first fault of its
-/// memories that stands, and for want of memory. Faults are told in this order: a word whose name is declared already; a memory used without
-/// exactly one plain index; an index that names a memory; a memory that is signed, that nothing assigns, or that is assigned otherwise than by
-/// `<=` in a clocked block; more than 1,024 indexed uses.
+/// The module whose registers are the words of its memories: it has the module's cycles and runs. Refused for the first
+/// fault of its memories that stands, or where memory runs out. Faults are told in this order: a word whose name is
+/// declared already; a memory used without exactly one plain index; an index that names a memory; a memory that is
+/// signed, that nothing assigns, or that is assigned otherwise than by `<=` in a clocked block; more than 1,024 indexed
+/// uses.
 pub fn spread(alloc: Global, flat: &Flat) -> Result<Flat, MemFault>
     requires can { CanSpread flat.now }
     requires ready { IsReady flat.now }

@@ -45,7 +45,7 @@ fn add_row_parts<'a>(all: &mut Vec<&'a Lval>, lefts: &'a [Lval]) -> Result<(), A
     Ok(())
 }
 
-/// The parts of a left side, from the left. Refused only for want of memory.
+/// The parts of a left side, from the left.
 pub fn parts_of(alloc: Global, left: &Lval) -> Result<Vec<&Lval>, AllocError>
     ensures { IfOk result (λ r. map left_meant r.items ≡ parts_of left.now) }
 {

@@ -17,7 +17,7 @@ pub enum MemFault {
     Kind(Text),
     /// Indexed uses of memories are more than 1,024.
     Uses,
-    /// Want of memory.
+    /// Out of memory.
     Memory,
 }
 

@@ -15,7 +15,8 @@ pub fn spread_texts_stay_ready()
     ensures fixed { SpreadKeepsFixedLefts }
 {}
 
-/// A module without faults of memories has the cycles and the runs of the one whose registers are the words of its memories.
+/// A module without faults of memories has the cycles and the runs of the one whose registers are the words of its
+/// memories.
 pub fn spread_keeps_runs()
     ensures { SpreadKeepsRuns }
 {}

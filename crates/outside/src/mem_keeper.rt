@@ -35,7 +35,8 @@ impl MemKeeper {
         }
     }
 
-    /// From here on the calls of these numbers are to fail, counted from 1 again. The tables and the count of faults stay.
+    /// From here on the calls of these numbers are to fail, counted from 1 again. The tables and the count of faults
+    /// stay.
     pub fn set_fails(&mut self, fails: Vec<u64>)
         ensures tables { ⟦<MemKeeper as Keeper>⟧.tables self.new ≡ ⟦<MemKeeper as Keeper>⟧.tables self.old }
         ensures faults { ⟦<MemKeeper as Keeper>⟧.faults self.new ≡ ⟦<MemKeeper as Keeper>⟧.faults self.old }

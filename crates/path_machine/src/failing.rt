@@ -41,8 +41,7 @@ fn any_fails(alloc: Global, set: &Sound, rows: &[Rows<u64>]) -> Result<bool, All
     Ok(false)
 }
 
-/// The first cycle of a trace at which a constraint whose largest offset still fits fails, where there is one. Refused for want of memory
-/// alone.
+/// The first cycle of a trace at which a constraint whose largest offset still fits fails, where there is one.
 pub fn unmet(alloc: Global, sound: &Sound, trace: &Trace) -> Result<Option<u64>, AllocError>
     requires { IsTrace sound.now trace.now.rows }
     ensures { IfOk result (IsUnmet (meaning_of sound.now) sound.now trace.now.rows) }

@@ -116,8 +116,8 @@ pub fn graph_of(alloc: Global, set: &Set) -> Result<Text, AllocError>
     Ok(Text::new(out))
 }
 
-/// The machine of a set as a graph in Graphviz's language: for the reset property and each operation a node with its name and its length, as
-/// `n` or as `a..b` where a condition ends it, and an edge to each successor. Refused for want of memory alone.
+/// The machine of a set as a graph in Graphviz's language: for the reset property and each operation a node with its
+/// name and its length, as `n` or as `a..b` where a condition ends it, and an edge to each successor.
 pub fn machine_graph(alloc: Global, sound: &Sound) -> Result<Text, AllocError>
     ensures { IfOk result (λ text. text ≡ machine_graph sound.now) }
 {

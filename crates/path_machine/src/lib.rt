@@ -1,4 +1,5 @@
-//! The abstract machine of a set: its properties are the transitions, and the path of a trace is the run of the machine.
+//! The abstract machine of a set: its properties are the transitions, and the path of a trace is the run of the
+//! machine.
 #![tactic(auto, using(replay::proofs::Putting::putting))]
 
 mod failing;

@@ -41,7 +41,7 @@ pub struct First<'a> {
     pub rest: &'a [u8],
 }
 
-/// The row that the first line of a text spells, where it is ended and spells one. Refused for want of memory alone.
+/// The row that the first line of a text spells, where it is ended and spells one.
 pub fn first_row<'a>(
     alloc: Global,
     widths: &[u8],

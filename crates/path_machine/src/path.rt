@@ -88,9 +88,10 @@ fn follow(
     }
 }
 
-/// The path of a trace: the properties that follow one another from reset at cycle 0 on, each of which starts where the one before ends, with the
-/// first of its successors that is assumed there. It has none where the largest window doesn't fit into the trace, and ends where it no
-/// longer fits; it is stuck where a property has no end, or no successor is assumed there. Refused for want of memory alone.
+/// The path of a trace: the properties that follow one another from reset at cycle 0 on, each of which starts where the
+/// one before ends, with the first of its successors that is assumed there. It has none where the largest window
+/// doesn't fit into the trace, and ends where it no longer fits; it is stuck where a property has no end, or no
+/// successor is assumed there.
 pub fn path_of(alloc: Global, sound: &Sound, trace: &Trace) -> Result<Path, AllocError>
     requires { IsTrace sound.now trace.now.rows }
     ensures { IfOk result (IsPath (meaning_of sound.now) sound.now trace.now.rows) }

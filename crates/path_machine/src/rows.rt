@@ -19,7 +19,8 @@ use unroll_binding::Bound;
 pub enum RowFault {
     /// It has more than 1,048,576 bytes.
     Long,
-    /// The line of this number, counted from 1, isn't ended, or hasn't one value for each input that fits the input's length.
+    /// The line of this number, counted from 1, isn't ended, or hasn't one value for each input that fits the input's
+    /// length.
     Row(u64),
     /// It has fewer rows than a run has reset cycles.
     Short,
@@ -85,9 +86,10 @@ pub(crate) fn rows_of(
     Ok(rows)
 }
 
-/// The rows of a text of at most 1,048,576 bytes, one a line: the values of the set's inputs in declared order, in decimal, with single spaces
-/// between them, each line ended by a line feed. The first rows are those of the reset cycles. Of what stands against a text the first is
-/// answered: `Long`, then `Row`, then `Short`. `Memory` can come at any of them.
+/// The rows of a text of at most 1,048,576 bytes, one a line: the values of the set's inputs in declared order, in
+/// decimal, with single spaces between them, each line ended by a line feed. The first rows are those of the reset
+/// cycles. Of what stands against a text the first is answered: `Long`, then `Row`, then `Short`. `Memory` can come at
+/// any of them.
 pub fn read_rows(alloc: Global, bytes: &[u8], bound: &Bound) -> Result<Rows<Rows<u64>>, RowFault>
     ensures ok { IfOk result (IsRead bound.now.set bytes.now) }
     ensures fit { IfOk result (λ rows. All (IsInputRow bound.now.set) rows) }

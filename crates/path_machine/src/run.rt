@@ -29,8 +29,8 @@ fn rows_after(
     Ok(later)
 }
 
-/// The trace of the run from reset with these rows of inputs, one for each of its cycles, the reset cycles first. Its registers are 0 at first, and
-/// its clock is 0 in every cycle. The rows of the reset cycles aren't part of the trace. Refused for want of memory alone.
+/// The trace of the run from reset with these rows of inputs, one for each of its cycles, the reset cycles first. Its
+/// registers are 0 at first, and its clock is 0 in every cycle. The rows of the reset cycles aren't part of the trace.
 pub fn run_trace(alloc: Global, bound: &Bound, rows: &Rows<Rows<u64>>) -> Result<Trace, AllocError>
     requires enough { bound.now.set.cycles ≤ length rows.now }
     requires fit { All (IsInputRow bound.now.set) rows.now }

@@ -13,7 +13,8 @@ use replay::{Position, Source};
 use set_tree::{Role, Rows, Set};
 use std::alloc::{AllocError, Global};
 
-/// The values that rows give to the inputs of these names, the first rows being those of the reset cycles. Every other word is 0.
+/// The values that rows give to the inputs of these names, the first rows being those of the reset cycles. Every other
+/// word is 0.
 #[derive(Drop)]
 pub struct Stimulus<'a> {
     pub inputs: Names<'a>,

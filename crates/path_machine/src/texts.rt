@@ -149,9 +149,9 @@ fn put_operations<S: Sink>(
     }
 }
 
-/// Puts the machine of a set: a line for the reset property and for each operation, with its name, its length, as `n` or as `a..b` where a
-/// condition ends it, `->`, and the names of its successors, with single spaces between. It takes no memory of its own. It is refused where the
-/// sink refuses, and then a prefix of the text was put.
+/// Puts the machine of a set: a line for the reset property and for each operation, with its name, its length, as `n`
+/// or as `a..b` where a condition ends it, `->`, and the names of its successors, with single spaces between. It takes
+/// no memory of its own. It is refused where the sink refuses, and then a prefix of the text was put.
 pub fn put_machine<S: Sink>(alloc: Global, sound: &Sound, sink: &mut S) -> Result<(), OutFault>
     ensures ok { OnOk result (Put (S.written sink.old) (S.written sink.new) (S.faults sink.old) (S.faults sink.new) (machine_text sound.now)) }
     ensures err { IfErr result (λ e. Refused (S.written sink.old) (S.written sink.new) (S.faults sink.old) (S.faults sink.new) e (machine_text sound.now)) }
@@ -161,7 +161,7 @@ pub fn put_machine<S: Sink>(alloc: Global, sound: &Sound, sink: &mut S) -> Resul
     put_operations(alloc, sink, set, set.operations.as_slice())
 }
 
-/// The machine of a set, as `put_machine` puts it. Refused for want of memory alone.
+/// The machine of a set, as `put_machine` puts it.
 pub fn machine_text(alloc: Global, sound: &Sound) -> Result<Text, AllocError>
     ensures { IfOk result (λ text. text ≡ machine_text sound.now) }
 {
@@ -201,7 +201,7 @@ fn step_text(alloc: Global, set: &Set, at: &At) -> Result<Text, AllocError>
     }
 }
 
-/// The text of a path: a line for each of its properties, with the cycle at which it starts and its name. Refused for want of memory alone.
+/// The text of a path: a line for each of its properties, with the cycle at which it starts and its name.
 pub fn path_text(alloc: Global, sound: &Sound, path: &Path) -> Result<Text, AllocError>
     ensures { IfOk result (λ text. text ≡ path_text sound.now path.now) }
 {
@@ -235,7 +235,7 @@ fn put_fault<S: Sink>(alloc: Global, sink: &mut S, fault: &RowFault) -> Result<(
     }
 }
 
-/// The text of a fault of rows: its name, with the number of the line at `Row`. Refused for want of memory alone.
+/// The text of a fault of rows: its name, with the number of the line at `Row`.
 pub fn fault_text(alloc: Global, fault: &RowFault) -> Result<Text, AllocError>
     ensures { IfOk result (λ text. text ≡ fault_text fault.now) }
 {

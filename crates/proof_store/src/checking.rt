@@ -1,4 +1,4 @@
-//! Rows of kept proofs, checked side by side.
+// Rows of kept proofs, checked side by side.
 ghost use Rattle.std.specs.Prelude.{◌^◌, ◌<◌, IfOk, length};
 ghost use Rattle.std.specs.List.{AllZip};
 ghost use Rattle.proof_store.specs.Lookups.{Checks, ChecksRow};
@@ -50,7 +50,8 @@ impl<'a> Task<Lookup<'a>, Checked<'a>> for Checking {
     }
 }
 
-/// The obligations in order, each with the steps of its row where this is a record of a proof of it. The rows are checked by these workers.
+/// The obligations in order, each with the steps of its row where this is a record of a proof of it. The rows are
+/// checked by these workers.
 pub(crate) fn checked_all<'a, R: Threads + Sync>(
     crew: &Crew<'_, R>,
     lookups: &[Lookup<'a>],

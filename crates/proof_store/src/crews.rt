@@ -1,4 +1,4 @@
-//! How workers are set to many obligations.
+// How workers are set to many obligations.
 use job_pool::Crew;
 use std::thread::Threads;
 

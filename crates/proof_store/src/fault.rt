@@ -1,4 +1,4 @@
-//! Why obligations can't be settled.
+// Why obligations can't be settled.
 ghost use Rattle.std.specs.Prelude.{◌≡◌};
 ghost use Rattle.proof_store.specs.Causes.{store_fault_of};
 
@@ -12,7 +12,7 @@ use std::fmt;
 pub enum StoreFault {
     /// The keeper failed: its count of faults rose in this call, or stands at its last value, 2^64 - 1.
     Keeper,
-    /// Want of memory.
+    /// Out of memory.
     Memory,
 }
 

@@ -1,4 +1,4 @@
-//! Goals, and how they ended.
+// Goals, and how they ended.
 use job_pool::Evidence;
 use word_dag::Ob;
 
@@ -20,7 +20,8 @@ pub enum Source {
     Solved,
 }
 
-/// A goal with what shows how it ended. Steps are over the clauses of its obligation, and values are those of its free nodes.
+/// A goal with what shows how it ended. Steps are over the clauses of its obligation, and values are those of its free
+/// nodes.
 #[derive(Drop)]
 pub struct Decided<L> {
     pub goal: Goal<L>,

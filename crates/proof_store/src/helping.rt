@@ -1,5 +1,5 @@
-//! What helpers claim of obligations of which no proof is kept. Their clauses are built, and claims that helpers make out of turn are
-//! checked, by workers side by side; then the helpers are asked in order.
+// What helpers claim of obligations of which no proof is kept. Their clauses are built, and claims that helpers make
+// out of turn are checked, by workers side by side; then the helpers are asked in order.
 ghost use Rattle.std.specs.Prelude.{◌^◌, ◌<◌, All, IfOk, count_by, length, map, sum_by};
 ghost use Rattle.std.specs.List.{AllZip};
 ghost use Rattle.proof_store.specs.Counts.{FirstRose, NoneFalls};
@@ -165,8 +165,8 @@ impl Weighs for Checked<'_> {
     }
 }
 
-/// What helpers' claims show of obligations of which no proof is kept: they are made ready side by side, and the helpers are asked in order. Where
-/// there is no helper, no clauses are built.
+/// What helpers' claims show of obligations of which no proof is kept: they are made ready side by side, and the
+/// helpers are asked in order. Where there is no helper, no clauses are built.
 pub(crate) fn help_all<R: Threads + Sync, H: Helper>(
     crew: &Crew<'_, R>,
     helpers: &mut Vec<H>,

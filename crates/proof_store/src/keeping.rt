@@ -1,4 +1,4 @@
-//! Proofs that a keeper holds under the texts of obligations.
+// Proofs that a keeper holds under the texts of obligations.
 ghost use Rattle.std.specs.Prelude.{◌≡◌, ◌↔◌, Err, IfOk, IsTrue, OnErr, OnOk};
 ghost use Rattle.proof_store.specs.Rows.{IsAccepted, IsRowOf};
 ghost use Rattle.proof_store.specs.Goals.{ended};
@@ -14,7 +14,7 @@ use proof_store_records::{read_steps, record_fits, write_steps};
 use std::alloc::{AllocError, Global};
 use word_dag::{Ob, text};
 
-/// The most bytes that a key or the bytes of a kept proof may have.
+// The most bytes that a key or the bytes of a kept proof may have.
 const LONGEST: usize = 16_777_216;
 
 /// The steps of these bytes, where they are a record of a derivation of the empty clause from the formula.
@@ -61,9 +61,10 @@ pub(crate) fn row_of(alloc: Global, ob: &Ob, evidence: &Evidence) -> Result<Opti
     Ok(Some(Row { key, bytes }))
 }
 
-/// Puts a derivation that shows how a goal ended under the text of its obligation, where a record can be made of it and neither it nor the text has more
-/// than 16,777,216 bytes, and says whether that was so. It is refused with `Keeper` only where the keeper's count of faults rose in this call, or stands at its
-/// last value, and with `Memory` for want of memory alone; then nothing is new at the keeper.
+/// Puts a derivation that shows how a goal ended under the text of its obligation, where a record can be made of it and
+/// neither it nor the text has more than 16,777,216 bytes, and says whether that was so. It is refused with `Keeper`
+/// only where the keeper's count of faults rose in this call, or stands at its last value, and with `Memory` where
+/// memory runs out; then nothing is new at the keeper.
 pub fn keep<K: Keeper, L: Drop>(
     alloc: Global,
     keeper: &mut K,

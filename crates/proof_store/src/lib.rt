@@ -1,5 +1,6 @@
-//! Goals settled by a prover: proofs that are kept count where they pass the check again, which workers do side by side, helpers
-//! may claim what isn't kept, the rest is solved by workers, and new proofs are kept. Kept rows of version 1 can be moved to version 2.
+//! Goals settled by a prover: proofs that are kept count where they pass the check again, which workers do side by
+//! side, helpers may claim what isn't kept, the rest is solved by workers, and new proofs are kept. Kept rows of
+//! version 1 can be moved to version 2.
 #![tactic(auto)]
 
 mod checking;

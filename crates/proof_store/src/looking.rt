@@ -1,4 +1,5 @@
-//! Rows of kept proofs, for which a keeper is asked in order. The texts under which they stand are made by workers side by side.
+// Rows of kept proofs, for which a keeper is asked in order. The texts under which they stand are made by workers side
+// by side.
 ghost use Rattle.std.specs.Prelude.{◌≡◌, ◌^◌, ◌<◌, Err, IfOk, length};
 ghost use Rattle.std.specs.List.{AllZip};
 ghost use Rattle.proof_store.specs.Lookups.{HasRow, IsLookup, IsKeyed, IsQuery, Looks};

@@ -1,4 +1,4 @@
-//! Rows of a keeper's proofs put again as records of version 2.
+// Rows of a keeper's proofs put again as records of version 2.
 ghost use Rattle.std.specs.Prelude.{◌≡◌, ◌<◌, ◌≤◌, ◌+◌, ◌↔◌, ℕ, List, Err, IfOk, IfSome, IsTrue, OnErr, false, length, option_map, take};
 ghost use Rattle.std.specs.FinMap.{keys};
 ghost use Rattle.outside.specs.Faults.{Rose};
@@ -30,7 +30,8 @@ fn begins_first(bytes: &[u8]) -> bool
     bytes.len() >= 2 && bytes[0] == 0x44 && bytes[1] == 0x31
 }
 
-// The record of version 2 of the steps of which these bytes are a record of version 1, where they fit and it isn't longer.
+// The record of version 2 of the steps of which these bytes are a record of version 1, where they fit and it isn't
+// longer.
 fn second_of(alloc: Global, bytes: &[u8]) -> Result<Option<Vec<u8>>, AllocError>
     ensures { IfOk result (IsSecondOf bytes.now) }
 {
@@ -77,12 +78,13 @@ fn bytes_of(text: &Option<Text>) -> Option<&[u8]>
     }
 }
 
-/// Puts rows of proofs that are records of version 1 again as records of version 2 of the same steps, in ascending order of their keys,
-/// and comes to at most so many of them. A row stays as it is where it isn't a record of version 1, where its steps don't fit version 2, or
-/// where the record of version 2 is longer. Blocks and sign-offs stay.
+/// Puts rows of proofs that are records of version 1 again as records of version 2 of the same steps, in ascending
+/// order of their keys, and comes to at most so many of them. A row stays as it is where it isn't a record of version
+/// 1, where its steps don't fit version 2, or where the record of version 2 is longer. Blocks and sign-offs stay.
 ///
-/// It is refused with `Keeper` only where the keeper's count of faults rose in this call, or stands at its last value, and with `Memory` for
-/// want of memory alone. Then too each row is as before or was moved, so that a further call goes on.
+/// It is refused with `Keeper` only where the keeper's count of faults rose in this call, or stands at its last value,
+/// and with `Memory` where memory runs out. Then too each row is as before or was moved, so that a further call goes
+/// on.
 pub fn migrate<K: Keeper>(alloc: Global, keeper: &mut K, most: u64) -> Result<Moved, StoreFault>
     requires { 0 < most }
 

@@ -1,4 +1,4 @@
-//! How goals stand before any is solved.
+// How goals stand before any is solved.
 ghost use Rattle.std.specs.Prelude.{◌≡◌, ◌^◌, ◌<◌, true, Err, IfOk, sum_by, length, filter};
 ghost use Rattle.std.specs.List.{AllZip};
 ghost use Rattle.std.specs.Vec.Iter.{into_iter_items, into_iter_len};
@@ -139,8 +139,8 @@ impl<'a, 'k, 'h, R: Threads + Sync, K: Keeper, H: Helper, G: Gate + Sync> Prover
         }
     }
 
-    // The obligations of goals in order, each with its proof that is kept: the keeper is asked for one row after another, under texts that workers
-    // make, and then workers check the rows side by side.
+    // The obligations of goals in order, each with its proof that is kept: the keeper is asked for one row after
+    // another, under texts that workers make, and then workers check the rows side by side.
     fn look_up<'g, L: Drop>(&mut self, goals: &'g [Goal<L>]) -> Result<Vec<Checked<'g>>, StoreFault>
         requires jobs { length goals.now < 2 ^ 32 }
         ensures found { IfOk result (λ all. AllZip (IsChecked (kept_by K.tables self.old)) goals.now all.items) }

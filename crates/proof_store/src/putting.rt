@@ -1,4 +1,4 @@
-//! New proofs, put in order. Their rows are made by workers side by side.
+// New proofs, put in order. Their rows are made by workers side by side.
 ghost use Rattle.std.specs.Prelude.{◌≡◌, ◌^◌, ◌<◌, ◌↔◌, All, Err, IfOk, IfSome, IsTrue, OnErr, OnOk, length, map};
 ghost use Rattle.std.specs.List.{AllZip};
 ghost use Rattle.proof_store.specs.Goals.{ended, is_kept};

@@ -1,4 +1,4 @@
-//! How much is spent on obligations.
+// How much is spent on obligations.
 ghost use Rattle.std.specs.Prelude.{◌<◌, ◌≤◌};
 
 /// How much is spent on obligations.

@@ -1,4 +1,4 @@
-//! Goals settled by a prover.
+// Goals settled by a prover.
 ghost use Rattle.std.specs.Prelude.{◌≡◌, ◌+◌, ◌^◌, ◌<◌, Err, IfOk, IfSome, count_by, length, map};
 ghost use Rattle.std.specs.List.{AllZip};
 ghost use Rattle.job_pool.specs.Shown.{IsShown};
@@ -93,15 +93,17 @@ impl<'a, 'k, 'h, R: Threads + Sync, K: Keeper, H: Helper, G: Gate + Sync> Prover
 
     /// Settles goals: each with what shows how it ended, in their order.
     ///
-    /// The keeper is asked for the row under each obligation's text, in order; then workers check the rows side by side. A row counts as kept where
-    /// it is a record of a derivation of the empty clause from the obligation's clauses; a row that isn't one is no fault. What isn't kept is offered
-    /// to the helpers, in order, and of their claims only those that pass count. The rest is decided by workers, each obligation within the budget of
-    /// steps; where nothing is left, none is started. A budget of `3 ^ v` steps, v being the number of variables of an obligation's clauses, decides
-    /// it. Then the new proofs are put under the obligations' texts, where a record can be made of them and neither it nor the text has more than
-    /// 16,777,216 bytes.
+    /// The keeper is asked for the row under each obligation's text, in order; then workers check the rows side by
+    /// side. A row counts as kept where it is a record of a derivation of the empty clause from the obligation's
+    /// clauses; a row that isn't one is no fault. What isn't kept is offered to the helpers, in order, and of their
+    /// claims only those that pass count. The rest is decided by workers, each obligation within the budget of steps;
+    /// where nothing is left, none is started. A budget of `3 ^ v` steps, v being the number of variables of an
+    /// obligation's clauses, decides it. Then the new proofs are put under the obligations' texts, where a record can
+    /// be made of them and neither it nor the text has more than 16,777,216 bytes.
     ///
-    /// It is refused with `Keeper` only where the keeper's count of faults rose in this call, or stands at its last value, and with `Memory` for want
-    /// of memory alone. Then each row of the proofs that differs from before is a proof of one of these obligations under its text.
+    /// It is refused with `Keeper` only where the keeper's count of faults rose in this call, or stands at its last
+    /// value, and with `Memory` where memory runs out. Then each row of the proofs that differs from before is a proof
+    /// of one of these obligations under its text.
     pub fn settle<L: Drop>(&mut self, goals: Vec<Goal<L>>) -> Result<Settled<L>, StoreFault>
         requires jobs { length goals.items < 2 ^ 32 }
         ensures decided { IfOk result (λ s. AllZip (IsDecided self.old.settings.budget) goals.items s.decided.items) }

@@ -1,17 +1,17 @@
-//! How much obligations weigh that are gone through at a time.
+// How much obligations weigh that are gone through at a time.
 ghost use Rattle.std.specs.Prelude.{◌<◌, ◌≤◌, length};
 
 use word_dag::{Node, Ob, Op};
 
-/// How many obligations are gone through at a time at most.
+// How many obligations are gone through at a time at most.
 const AT_ONCE: usize = 256;
 
-/// Beyond this weight no further obligation is gone through at the same time: some 25 MB of clauses, texts or rows.
+// Beyond this weight no further obligation is gone through at the same time: some 25 MB of clauses, texts or rows.
 const WEIGHT_AT_ONCE: u64 = 1 << 18;
 
 /// What is gone through few at a time.
 pub(crate) trait Weighs {
-    /// About how many gates, or lines of a text or a record, are made of it.
+    // About how many gates, or lines of a text or a record, are made of it.
     fn weight(&self) -> u64;
 }
 
@@ -23,8 +23,8 @@ fn width_at(nodes: &[Node], number: u64) -> u8 {
     }
 }
 
-// About how many gates an operation has on two words of these widths: an adder has five for each bit, a product an adder and a row of ands for each bit
-// of its second word, and a shift a row of choices for each.
+// About how many gates an operation has on two words of these widths: an adder has five for each bit, a product an
+// adder and a row of ands for each bit of its second word, and a shift a row of choices for each.
 fn gates_of_operation(op: Op, a: u8, b: u8) -> u64 {
     let (a, b) = (u64::from(a), u64::from(b));
     match op {
@@ -58,7 +58,8 @@ pub(crate) fn gates_of(ob: &Ob) -> u64 {
     gates
 }
 
-/// Where those end that are gone through at a time, from this one on: one for each worker, and more while they weigh little.
+/// Where those end that are gone through at a time, from this one on: one for each worker, and more while they weigh
+/// little.
 pub(crate) fn end_of_few<T: Weighs>(all: &[T], at: usize, workers: u32) -> usize
     requires { at < length all.now }
     ensures more { at < result }

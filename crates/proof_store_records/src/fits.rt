@@ -5,7 +5,7 @@ ghost use Rattle.proof_store_records.specs.Records.{content, FitsVersion, FitsVe
 use crate::version::Version;
 use clause_check::Step;
 
-/// Whether the version has room for each step.
+// Whether the version has room for each step.
 fn each_fits(version: Version, steps: &[Step]) -> bool
     ensures { IsTrue result ↔ All (λ s. FitsStep version (content s)) steps.now }
 {
@@ -17,7 +17,7 @@ fn each_fits(version: Version, steps: &[Step]) -> bool
     true
 }
 
-/// Whether the version has room for these steps.
+// Whether the version has room for these steps.
 fn version_fits(version: Version, steps: &[Step]) -> bool
     ensures { IsTrue result ↔ FitsVersion version steps.now }
 {
@@ -31,8 +31,8 @@ pub fn record_fits(steps: &[Step]) -> bool
     version_fits(Version::Second, steps)
 }
 
-/// Whether the steps can be written in version 1: each number of steps, of literals and of hints is below 2^32. It takes no
-/// memory.
+/// Whether the steps can be written in version 1: each number of steps, of literals and of hints is below 2^32. It
+/// takes no memory.
 pub fn fits_version_1(steps: &[Step]) -> bool
     ensures { IsTrue result ↔ FitsVersion1 steps.now }
 {

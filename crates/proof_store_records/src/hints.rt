@@ -7,7 +7,7 @@ use crate::varint::push_varint;
 use crate::version::Version;
 use std::alloc::{AllocError, Global};
 
-/// The hint after one, by what is written of it; none where it isn't below 2^32.
+// The hint after one, by what is written of it; none where it isn't below 2^32.
 fn hint_after(before: u32, number: u64) -> Option<u32>
     ensures { MatchOption result ((h : ℕ) → h < 2 ^ 32 → distance_from before h ≡ number → ⊥)
         (λ h. (h < 2 ^ 32) × (distance_from before h ≡ number)) }
@@ -23,7 +23,7 @@ fn hint_after(before: u32, number: u64) -> Option<u32>
     u32::try_from(hint).ok()
 }
 
-/// The numbers in 32 bits; none where one is 2^32 or more.
+// The numbers in 32 bits; none where one is 2^32 or more.
 fn words_of(alloc: Global, numbers: &[u64]) -> Result<Option<Vec<u32>>, AllocError>
     ensures { IfOk result (λ read. MatchOption read ((ns : List ℕ) → All (λ n. n < 2 ^ 32) ns → ns ≡ numbers.now → ⊥)
         (λ words. All (λ n. n < 2 ^ 32) words.items × (words.items ≡ numbers.now))) }
@@ -38,7 +38,7 @@ fn words_of(alloc: Global, numbers: &[u64]) -> Result<Option<Vec<u32>>, AllocErr
     Ok(Some(words))
 }
 
-/// The hints whose distances these are; none where there are no such hints below 2^32.
+// The hints whose distances these are; none where there are no such hints below 2^32.
 fn told_hints(alloc: Global, numbers: &[u64]) -> Result<Option<Vec<u32>>, AllocError>
     ensures { IfOk result (λ read. MatchOption read ((hs : List ℕ) → All (λ h. h < 2 ^ 32) hs → distances hs ≡ numbers.now → ⊥)
         (λ hints. All (λ h. h < 2 ^ 32) hints.items × (distances hints.items ≡ numbers.now))) }
@@ -77,7 +77,7 @@ pub fn hints_of(
     }
 }
 
-/// What is written of a hint after one.
+// What is written of a hint after one.
 fn distance(before: u32, hint: u32) -> u64
     ensures { result ≡ distance_from before hint }
 {

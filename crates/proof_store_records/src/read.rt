@@ -10,7 +10,7 @@ use crate::version::Version;
 use clause_check::{Clause, Lit, Step};
 use std::alloc::{AllocError, Global};
 
-/// The list of numbers in front, and the bytes that follow it.
+// The list of numbers in front, and the bytes that follow it.
 fn take_numbers(
     alloc: Global,
     version: Version,
@@ -33,7 +33,7 @@ fn take_numbers(
     Ok(Some((numbers, rest)))
 }
 
-/// The literals of these values; none where a variable isn't below 2^32.
+// The literals of these values; none where a variable isn't below 2^32.
 fn lits_of(alloc: Global, values: &[u64]) -> Result<Option<Vec<Lit>>, AllocError>
     ensures { IfOk result (λ read. MatchOption read ((ls : List Lit) → All (λ l. l.var < 2 ^ 32) ls → map lit_value ls ≡ values.now → ⊥)
         (λ lits. All (λ l. l.var < 2 ^ 32) lits.items × (map lit_value lits.items ≡ values.now))) }
@@ -51,7 +51,7 @@ fn lits_of(alloc: Global, values: &[u64]) -> Result<Option<Vec<Lit>>, AllocError
     Ok(Some(lits))
 }
 
-/// The literals in front, and the bytes that follow them.
+// The literals in front, and the bytes that follow them.
 fn take_lits(
     alloc: Global,
     version: Version,
@@ -69,7 +69,7 @@ fn take_lits(
     Ok(Some((lits, rest)))
 }
 
-/// The clause in front, and the bytes that follow it.
+// The clause in front, and the bytes that follow it.
 fn take_clause(
     alloc: Global,
     version: Version,
@@ -87,7 +87,7 @@ fn take_clause(
     Ok(Some((clause, rest)))
 }
 
-/// The hints in front, and the bytes that follow them.
+// The hints in front, and the bytes that follow them.
 fn take_hints(
     alloc: Global,
     version: Version,
@@ -105,7 +105,7 @@ fn take_hints(
     Ok(Some((hints, rest)))
 }
 
-/// The step in front, and the bytes that follow it.
+// The step in front, and the bytes that follow it.
 fn take_step(
     alloc: Global,
     version: Version,
@@ -123,7 +123,7 @@ fn take_step(
     Ok(Some((Step { clause, hints }, rest)))
 }
 
-/// The steps in front, and the bytes that follow them.
+// The steps in front, and the bytes that follow them.
 fn take_steps(
     alloc: Global,
     version: Version,
@@ -146,7 +146,7 @@ fn take_steps(
     Ok(Some((steps, rest)))
 }
 
-/// The version that the first two bytes tell, and the bytes that follow them.
+// The version that the first two bytes tell, and the bytes that follow them.
 fn take_mark(bytes: &[u8]) -> Option<(Version, &[u8])>
     ensures { MatchOption result (Lacks IsAny mark bytes.now) (λ r. Starts IsAny mark bytes.now r.0 r.1.now) }
 {
@@ -162,8 +162,8 @@ fn take_mark(bytes: &[u8]) -> Option<(Version, &[u8])>
     }
 }
 
-/// The steps of which the bytes are a record, in either version; none exactly where they are no record, as where a variable or a
-/// hint is 2^32 or more: there is no such step. The only error is want of memory.
+/// The steps of which the bytes are a record, in either version; none exactly where they are no record, as where a
+/// variable or a hint is 2^32 or more: there is no such step.
 pub fn read_steps(alloc: Global, bytes: &[u8]) -> Result<Option<Vec<Step>>, AllocError>
     ensures some { IfOk result (λ read. IfSome read (λ steps. IsRecord bytes.now steps.items)) }
     ensures exact { IfOk result (λ read. (steps : List Step) → IsRecord bytes.now steps

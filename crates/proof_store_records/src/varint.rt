@@ -4,8 +4,8 @@ ghost use Rattle.proof_store_records.specs.Varint.{low_first, varint, HasDigits}
 
 use std::alloc::AllocError;
 
-/// The number whose digits the bytes begin with, the lowest first, with at most so many after the first; and the bytes that
-/// follow it. None where no number below 2^64 stands there.
+// The number whose digits the bytes begin with, the lowest first, with at most so many after the first; and the bytes
+// that follow it. None where no number below 2^64 stands there.
 fn take_digits(bytes: &[u8], more: u8) -> Option<(u64, &[u8])>
     ensures { MatchOption result (Lacks (HasDigits more) (low_first more) bytes.now)
         (λ r. Starts (HasDigits more) (low_first more) bytes.now r.0 r.1.now) }

@@ -14,7 +14,7 @@ pub enum Version {
     Second,
 }
 
-/// The number in the first four bytes, the highest byte first.
+// The number in the first four bytes, the highest byte first.
 fn take_four(bytes: &[u8]) -> Option<(u64, &[u8])>
     ensures { MatchOption result (Lacks (λ n. n < 2 ^ 32) (count_bytes Version.First) bytes.now)
         (λ r. Starts (λ n. n < 2 ^ 32) (count_bytes Version.First) bytes.now r.0 r.1.now) }
@@ -23,7 +23,7 @@ fn take_four(bytes: &[u8]) -> Option<(u64, &[u8])>
     Some((u64::from(u32::from_be_bytes(*head)), rest))
 }
 
-/// The number in the first eight bytes, the highest byte first.
+// The number in the first eight bytes, the highest byte first.
 fn take_eight(bytes: &[u8]) -> Option<(u64, &[u8])>
     ensures { MatchOption result (Lacks (λ n. n < 2 ^ 64) (number_bytes Version.First) bytes.now)
         (λ r. Starts (λ n. n < 2 ^ 64) (number_bytes Version.First) bytes.now r.0 r.1.now) }

@@ -8,7 +8,7 @@ use crate::version::Version;
 use clause_check::{Lit, Step};
 use std::alloc::{AllocError, Global};
 
-/// The value of a literal.
+// The value of a literal.
 fn value_of(lit: Lit) -> u64
     ensures value { result ≡ lit_value lit }
     ensures var { lit.var < 2 ^ 32 }
@@ -17,7 +17,7 @@ fn value_of(lit: Lit) -> u64
     if lit.negative { twice + 1 } else { twice }
 }
 
-/// Appends the literals of a clause.
+// Appends the literals of a clause.
 fn push_lits(out: &mut Vec<u8>, version: Version, lits: &[Lit]) -> Result<(), AllocError>
     requires { length lits.now < count_limit version }
     ensures bytes { OnOk result (out.new.items ≡ out.old.items ++ lits_bytes version lits.now) }
@@ -30,7 +30,7 @@ fn push_lits(out: &mut Vec<u8>, version: Version, lits: &[Lit]) -> Result<(), Al
     Ok(())
 }
 
-/// Appends numbers, in eight bytes each.
+// Appends numbers, in eight bytes each.
 fn push_words(out: &mut Vec<u8>, numbers: &[u32]) -> Result<(), AllocError>
     ensures { OnOk result (out.new.items ≡ out.old.items ++ flat_map (number_bytes Version.First) numbers.now) }
 {
@@ -40,7 +40,7 @@ fn push_words(out: &mut Vec<u8>, numbers: &[u32]) -> Result<(), AllocError>
     Ok(())
 }
 
-/// Appends the hints of a step.
+// Appends the hints of a step.
 fn push_hints(out: &mut Vec<u8>, version: Version, hints: &[u32]) -> Result<(), AllocError>
     requires { length hints.now < count_limit version }
     ensures bytes { OnOk result (out.new.items ≡ out.old.items ++ hints_bytes version hints.now) }
@@ -53,7 +53,7 @@ fn push_hints(out: &mut Vec<u8>, version: Version, hints: &[u32]) -> Result<(), 
     }
 }
 
-/// Appends a step.
+// Appends a step.
 fn push_step(out: &mut Vec<u8>, version: Version, step: &Step) -> Result<(), AllocError>
     requires { FitsStep version (content step.now) }
     ensures bytes { OnOk result (out.new.items ≡ out.old.items ++ step_bytes version (content step.now)) }
@@ -63,7 +63,7 @@ fn push_step(out: &mut Vec<u8>, version: Version, step: &Step) -> Result<(), All
     push_hints(out, version, step.hints.as_slice())
 }
 
-/// Appends the two bytes that tell the version.
+// Appends the two bytes that tell the version.
 fn push_mark(out: &mut Vec<u8>, version: Version) -> Result<(), AllocError>
     ensures { OnOk result (out.new.items ≡ out.old.items ++ mark version) }
 {
@@ -76,7 +76,7 @@ fn push_mark(out: &mut Vec<u8>, version: Version) -> Result<(), AllocError>
     Ok(())
 }
 
-/// The record of the steps.
+// The record of the steps.
 fn write_version(alloc: Global, version: Version, steps: &[Step]) -> Result<Vec<u8>, AllocError>
     requires { FitsVersion version steps.now }
     ensures bytes { IfOk result (λ bytes. bytes.items ≡ record_bytes version steps.now) }
@@ -91,8 +91,8 @@ fn write_version(alloc: Global, version: Version, steps: &[Step]) -> Result<Vec<
     Ok(out)
 }
 
-/// The record of the steps in version 2, which `read_steps` reads back. The steps are such that `record_fits` is true of them.
-/// The only error is want of memory.
+/// The record of the steps in version 2, which `read_steps` reads back. The steps are such that `record_fits` is true
+/// of them.
 pub fn write_steps(alloc: Global, steps: &[Step]) -> Result<Vec<u8>, AllocError>
     requires { Fits steps.now }
     ensures bytes { IfOk result (λ bytes. bytes.items ≡ version_2 steps.now) }
@@ -101,8 +101,8 @@ pub fn write_steps(alloc: Global, steps: &[Step]) -> Result<Vec<u8>, AllocError>
     write_version(alloc, Version::Second, steps)
 }
 
-/// The record of the steps in version 1, which `read_steps` reads back. The steps are such that `fits_version_1` is true of them.
-/// The only error is want of memory.
+/// The record of the steps in version 1, which `read_steps` reads back. The steps are such that `fits_version_1` is
+/// true of them.
 pub fn write_steps_1(alloc: Global, steps: &[Step]) -> Result<Vec<u8>, AllocError>
     requires { FitsVersion1 steps.now }
     ensures bytes { IfOk result (λ bytes. bytes.items ≡ version_1 steps.now) }

@@ -53,8 +53,8 @@ pub fn value_in(words: &[Word], node: u64) -> u64
     }
 }
 
-// The value of a register or an input in a cycle: at first its free word's, then what the cycle before leaves in a register, and a free word's in
-// an input; the reset has its level.
+// The value of a register or an input in a cycle: at first its free word's, then what the cycle before leaves in a
+// register, and a free word's in an input; the reset has its level.
 fn held<S: Source>(
     bound: &Bound,
     source: &S,
@@ -108,8 +108,8 @@ fn node_word<S: Source>(
     }
 }
 
-/// The words of all nodes of a design in a cycle of the segment whose values the source has, from those of the cycle before, where there is
-/// one. It is refused for want of memory alone.
+/// The words of all nodes of a design in a cycle of the segment whose values the source has, from those of the cycle
+/// before, where there is one.
 pub fn words_at<S: Source>(
     alloc: Global,
     bound: &Bound,

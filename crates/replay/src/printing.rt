@@ -240,9 +240,10 @@ fn put_line<S: Sink>(alloc: Global, sink: &mut S, name: &[u8]) -> Result<(), Out
     put_last_word(alloc, sink, name)
 }
 
-/// Puts the text of a counterexample: the line that is refuted, the registers' first values, and then the trace, or both traces under `first`
-/// and `second`. A trace is a line with `cycle` and the names, and a line for each cycle with its number and the values; reset cycles are
-/// numbered up to -1. It takes no memory of its own. It is refused where the sink refuses, and then a prefix of the text was put.
+/// Puts the text of a counterexample: the line that is refuted, the registers' first values, and then the trace, or
+/// both traces under `first` and `second`. A trace is a line with `cycle` and the names, and a line for each cycle with
+/// its number and the values; reset cycles are numbered up to -1. It takes no memory of its own. It is refused where
+/// the sink refuses, and then a prefix of the text was put.
 pub fn print_trace<S: Sink>(
     alloc: Global,
     line: &[u8],
@@ -256,7 +257,7 @@ pub fn print_trace<S: Sink>(
     put_shown(alloc, sink, shown)
 }
 
-/// The text of a counterexample, as `print_trace` puts it. Refused for want of memory alone.
+/// The text of a counterexample, as `print_trace` puts it.
 pub fn trace_text(alloc: Global, line: &[u8], shown: &Shown) -> Result<Text, AllocError>
     ensures { IfOk result (λ text. text ≡ trace_text line.now shown.now) }
 {
@@ -267,7 +268,7 @@ pub fn trace_text(alloc: Global, line: &[u8], shown: &Shown) -> Result<Text, All
     }
 }
 
-/// What follows the first line of a counterexample's text: the registers' first values, and the traces. Refused for want of memory alone.
+/// What follows the first line of a counterexample's text: the registers' first values, and the traces.
 pub fn shown_text(alloc: Global, shown: &Shown) -> Result<Text, AllocError>
     ensures { IfOk result (λ text. text ≡ shown_text shown.now) }
 {

@@ -67,7 +67,7 @@ fn row_of(alloc: Global, words: &[Word], places: &[u64]) -> Result<Rows<u64>, Al
     Ok(row)
 }
 
-/// The first rows of the segment whose values a source has, its reset cycles among them. It is refused for want of memory alone.
+/// The first rows of the segment whose values a source has, its reset cycles among them.
 pub fn rows_of_source<S: Source>(
     alloc: Global,
     bound: &Bound,
@@ -130,15 +130,16 @@ fn starts_of(
     Ok(starts)
 }
 
-/// How far a segment reaches: its reset cycles, and the number of its last cycle, cycle 0 being the first without reset.
+/// How far a segment reaches: its reset cycles, and the number of its last cycle, cycle 0 being the first without
+/// reset.
 #[derive(Clone, Copy)]
 pub struct Reach {
     pub resets: u8,
     pub last: u8,
 }
 
-/// The segment that values of an obligation's free nodes name, one each in number order, every word that the obligation doesn't have being 0. Its
-/// reset cycles stand first. It is refused for want of memory alone.
+/// The segment that values of an obligation's free nodes name, one each in number order, every word that the obligation
+/// doesn't have being 0. Its reset cycles stand first.
 pub fn shown_segment(
     alloc: Global,
     bound: &Bound,
@@ -166,9 +167,9 @@ pub fn shown_segment(
     })
 }
 
-/// What is shown of a line of a design that is refuted by values of its obligation's free nodes, one each in number order: the segment that they
-/// name, every word that the obligation doesn't have being 0. It violates the line. Its reset cycles, where the line has them, stand first. It is
-/// refused for want of memory alone.
+/// What is shown of a line of a design that is refuted by values of its obligation's free nodes, one each in number
+/// order: the segment that they name, every word that the obligation doesn't have being 0. It violates the line. Its
+/// reset cycles, where the line has them, stand first.
 pub fn replay(
     alloc: Global,
     bound: &Bound,

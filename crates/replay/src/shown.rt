@@ -16,7 +16,8 @@ pub struct Trace {
     pub rows: Rows<Rows<u64>>,
 }
 
-/// What is shown of a refuted line: of a line on a design its registers' first values and one trace, of a line of the set one trace or two.
+/// What is shown of a refuted line: of a line on a design its registers' first values and one trace, of a line of the
+/// set one trace or two.
 #[derive(Drop)]
 pub struct Shown {
     pub start: Rows<Start>,

@@ -7,7 +7,8 @@ ghost use Rattle.replay.specs.Values.{AreOf};
 use crate::values::{Values, value_at};
 use unroll::{Moment, cycle_of};
 
-/// The place of a cycle in a segment, and how many of the segment's first cycles are reset cycles. Cycle 0 is the first one behind those.
+/// The place of a cycle in a segment, and how many of the segment's first cycles are reset cycles. Cycle 0 is the first
+/// one behind those.
 #[derive(Clone, Copy)]
 pub struct Position {
     pub at: usize,

@@ -174,9 +174,9 @@ fn shown_at(
     }))
 }
 
-/// What is shown of a line of a set that is refuted by values of its obligation's free nodes, one each in number order: the windows that they
-/// name, every word that the obligation doesn't have being 0. They violate the line. Where the property of the line may end at several
-/// offsets, the windows are those of the first one at which they do. It is refused for want of memory alone.
+/// What is shown of a line of a set that is refuted by values of its obligation's free nodes, one each in number order:
+/// the windows that they name, every word that the obligation doesn't have being 0. They violate the line. Where the
+/// property of the line may end at several offsets, the windows are those of the first one at which they do.
 pub fn twin_trace(
     alloc: Global,
     sound: &Sound,

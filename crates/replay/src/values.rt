@@ -79,7 +79,7 @@ fn add_node<'a, 'b>(
     }
 }
 
-/// The values that the free nodes take in turn. Refused for want of memory alone.
+/// The values that the free nodes take in turn.
 pub fn values_of<'a>(
     alloc: Global,
     nodes: &'a [Node],

@@ -64,7 +64,7 @@ fn row_of(
     Ok(row)
 }
 
-/// The first rows of one side, which values name. Refused for want of memory alone.
+/// The first rows of one side, which values name.
 pub fn rows_of(
     alloc: Global,
     values: &Values<'_>,

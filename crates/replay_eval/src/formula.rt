@@ -84,8 +84,7 @@ fn own_number(alloc: Global, expr: &Expr, entries: &Valuation) -> Result<u64, Al
     Ok(word.value())
 }
 
-/// The value of a formula of a set in the first of some rows, the names being read in the rows of their offsets. Refused for want of
-/// memory alone.
+/// The value of a formula of a set in the first of some rows, the names being read in the rows of their offsets.
 pub fn formula_value(
     alloc: Global,
     set: &Sound,
@@ -101,7 +100,7 @@ pub fn formula_value(
     own_number(alloc, formula, &entries)
 }
 
-/// Whether a formula of a set holds in the first of some rows, which reach its largest offset. Refused for want of memory alone.
+/// Whether a formula of a set holds in the first of some rows, which reach its largest offset.
 pub fn holds(
     alloc: Global,
     set: &Sound,
@@ -116,7 +115,7 @@ pub fn holds(
     Ok(value != 0)
 }
 
-/// Whether each formula does. Refused for want of memory alone.
+/// Whether each formula does.
 pub fn all_hold(
     alloc: Global,
     set: &Sound,

@@ -27,7 +27,7 @@ pub struct Windows<'a> {
     pub other: &'a [Rows<u64>],
 }
 
-/// Whether rows are a trace of a set at each cycle of which the constraints hold that fit. Refused for want of memory alone.
+/// Whether rows are a trace of a set at each cycle of which the constraints hold that fit.
 pub fn is_constrained(alloc: Global, set: &Sound, rows: &[Rows<u64>]) -> Result<bool, AllocError>
     ensures { IfOk result (λ b. IsTrue b ↔ IsConstrained (meaning_of set.now) set.now rows.now) }
 {
@@ -342,7 +342,8 @@ impl Windows<'_> {
         Ok(pairs && !is_same(first, second))
     }
 
-    // Whether a successor of the property at a position, which starts and ends at n, isn't assumed there in the second trace alone.
+    // Whether a successor of the property at a position, which starts and ends at n, isn't assumed there in the second
+    // trace alone.
     fn is_chosen_once(&self, alloc: Global, at: u32, next: u32, n: u8) -> Result<bool, AllocError>
         requires one { IsTrace self.now.set.now self.now.one.now }
         requires other { IsTrace self.now.set.now self.now.other.now }
@@ -508,8 +509,9 @@ impl Windows<'_> {
         }
     }
 
-    /// Whether the windows violate a line of the set; where the line speaks of an end of its property, that is n cycles after its start. No windows
-    /// violate a line that names a property which isn't there; a line on one window reads the first. Refused for want of memory alone.
+    /// Whether the windows violate a line of the set; where the line speaks of an end of its property, that is n cycles
+    /// after its start. No windows violate a line that names a property which isn't there; a line on one window reads
+    /// the first.
     pub fn violate(&self, alloc: Global, line: SetLine, n: u8) -> Result<bool, AllocError>
         ensures { IfOk result (λ b. IsTrue b ↔ (NamesProperties self.now.set.now (line_of line) × AreViolating (meaning_of self.now.set.now) self.now.set.now (line_of line) n self.now.one.now self.now.other.now)) }
     {

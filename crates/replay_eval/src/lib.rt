@@ -1,4 +1,5 @@
-//! A plain program that says whether windows violate a line of a set: the judge of the circuits that say it for all windows at once.
+//! A plain program that says whether windows violate a line of a set: the judge of the circuits that say it for all
+//! windows at once.
 #![tactic(auto)]
 
 mod formula;

@@ -57,7 +57,7 @@ fn holds_throughout(
     Ok(true)
 }
 
-/// Whether each constraint holds in each row of a trace after which its largest offset fits. Refused for want of memory alone.
+/// Whether each constraint holds in each row of a trace after which its largest offset fits.
 pub fn meets_constraints(alloc: Global, set: &Sound, rows: &[Rows<u64>]) -> Result<bool, AllocError>
     requires { IsTrace set.now rows.now }
     ensures { IfOk result (λ b. b ≡ meets_constraints (meaning_of set.now) set.now rows.now) }
@@ -71,8 +71,8 @@ pub fn meets_constraints(alloc: Global, set: &Sound, rows: &[Rows<u64>]) -> Resu
     Ok(true)
 }
 
-/// Whether what the property at a position assumes holds in the first of some rows, which reach its window; the reset property, position 0,
-/// assumes nothing. Refused for want of memory alone.
+/// Whether what the property at a position assumes holds in the first of some rows, which reach its window; the reset
+/// property, position 0, assumes nothing.
 pub fn is_assumed(
     alloc: Global,
     set: &Sound,
@@ -91,7 +91,7 @@ pub fn is_assumed(
     all_hold(alloc, set, property.assume.as_slice(), rows)
 }
 
-/// Whether what it commits holds there, in rows that reach its window. Refused for want of memory alone.
+/// Whether what it commits holds there, in rows that reach its window.
 pub fn is_committed(
     alloc: Global,
     set: &Sound,

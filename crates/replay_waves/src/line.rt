@@ -94,8 +94,8 @@ fn second_of(alloc: Global, second: &Option<Trace>) -> Result<Option<Rows<Rows<u
     }
 }
 
-/// The waveform of a counterexample of a line of a set that is bound to a design: the set's declared names over the cycles that are shown, and the first
-/// values of the design's registers where these are shown. Refused for want of memory alone.
+/// The waveform of a counterexample of a line of a set that is bound to a design: the set's declared names over the
+/// cycles that are shown, and the first values of the design's registers where these are shown.
 pub fn wave_of(alloc: Global, bound: &Bound, shown: &Shown) -> Result<Wave, AllocError>
     ensures { IfOk result (λ wave. wave ≡ wave_of bound.now shown.now) }
 {

@@ -17,8 +17,8 @@ pub struct First {
     pub value: u64,
 }
 
-/// What is shown of a counterexample: one window of cycles, or two. The rows of a window have for each cycle the values of the signals, in
-/// their order; each is below 2 to the length of its signal.
+/// What is shown of a counterexample: one window of cycles, or two. The rows of a window have for each cycle the values
+/// of the signals, in their order; each is below 2 to the length of its signal.
 #[derive(Drop)]
 pub struct Wave {
     pub clock: Text,

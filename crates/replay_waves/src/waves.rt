@@ -32,10 +32,10 @@ fn add_cycles(alloc: Global, out: &mut Vec<u8>, wave: &Wave, count: usize) -> Re
     Ok(())
 }
 
-/// The value change dump of a counterexample, with a scope for each window (`segment`, or `first` and `second`) and one for the registers'
-/// first values (`start`). A cycle takes 10 ns, at whose beginning the clock rises. A window has, besides its signals, the clock and `cycle`,
-/// the number of its cycle, each unless a signal has its name. A window that is shorter than the other keeps its last values. Refused for want
-/// of memory alone.
+/// The value change dump of a counterexample, with a scope for each window (`segment`, or `first` and `second`) and one
+/// for the registers' first values (`start`). A cycle takes 10 ns, at whose beginning the clock rises. A window has,
+/// besides its signals, the clock and `cycle`, the number of its cycle, each unless a signal has its name. A window
+/// that is shorter than the other keeps its last values.
 #[tactic(auto, unfolding(crate::specs::Waves::wave_text))]
 pub fn wave_text(alloc: Global, wave: &Wave) -> Result<Text, AllocError>
     ensures { IfOk result (λ text. text ≡ wave_text wave.now) }

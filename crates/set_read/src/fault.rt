@@ -27,9 +27,10 @@ pub enum SetFault {
     Twice(Text),
     /// A quantity leaves its bounds.
     Limit(Quantity),
-    /// The set is higher than 500: a formula is higher than 498. It can come in place of `Syntax` for more than 500 tokens.
+    /// The set is higher than 500: a formula is higher than 498. It can come in place of `Syntax` for more than 500
+    /// tokens.
     Deep,
-    /// Want of memory.
+    /// Out of memory.
     Memory,
 }
 
@@ -58,7 +59,8 @@ pub enum TextFault {
 }
 
 impl TextFault {
-    /// The fault itself; what its reader had read so far is dropped by this call: dropped in place, it would be proved anew at each exit.
+    /// The fault itself; what its reader had read so far is dropped by this call: dropped in place, it would be proved
+    /// anew at each exit.
     pub fn dropping<T: Drop>(self, _read: T) -> TextFault
         ensures { result ≡ self }
     {

@@ -34,7 +34,7 @@ use std::alloc::Global;
 use vlog_read_expr::{after, is_sign, is_word};
 use vlog_tree::{Expr, Token};
 
-/// `signed`, where it stands.
+// `signed`, where it stands.
 #[tactic(auto, using(vlog_read_spelling::proofs::Tokens::kind_within))]
 fn signed(tokens: &[Token], at: usize) -> (bool, usize)
     ensures spelt { SpellsSigned tokens.now at result.0 result.1 }
@@ -48,7 +48,7 @@ fn signed(tokens: &[Token], at: usize) -> (bool, usize)
     }
 }
 
-/// `[high:low]`
+// `[high:low]`
 fn bits(tokens: &[Token], at: usize) -> Result<(Bits, usize), TextFault>
     ensures spelt { IfOk result (λ read. SpellsBits tokens.now at read.0 read.1) }
     ensures none { IfErr result (λ fault. Lacks (SpellsBits tokens.now) at) }
@@ -62,7 +62,7 @@ fn bits(tokens: &[Token], at: usize) -> Result<(Bits, usize), TextFault>
     Ok((Bits { high, low }, end))
 }
 
-/// A range, where one stands.
+// A range, where one stands.
 fn maybe_bits(tokens: &[Token], at: usize) -> Result<(Option<Bits>, usize), TextFault>
     ensures spelt { IfOk result (λ read. Maybe (SpellsBits tokens.now) at read.0 read.1) }
     ensures only { Answers (Maybe (SpellsBits tokens.now)) (NoSign (codes "[") tokens.now) flat 0 at result }
@@ -92,7 +92,7 @@ fn role_at(tokens: &[Token], at: usize) -> Option<Role>
     }
 }
 
-/// The domain of an output, where one stands.
+// The domain of an output, where one stands.
 fn domain(
     alloc: Global,
     tokens: &[Token],
@@ -335,7 +335,7 @@ pub fn window(tokens: &[Token], at: usize) -> Result<(Option<u64>, usize), TextF
     }
 }
 
-/// A word, a formula and a semicolon.
+// A word, a formula and a semicolon.
 fn clause(
     alloc: Global,
     tokens: &[Token],
@@ -401,7 +401,7 @@ pub fn hand(alloc: Global, tokens: &[Token], at: usize) -> Result<(Items<Expr>, 
     }
 }
 
-/// `+ distance`, or 0 where none stands.
+// `+ distance`, or 0 where none stands.
 fn distance(tokens: &[Token], at: usize) -> Result<(u64, usize), TextFault>
     ensures spelt { IfOk result (λ read. SpellsDistance tokens.now at read.0 read.1) }
     ensures only { Answers (SpellsDistance tokens.now) (Semicolon tokens.now) flat 0 at result }

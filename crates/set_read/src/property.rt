@@ -18,7 +18,7 @@ use std::alloc::Global;
 use vlog_read_expr::is_word;
 use vlog_tree::{Expr, Token};
 
-/// What a property hands over, covers and leads to.
+// What a property hands over, covers and leads to.
 #[derive(Drop)]
 struct Tail {
     hand: Items<Expr>,
@@ -26,7 +26,7 @@ struct Tail {
     next: Items<Text>,
 }
 
-/// From the hand-over to the closing brace.
+// From the hand-over to the closing brace.
 fn read_tail(alloc: Global, tokens: &[Token], at: usize) -> Result<(Tail, usize), TextFault>
     ensures spelt { IfOk result (λ read. SpellsTail tokens.now at read.0.hand read.0.covers read.0.next read.1) }
     ensures low { IfOk result (λ read. tail_height read.0 ≤ 498) }
@@ -46,7 +46,7 @@ fn read_tail(alloc: Global, tokens: &[Token], at: usize) -> Result<(Tail, usize)
     Ok((Tail { hand, covers, next }, end))
 }
 
-/// What a property says of itself.
+// What a property says of itself.
 #[derive(Drop)]
 struct Conditions {
     length: LengthText,
@@ -55,7 +55,7 @@ struct Conditions {
     commit: Items<Expr>,
 }
 
-/// The length, the window, the assumption and the commitment.
+// The length, the window, the assumption and the commitment.
 fn read_conditions(
     alloc: Global,
     tokens: &[Token],
@@ -93,7 +93,7 @@ fn read_conditions(
     ))
 }
 
-/// A property from its opening brace on.
+// A property from its opening brace on.
 fn property(
     alloc: Global,
     tokens: &[Token],
@@ -128,7 +128,7 @@ fn property(
     ))
 }
 
-/// `property reset`
+// `property reset`
 fn reset_head(tokens: &[Token], at: usize) -> Result<usize, TextFault>
     ensures property { IfOk result (λ end. IsWord tokens.now at (codes "property")) }
     ensures reset { IfOk result (λ end. IsWord tokens.now (at + 1) (codes "reset")) }
@@ -141,7 +141,7 @@ fn reset_head(tokens: &[Token], at: usize) -> Result<usize, TextFault>
     Ok(end)
 }
 
-/// The reset property.
+// The reset property.
 fn reset_property(
     alloc: Global,
     tokens: &[Token],
@@ -165,7 +165,7 @@ fn reset_property(
     Ok((first, end))
 }
 
-/// `operation name`
+// `operation name`
 fn operation_head(alloc: Global, tokens: &[Token], at: usize) -> Result<(Text, usize), TextFault>
     ensures word { IfOk result (λ read. IsWord tokens.now at (codes "operation")) }
     ensures name { IfOk result (λ read. IsNamed true tokens.now (at + 1) read.0 (at + 2)) }
@@ -190,7 +190,7 @@ fn operation(alloc: Global, tokens: &[Token], at: usize) -> Result<(PropertyText
     Ok((property, end))
 }
 
-/// The operations from a place on.
+// The operations from a place on.
 #[tactic(auto, using(crate::proofs::Sequences::sequence_more, crate::proofs::Sequences::highest_more))]
 fn operations(
     alloc: Global,
@@ -212,7 +212,7 @@ fn operations(
     Ok((list, end))
 }
 
-/// The block, its clock and its reset.
+// The block, its clock and its reset.
 #[derive(Drop)]
 struct SetHead {
     block: Text,
@@ -222,7 +222,7 @@ struct SetHead {
     cycles: u64,
 }
 
-/// `word name;`
+// `word name;`
 fn named(
     alloc: Global,
     tokens: &[Token],
@@ -239,7 +239,7 @@ fn named(
     Ok((name, end))
 }
 
-/// `high` or `low`.
+// `high` or `low`.
 fn level(tokens: &[Token], at: usize) -> Result<(bool, usize), TextFault>
     ensures spelt { IfOk result (λ read. SpellsLevel tokens.now at read.0 read.1) }
     ensures none { IfErr result (λ fault. Lacks (SpellsLevel tokens.now) at) }

@@ -14,7 +14,7 @@ use std::alloc::Global;
 use vlog_read_lex::read_tokens;
 use vlog_tree::Token;
 
-/// The set of a text that tokens spell.
+// The set of a text that tokens spell.
 fn looked(alloc: Global, tokens: &[Token], text: SetText) -> Result<Set, SetFault>
     requires digits { HasSmallDigits tokens.now }
     requires spelt { SpellsSet tokens.now text }
@@ -29,7 +29,7 @@ fn looked(alloc: Global, tokens: &[Token], text: SetText) -> Result<Set, SetFaul
     }
 }
 
-/// The set of tokens.
+// The set of tokens.
 fn of_list(alloc: Global, tokens: &[Token]) -> Result<Set, SetFault>
     requires { HasSmallDigits tokens.now }
     ensures ok { IfOk result (SpellsTokens tokens.now) }
@@ -42,10 +42,11 @@ fn of_list(alloc: Global, tokens: &[Token]) -> Result<Set, SetFault>
     }
 }
 
-/// The set that a text spells, its names looked up; it is well formed, as `structure` asks. The grammar is that of the document on formats.
-/// `Bytes` and `Number`: the first fault of the text's tokens, with the place of the byte. `Syntax`: its tokens spell no set.
-/// `Deep`: each set that they spell is higher than 500, and there are more than 500 of them. `Unknown`, `Twice` and `Limit`: the text spells a set that has this against it; where several
-/// such faults stand, one of them is answered.
+/// The set that a text spells, its names looked up; it is well formed, as `structure` asks. The grammar is that of the
+/// document on formats. `Bytes` and `Number`: the first fault of the text's tokens, with the place of the byte.
+/// `Syntax`: its tokens spell no set. `Deep`: each set that they spell is higher than 500, and there are more than 500
+/// of them. `Unknown`, `Twice` and `Limit`: the text spells a set that has this against it; where several such faults
+/// stand, one of them is answered.
 pub fn read_set(alloc: Global, bytes: &[u8]) -> Result<Set, SetFault>
     ensures ok { IfOk result (Spells bytes.now) }
     ensures formed { IfOk result IsWellFormed }

@@ -14,7 +14,7 @@ use vlog_read_expr::{after, identifier, is_sign, is_word, kind_at, read_path, re
 use vlog_read_lex::ReadFault;
 use vlog_tree::{Expr, Kind, Token};
 
-/// The refusal of the reader of expressions.
+// The refusal of the reader of expressions.
 fn of_reader(fault: ReadFault) -> TextFault
     ensures { IsOf fault result }
 {

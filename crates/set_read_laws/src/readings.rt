@@ -5,7 +5,8 @@ pub fn one_set()
     ensures { SpellsOneSet }
 {}
 
-/// A text spells at most one set that has nothing against it, and where it spells one it is refused for no fault of its own.
+/// A text spells at most one set that has nothing against it, and where it spells one it is refused for no fault of its
+/// own.
 pub fn one_reading()
     ensures set { MeansOneSet }
     ensures apart { SpellsOrRefused }

@@ -16,7 +16,7 @@ use std::alloc::{AllocError, Global};
 use vlog_tree::{Entry, Expr, Valuation};
 use vlog_tree_values::measured;
 
-/// The declared names whose lengths are good, each with the value 0.
+// The declared names whose lengths are good, each with the value 0.
 fn valuation_of(alloc: Global, declarations: &[Declaration]) -> Result<Valuation, AllocError>
     ensures { IfOk result (λ v. v ≡ declared_entries declarations.now) }
 {
@@ -48,7 +48,7 @@ fn is_measured(alloc: Global, valuation: &Valuation, expr: &Expr) -> Result<bool
     }
 }
 
-/// Whether a formula is well formed over the names of a valuation.
+// Whether a formula is well formed over the names of a valuation.
 fn is_formed(alloc: Global, valuation: &Valuation, formula: &Expr) -> Result<bool, AllocError>
     ensures { IfOk result (λ t. MatchBool t (IsPresent valuation.now formula.now) (IsPresent valuation.now formula.now → ⊥)) }
 {
@@ -61,7 +61,7 @@ fn is_formed(alloc: Global, valuation: &Valuation, formula: &Expr) -> Result<boo
     formed
 }
 
-/// Whether some formulas are.
+// Whether some formulas are.
 fn are_formed(alloc: Global, valuation: &Valuation, formulas: &[Expr]) -> Result<bool, AllocError>
     ensures { IfOk result (Judges (IsPresent valuation.now) formulas.now) }
 {
@@ -150,7 +150,7 @@ fn operations_are(
     Ok(true)
 }
 
-/// Whether all formulas of a set are.
+// Whether all formulas of a set are.
 fn text_is(alloc: Global, valuation: &Valuation, text: &SetText) -> Result<bool, AllocError>
     ensures { IfOk result (Judges (IsPresent valuation.now) (formulas_in text.now)) }
 {

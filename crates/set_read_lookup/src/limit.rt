@@ -19,7 +19,7 @@ use crate::names::{Wanted, wanted_in};
 use crate::quantity::Quantity;
 use set_tree::{Declaration, PropertyText, RuleKind, RuleText, SetText};
 
-/// The bound that lengths, windows, offsets and most counts have.
+// The bound that lengths, windows, offsets and most counts have.
 const MOST: u64 = 64;
 
 fn is_outside(low: u64, high: u64, number: u64) -> bool
@@ -109,7 +109,7 @@ fn any_hands(operations: &[PropertyText]) -> bool
     false
 }
 
-/// How many rules there are of each kind.
+// How many rules there are of each kind.
 #[derive(Drop)]
 struct RuleCounts {
     constraints: usize,
@@ -134,7 +134,7 @@ fn counts_of(rules: &[RuleText]) -> RuleCounts
     }
 }
 
-/// Whether a quantity of a set leaves its bounds.
+// Whether a quantity of a set leaves its bounds.
 fn leaves(text: &SetText, quantity: Quantity) -> bool
     ensures { result ≡ leaves text.now quantity }
 {

@@ -1,5 +1,5 @@
-// What the names and the numbers of a set come to. Where there is nothing, or memory runs out, what was held is dropped by a call: dropped
-// in place, it would be proved anew at each such exit.
+// What the names and the numbers of a set come to. Where there is nothing, or memory runs out, what was held is dropped
+// by a call: dropped in place, it would be proved anew at each such exit.
 ghost use Rattle.std.specs.Prelude.{◌≡◌, ◌^◌, ◌<◌, ◌-◌, Some, IfOk, IfSome, length, option_map, IfNone, IfErr, OnOk, MatchOption, None};
 ghost use Rattle.set_read_lookup.specs.Meaning.{
   within,
@@ -136,7 +136,7 @@ fn names_of(
     Ok(Some(Items::from_vec(names)))
 }
 
-/// The rules of a set by their kinds.
+// The rules of a set by their kinds.
 #[derive(Drop)]
 struct Rules {
     constraints: Vec<Rule>,
@@ -230,7 +230,7 @@ fn covers_of(
     Ok(Some(Items::from_vec(list)))
 }
 
-/// The successor number of the first operation of a name.
+// The successor number of the first operation of a name.
 fn operation_of(operations: &[PropertyText], name: &[u8]) -> Option<usize>
     requires { length operations.now < 2 ^ 32 - 1 }
     ensures at { result ≡ operation_from operations.now name.now 1 }
@@ -395,7 +395,7 @@ fn properties_of(
     Ok(Items::from_vec(list))
 }
 
-/// The lists of a set whose names were looked up.
+// The lists of a set whose names were looked up.
 #[derive(Drop)]
 struct Lists {
     names: Items<Name>,
@@ -427,14 +427,14 @@ fn lists_of(
     }))
 }
 
-/// What was looked up for a set.
+// What was looked up for a set.
 #[derive(Drop)]
 struct Found {
     first: Looked,
     rest: Vec<Looked>,
 }
 
-/// Looks up what a set needs.
+// Looks up what a set needs.
 fn looked_through(alloc: Global, text: &SetText) -> Result<Option<Found>, AllocError>
     requires declarations { length text.now.declarations < 2 ^ 32 }
     requires operations { length text.now.operations < 2 ^ 32 - 1 }
@@ -488,7 +488,7 @@ fn assembled(head: Head, cycles: u8, first: Property, lists: Lists) -> Set
     }
 }
 
-/// The set of a text for which all was looked up.
+// The set of a text for which all was looked up.
 fn gathered(alloc: Global, text: SetText, found: Found) -> Result<Option<Set>, AllocError>
     requires cycles { text.cycles < 256 }
     requires first { looked_of text.declarations text.operations text.first ≡ Some found.first }
@@ -523,7 +523,7 @@ fn gathered(alloc: Global, text: SetText, found: Found) -> Result<Option<Set>, A
     }
 }
 
-/// The set that a text means, where it means one.
+// The set that a text means, where it means one.
 fn set_of(alloc: Global, text: SetText) -> Result<Option<Set>, AllocError>
     requires cycles { text.cycles < 256 }
     requires declarations { length text.declarations < 2 ^ 32 }
@@ -543,7 +543,7 @@ fn set_of(alloc: Global, text: SetText) -> Result<Option<Set>, AllocError>
     }
 }
 
-/// Whether a text has nothing against it.
+// Whether a text has nothing against it.
 fn check(alloc: Global, text: &SetText) -> Result<(), Wrong>
     requires { HasSmallNumbers text.now }
     ensures ok { OnOk result (IsValid text.now) }
@@ -565,7 +565,7 @@ fn check(alloc: Global, text: &SetText) -> Result<(), Wrong>
     Ok(())
 }
 
-/// The set of a text that has nothing against it.
+// The set of a text that has nothing against it.
 fn valid_set(alloc: Global, text: SetText) -> Result<Set, Wrong>
     requires numbers { HasSmallNumbers text }
     requires valid { IsValid text }
@@ -578,8 +578,8 @@ fn valid_set(alloc: Global, text: SetText) -> Result<Set, Wrong>
     }
 }
 
-/// The set that a text means. Its numbers of bits and of offsets must be below 2^32, as those that digits alone spell are.
-/// `Unknown`, `Twice` and `Limit` are what the text has against it; where several stand, one of them.
+/// The set that a text means. Its numbers of bits and of offsets must be below 2^32, as those that digits alone spell
+/// are. `Unknown`, `Twice` and `Limit` are what the text has against it; where several stand, one of them.
 pub fn look_up(alloc: Global, text: SetText) -> Result<Set, Wrong>
     requires { HasSmallNumbers text }
     ensures means { IfOk result (Means text) }

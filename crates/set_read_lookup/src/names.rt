@@ -37,7 +37,7 @@ fn is_wanted(wanted: &Wanted<'_>, name: &Name) -> bool
     }
 }
 
-/// The name itself, where it is wanted.
+// The name itself, where it is wanted.
 fn itself<'a>(name: &'a Name, wanted: &Wanted<'_>) -> Option<&'a Name>
     ensures { option_copied result ≡ find (is_wanted wanted.now) (name.now ∷ []) }
 {

@@ -1,5 +1,5 @@
-// Formulas whose names are read in the present row alone. Lengths and signs don't depend on the row in which a name is read, so one entry a
-// name tells them.
+// Formulas whose names are read in the present row alone. Lengths and signs don't depend on the row in which a name is
+// read, so one entry a name tells them.
 ghost use Rattle.std.specs.Prelude.{◌≡◌, IfOk, Ok, map};
 ghost use Rattle.vlog_tree.specs.declared.expr.Expr.TheVariants as e;
 ghost use Rattle.set_read_lookup.specs.Tests.{present, present_name};
@@ -18,7 +18,7 @@ fn present_name(alloc: Global, name: &Name) -> Result<Name, AllocError>
     })
 }
 
-/// A formula with the offset 0 in place of each other one. Refused only for want of memory.
+/// A formula with the offset 0 in place of each other one.
 #[cycle(present)]
 pub fn present(alloc: Global, expr: &Expr) -> Result<Expr, AllocError>
     ensures { IfOk result (λ r. r ≡ present expr.now) }
@@ -71,7 +71,7 @@ fn boxed(alloc: Global, expr: &Expr) -> Result<Boxed<Expr>, AllocError>
     Boxed::new(alloc, present(alloc, expr)?)
 }
 
-/// The choice whose last operand is this one.
+// The choice whose last operand is this one.
 #[cycle(present)]
 fn choice(
     alloc: Global,
@@ -84,8 +84,8 @@ fn choice(
     Ok(Expr::Choice(condition, first, boxed(alloc, last)?))
 }
 
-/// What was made before, with what is made after it; where there is no memory for that, the first is dropped by this call: dropped in place,
-/// it would be proved anew at each such exit.
+// What was made before, with what is made after it; where there is no memory for that, the first is dropped by this
+// call: dropped in place, it would be proved anew at each such exit.
 fn beside<A: Drop, B: Drop>(before: A, after: Result<B, AllocError>) -> Result<(A, B), AllocError>
     ensures first { IfOk result (λ both. both.0 ≡ before) }
     ensures second { IfOk result (λ both. after ≡ Ok both.1) }

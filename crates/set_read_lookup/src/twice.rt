@@ -21,7 +21,7 @@ fn has(names: &[Text], name: &[u8]) -> bool
     false
 }
 
-/// The first name that stands again behind its place.
+// The first name that stands again behind its place.
 fn twice_in(names: &[Text]) -> Option<&Text>
     ensures { option_copied result ≡ first_twice names.now }
 {
@@ -33,7 +33,7 @@ fn twice_in(names: &[Text]) -> Option<&Text>
     None
 }
 
-/// The first name that stands twice in one list of successors.
+// The first name that stands twice in one list of successors.
 fn next_twice(operations: &[PropertyText]) -> Option<&Text>
     ensures { option_copied result ≡ first_next_twice operations.now }
 {
@@ -88,7 +88,7 @@ fn note_rules(alloc: Global, names: &mut Items<Text>, rules: &[RuleText]) -> Res
     Ok(())
 }
 
-/// The names of the properties and the rules.
+// The names of the properties and the rules.
 fn note_properties(alloc: Global, names: &mut Items<Text>, text: &SetText) -> Result<(), AllocError>
     ensures { OnOk result (names.new ≡ names.old ++ property_names text.now) }
 {

@@ -22,7 +22,7 @@ use outside::Text;
 use set_tree::{CoverText, Declaration, PropertyText, RuleText, SetText, Until};
 use vlog_tree::{Expr, Name};
 
-/// The first wanted name in the domains of outputs.
+// The first wanted name in the domains of outputs.
 fn in_domains<'a>(declarations: &'a [Declaration], wanted: &Wanted<'_>) -> Option<&'a Name>
     ensures { option_copied result ≡ find (is_wanted wanted.now) (flat_map (λ d. flat_map names_in (option_to_list d.domain)) declarations.now) }
 {
@@ -43,7 +43,7 @@ fn in_option<'a>(expr: &'a Option<Expr>, wanted: &Wanted<'_>) -> Option<&'a Name
     }
 }
 
-/// The first wanted name in rules.
+// The first wanted name in rules.
 fn in_rules<'a>(rules: &'a [RuleText], wanted: &Wanted<'_>) -> Option<&'a Name>
     ensures { option_copied result ≡ find (is_wanted wanted.now) (flat_map (λ r. names_in r.formula) rules.now) }
 {
@@ -64,7 +64,7 @@ fn in_until<'a>(until: &'a Option<Until>, wanted: &Wanted<'_>) -> Option<&'a Nam
     }
 }
 
-/// The first wanted name in the formulas of a property.
+// The first wanted name in the formulas of a property.
 fn in_property<'a>(property: &'a PropertyText, wanted: &Wanted<'_>) -> Option<&'a Name>
     ensures { option_copied result ≡ find (is_wanted wanted.now) (names_of property.now) }
 {
@@ -86,7 +86,7 @@ fn in_operations<'a>(operations: &'a [PropertyText], wanted: &Wanted<'_>) -> Opt
     None
 }
 
-/// The first wanted name in the formulas of a set.
+// The first wanted name in the formulas of a set.
 fn in_text<'a>(text: &'a SetText, wanted: &Wanted<'_>) -> Option<&'a Name>
     ensures { option_copied result ≡ find (is_wanted wanted.now) (names_used text.now) }
 {
@@ -97,7 +97,7 @@ fn in_text<'a>(text: &'a SetText, wanted: &Wanted<'_>) -> Option<&'a Name>
     domains.or(rules.or(first.or(operations)))
 }
 
-/// The first of some covers' names that is no output.
+// The first of some covers' names that is no output.
 fn no_output<'a>(declarations: &[Declaration], covers: &'a [CoverText]) -> Option<&'a Text>
     ensures { option_copied result ≡ find (is_no_output declarations.now) (map (λ c. c.output) covers.now) }
 {
@@ -123,7 +123,7 @@ fn no_output_in<'a>(
     None
 }
 
-/// The first of some successors that is no property.
+// The first of some successors that is no property.
 fn no_property<'a>(operations: &[PropertyText], names: &'a [Text]) -> Option<&'a Text>
     requires { length operations.now < 2 ^ 32 - 1 }
     ensures { option_copied result ≡ find (is_no_property operations.now) names.now }

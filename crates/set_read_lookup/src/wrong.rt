@@ -15,7 +15,7 @@ pub enum Wrong {
     Twice(Text),
     /// A quantity leaves its bounds.
     Limit(Quantity),
-    /// Want of memory.
+    /// Out of memory.
     Memory,
 }
 

@@ -47,7 +47,7 @@ impl<T> Rows<T> {
 }
 
 impl<T: Drop> Rows<T> {
-    /// Adds an element at the end. Refused only for want of memory.
+    /// Adds an element at the end.
     pub fn push(&mut self, element: T) -> Result<(), AllocError>
         ensures ok { OnOk result (self.new ≡ self.old ++ element ∷ []) }
         ensures err { OnErr result (self.new ≡ self.old) }

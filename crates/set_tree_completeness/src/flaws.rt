@@ -73,8 +73,8 @@ pub fn unhanded_states_leave_a_choice()
         ((0 ∷ 1 ∷ []) ∷ (1 ∷ 1 ∷ []) ∷ (0 ∷ 1 ∷ []) ∷ []) }
 {}
 
-/// With `o == 8'd7` as the domain of o, one trace alone may be in the domain: `determine reset` and `determine move` are
-/// refuted. With `v` as its domain, neither pair of windows refutes them.
+/// With `o == 8'd7` as the domain of o, one trace alone may be in the domain: `determine reset` and `determine move`
+/// are refuted. With `v` as its domain, neither pair of windows refutes them.
 pub fn domains_may_hold_in_one_trace()
     ensures reset { ViolatesDetermine (meaning_of pipe_at_seven) pipe_at_seven 0 0 (cover_to 3 0 1) 0
         ((0 ∷ 0 ∷ 0 ∷ 7 ∷ []) ∷ [])

@@ -24,7 +24,8 @@ pub trait Cycle {
     ghost values: { Self → List ℕ };
 }
 
-/// A formula of a set reads no row after its largest offset: where two lists of rows agree up to there it has one value.
+/// A formula of a set reads no row after its largest offset: where two lists of rows agree up to there it has one
+/// value.
 pub fn formulas_read_within()
     ensures { (set : Set) → ReadsWithin (meaning_of set) }
 {}
@@ -35,8 +36,8 @@ pub fn valid_lines_hold_in_runs<C: Cycle>()
     ensures { (m : Meaning) (set : Set) → ReadsWithin m → KeepsOffsets m set → AreDesignLinesValid (design_of C.follows C.is_reset C.values) m set → RunsSatisfy (design_of C.follows C.is_reset C.values) m set }
 {}
 
-/// A sound set none of whose own lines is violated is complete (Bormann's criterion): any two constrained traces with the
-/// same inputs that satisfy it determine each output at each cycle after which the largest window fits.
+/// A sound set none of whose own lines is violated is complete (Bormann's criterion): any two constrained traces with
+/// the same inputs that satisfy it determine each output at each cycle after which the largest window fits.
 pub fn valid_lines_are_complete()
     ensures { (m : Meaning) (set : Set) → ReadsWithin m → IsSound m set → AreValid m set → IsComplete m set }
 {}

@@ -1,5 +1,6 @@
 //! Completeness of property sets, over definitions alone, and worked sets: one that is signed off, windows and segments
-//! that violate the lines of others, and what completeness needs. Each law is the contract of a function that does nothing.
+//! that violate the lines of others, and what completeness needs. Each law is the contract of a function that does
+//! nothing.
 #![tactic(auto)]
 
 mod counter;

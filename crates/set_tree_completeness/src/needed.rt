@@ -22,16 +22,16 @@ pub fn same_end_lines_are_needed()
     ensures incomplete { ¬ IsComplete (meaning_of untimed) untimed }
 {}
 
-/// A reset property of fixed length is needed: a set that is sound but for this may have no violated line, and yet isn't
-/// complete, since no line speaks of where reset ends.
+/// A reset property of fixed length is needed: a set that is sound but for this may have no violated line, and yet
+/// isn't complete, since no line speaks of where reset ends.
 pub fn fixed_resets_are_needed()
     ensures sound { IsSoundButResetFixed (meaning_of unfixed) unfixed }
     ensures valid { AreValid (meaning_of unfixed) unfixed }
     ensures incomplete { ¬ IsComplete (meaning_of unfixed) unfixed }
 {}
 
-/// It is needed that covers meet on each edge: a set that is sound but for this may have no violated line, and yet isn't
-/// complete, since a cycle without a cover is claimed by nobody.
+/// It is needed that covers meet on each edge: a set that is sound but for this may have no violated line, and yet
+/// isn't complete, since a cycle without a cover is claimed by nobody.
 pub fn meeting_covers_are_needed()
     ensures sound { IsSoundButTiled (meaning_of uncovered) uncovered }
     ensures valid { AreValid (meaning_of uncovered) uncovered }

@@ -25,9 +25,9 @@ pub fn counter_is_signed_off()
     ensures signed_off { IsSignedOff counter_design (meaning_of counter_set) counter_set }
 {}
 
-/// So each of its runs from reset, of any length, satisfies the set and is a walk along `step` and `hold`. And in any two
-/// traces with the same en that satisfy the set q is the same: in finite ones at each cycle after which the largest window
-/// fits, in infinite ones at every cycle.
+/// So each of its runs from reset, of any length, satisfies the set and is a walk along `step` and `hold`. And in any
+/// two traces with the same en that satisfy the set q is the same: in finite ones at each cycle after which the largest
+/// window fits, in infinite ones at every cycle.
 pub fn counter_is_complete()
     ensures runs { RunsSatisfy counter_design (meaning_of counter_set) counter_set }
     ensures walks { RunsWalk counter_design (meaning_of counter_set) counter_set }

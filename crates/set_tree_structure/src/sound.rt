@@ -60,9 +60,9 @@ pub struct Unsound {
     pub fault: GraphFault,
 }
 
-/// Tests the structure of a set that keeps the bounds and the names of a set that was read. Refused by the first fault that stands: what
-/// reset hands over, offsets of invariants and of domains, then for each property its edge into reset, its offsets and its covers, and
-/// then the edges on which covers don't meet.
+/// Tests the structure of a set that keeps the bounds and the names of a set that was read. Refused by the first fault
+/// that stands: what reset hands over, offsets of invariants and of domains, then for each property its edge into
+/// reset, its offsets and its covers, and then the edges on which covers don't meet.
 pub fn structure(set: Set) -> Result<Sound, Unsound>
     requires { IsWellFormed set }
     ensures ok { IfOk result (λ s. s ≡ set) }

@@ -3,7 +3,7 @@ use outside::{FileShelf, OutFault, Shelf, Text};
 use signoff_words::Job;
 use std::alloc::{AllocError, Global};
 
-/// The most bytes of a text.
+// The most bytes of a text.
 const LIMIT: usize = 1048576;
 
 /// The bytes of a job's two files.
@@ -26,7 +26,7 @@ pub fn read_again(rt: &HostRuntime, job: &Job) -> Result<Option<Read>, AllocErro
     Ok(Some(Read { module, set }))
 }
 
-/// A file, none where it can't be read any more.
+// A file, none where it can't be read any more.
 fn bytes_of<F: Shelf>(
     shelf: &mut F,
     alloc: Global,

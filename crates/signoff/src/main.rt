@@ -1,5 +1,6 @@
-//! signoff: reads a Verilog module and a set of operation properties, decides the lines of their report, and prints it. On standard error it says where and
-//! why it refused, or how it is called, what a counterexample shows, and where that is wanted how far it is.
+//! signoff: reads a Verilog module and a set of operation properties, decides the lines of their report, and prints it.
+//! On standard error it says where and why it refused, or how it is called, what a counterexample shows, and where that
+//! is wanted how far it is.
 #![tactic(auto)]
 
 mod files;
@@ -18,10 +19,10 @@ use std::io::ErrorKind;
 use std::process::ExitCode;
 use std::time::Instant;
 
-/// The status where memory is wanting.
+// The status where memory is wanting.
 const NO_MEMORY: u8 = 70;
 
-/// Answers the words over real objects, and ends with the status.
+// Answers the words over real objects, and ends with the status.
 fn main(rt: HostRuntime) -> ExitCode {
     let since = Instant::now(&rt).ok();
     let Ok(words) = words_of(&rt) else {
@@ -37,7 +38,7 @@ fn main(rt: HostRuntime) -> ExitCode {
     ExitCode::from(status)
 }
 
-/// The words after the program's name. Those that aren't text count as wrong ones: there are none then. Refused for want of memory alone.
+// The words after the program's name. Those that aren't text count as wrong ones: there are none then.
 fn words_of(rt: &HostRuntime) -> Result<Vec<String>, AllocError> {
     match env::args(rt) {
         Ok(all) => all.skip(1).collect(rt.alloc()),

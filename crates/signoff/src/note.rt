@@ -1,4 +1,5 @@
-// What standard error says of a refusal, and of a counterexample. The status and what went to standard output stand before, and don't depend on it.
+// What standard error says of a refusal, and of a counterexample. The status and what went to standard output stand
+// before, and don't depend on it.
 use crate::files::read_again;
 use desk_core_faults::CheckFault;
 use desk_core_goals::all_lines;
@@ -15,15 +16,16 @@ use std::io::Write;
 use twin_tests_laws::line_name;
 use unroll_binding::Bound;
 
-/// Says on standard error where and why the words were refused with a status, how the program is called, or what the counterexample shows that the book
-/// has. Where that can't be said, as for want of memory, nothing is.
+/// Says on standard error where and why the words were refused with a status, how the program is called, or what the
+/// counterexample shows that the book has. Where that can't be said, as where memory runs out, nothing is.
 pub fn put_note(rt: &HostRuntime, words: &[String], status: u8, book: &Book) {
     if let Ok(Some(note)) = note_of(rt, words, status, book) {
         let _ = rt.stderr().write_all(note.bytes());
     }
 }
 
-/// What is said of words, their status and the lines that were decided; nothing where the words weren't refused and no counterexample is shown.
+// What is said of words, their status and the lines that were decided; nothing where the words weren't refused and no
+// counterexample is shown.
 fn note_of(
     rt: &HostRuntime,
     words: &[String],
@@ -38,7 +40,7 @@ fn note_of(
     }
 }
 
-/// What is said of words that are no command: what the program is, or how it is called.
+// What is said of words that are no command: what the program is, or how it is called.
 fn how_called(alloc: Global, words: &[String]) -> Result<Text, AllocError> {
     match words {
         [word] if word.as_str() == "--version" => version(alloc),
@@ -60,7 +62,7 @@ fn note_of_job(
     }
 }
 
-/// What is said of two texts that were refused: they go through the stages again.
+// What is said of two texts that were refused: they go through the stages again.
 fn note_of_texts(rt: &HostRuntime, job: &Job) -> Result<Option<Text>, AllocError> {
     let alloc = rt.alloc();
     let Some(read) = read_again(rt, job)? else {
@@ -80,7 +82,7 @@ fn note_of_texts(rt: &HostRuntime, job: &Job) -> Result<Option<Text>, AllocError
     }
 }
 
-/// What the counterexample shows of the one line that was asked for.
+// What the counterexample shows of the one line that was asked for.
 fn note_of_trace(rt: &HostRuntime, job: &Job, book: &Book) -> Result<Option<Text>, AllocError> {
     let name = match &job.task {
         Task::Decide(Which::One(name) | Which::Least(name)) | Task::Wave(name) => name,
@@ -110,7 +112,7 @@ fn note_of_trace(rt: &HostRuntime, job: &Job, book: &Book) -> Result<Option<Text
     }
 }
 
-/// What a counterexample shows of the line of this name.
+// What a counterexample shows of the line of this name.
 fn shown_in(
     alloc: Global,
     file: SetFile<'_>,
@@ -125,7 +127,7 @@ fn shown_in(
     }
 }
 
-/// The line of a name.
+// The line of a name.
 fn line_named(alloc: Global, bound: &Bound, name: &Text) -> Result<Option<Line>, AllocError> {
     for line in all_lines(alloc, bound)? {
         if line_name(alloc, bound.set().set(), line)?.bytes() == name.bytes() {

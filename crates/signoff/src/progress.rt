@@ -17,7 +17,8 @@ pub struct Wish {
     pub summary: bool,
 }
 
-/// With `--progress` how many of the lines that are asked for were handed to workers, and a summary; on a terminal how many were; else nothing.
+/// With `--progress` how many of the lines that are asked for were handed to workers, and a summary; on a terminal how
+/// many were; else nothing.
 pub fn wish_of(rt: &HostRuntime, words: &[String]) -> Wish {
     let mut told = Told::Nothing;
     let mut summary = false;
@@ -39,7 +40,7 @@ fn told_of(rt: &HostRuntime, job: &Job) -> Told {
     }
 }
 
-/// How many lines a job asks for; none where the texts aren't there or are refused.
+// How many lines a job asks for; none where the texts aren't there or are refused.
 fn lines_asked(rt: &HostRuntime, job: &Job) -> Result<Option<usize>, AllocError> {
     if asks_one(&job.task) {
         return Ok(Some(1));
@@ -87,7 +88,7 @@ fn count_asked(alloc: Global, bound: &Bound, task: &Task) -> Result<usize, Alloc
     })
 }
 
-/// Whether a line is about the block alone.
+// Whether a line is about the block alone.
 fn is_of_design(line: Line) -> bool {
     matches!(
         line,

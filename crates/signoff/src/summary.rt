@@ -4,8 +4,8 @@ use std::io;
 use std::io::Write;
 use std::time::Instant;
 
-/// Says on standard error how many lines were decided and how, where their evidence came from, and the seconds since the program began. A command that
-/// decides no lines has no summary. Where it can't be said, nothing is.
+/// Says on standard error how many lines were decided and how, where their evidence came from, and the seconds since
+/// the program began. A command that decides no lines has no summary. Where it can't be said, nothing is.
 pub fn put_summary(rt: &HostRuntime, book: &Book, since: Option<Instant>) {
     if !book.lines.is_empty() {
         let _ = say(rt, book, since);

@@ -94,7 +94,8 @@ fn accepted<R: Threads + Sync, K: Keeper, H: Helper, G: Gate + Sync>(
     }
 }
 
-/// The derivation that a text has of the clauses of a line of two texts, kept where our own checker accepts it, and the line decided over what is kept.
+/// The derivation that a text has of the clauses of a line of two texts, kept where our own checker accepts it, and the
+/// line decided over what is kept.
 pub fn accepted_in<R: Threads + Sync, K: Keeper, H: Helper, G: Gate + Sync>(
     checker: &mut Checker<'_, '_, '_, '_, R, K, H, G>,
     module: &Text,

@@ -153,7 +153,7 @@ fn refused(alloc: Global, fault: &CheckFault) -> Result<Answer, AllocError>
     refusal(alloc, status_of(fault), line.bytes(), b"")
 }
 
-/// The answer where a stage refuses; want of memory is none.
+/// The answer where a stage refuses; running out of memory is none.
 pub fn turned_down(alloc: Global, fault: CheckFault) -> Result<Answer, AllocError>
     ensures memory { IfOk result (λ _. fault ≢ Memory) }
     ensures line { IfOk result (λ a. a ≡ refusal_of (status_of fault) (fault_line fault)) }

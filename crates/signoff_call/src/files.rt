@@ -24,10 +24,10 @@ pub enum Read {
     All(Texts),
 }
 
-/// The most bytes of a module's text, a set's, and of rows.
+// The most bytes of a module's text, a set's, and of rows.
 const LIMIT: usize = 1048576;
 
-/// The most bytes of a derivation's text.
+// The most bytes of a derivation's text.
 const PROOF_LIMIT: usize = 67108864;
 
 // Reads a file up to one byte past a limit.

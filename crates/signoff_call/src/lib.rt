@@ -1,4 +1,5 @@
-//! The top call: reads a Verilog module and a set of operation properties, decides the lines of their report, and puts it.
+//! The top call: reads a Verilog module and a set of operation properties, decides the lines of their report, and puts
+//! it.
 #![tactic(auto)]
 
 mod accepting;

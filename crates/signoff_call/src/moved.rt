@@ -14,7 +14,7 @@ use outside::{Keeper, Text};
 use proof_store::{Moved, StoreFault, migrate};
 use std::alloc::{AllocError, Global};
 
-/// The most rows that are come to.
+// The most rows that are come to.
 const MOST: u64 = 1_099_511_627_776;
 
 // Adds a number and a word.

@@ -178,7 +178,8 @@ fn walk_shown<R: Threads + Sync, K: Keeper, H: Helper, G: Gate + Sync>(
     }
 }
 
-/// The path that the run takes whose inputs are given by rows, through the operations of the set of two texts, where it is signed off.
+/// The path that the run takes whose inputs are given by rows, through the operations of the set of two texts, where it
+/// is signed off.
 pub fn walk_of<R: Threads + Sync, K: Keeper, H: Helper, G: Gate + Sync>(
     checker: &mut Checker<'_, '_, '_, '_, R, K, H, G>,
     module: &Text,

@@ -24,30 +24,34 @@ use signoff_words::{Command, Job, Task, command_in};
 use std::alloc::{AllocError, Global};
 use std::thread::Threads;
 
-/// The top call: answers the words, and puts the answer; the lines that it decides stand in the book. The commands are `ops M S`, which decides the
-/// lines on the design of the module in the file M with the set in the file S, `check M S`, which decides all lines, `trace M S NAME`, which decides the
-/// line of this name and puts its counterexample where it is refuted, `least M S NAME`, which puts the least one, `wave M S NAME`, which puts it as a
-/// waveform, `meet M S` and `meet M S NAME`, which say what can be met, `machine M S`, which decides all lines and puts the operations of a set that is
-/// signed off as a machine, with the option `--dot` as a graph, and `walk M S ROWS`, which puts the path of the run from reset whose registers are 0 at
-/// first and whose inputs the file ROWS gives, each with the options `--budget B`, `--workers W`, `--store FILE` and `--progress`; `lines M S`, which puts
-/// the names of all lines and decides none, `clauses M S NAME`, which puts the clauses of the line of this name, `accept M S NAME PROOF --store FILE`, which
-/// keeps the derivation of them in the file PROOF and then decides the line, `demo N`, which checks the generated texts of N
-/// stages, `serve PORT COUNT FILE`, which serves the desk that FILE holds to COUNT connections at PORT, and `migrate FILE`, which puts the proofs that
-/// FILE keeps again as records of the newest form. Lines whose proofs the keeper holds aren't solved again, and new proofs are
-/// put to it; the helpers are asked before the workers. The status is
+/// The top call: answers the words, and puts the answer; the lines that it decides stand in the book. The commands are
+/// `ops M S`, which decides the lines on the design of the module in the file M with the set in the file S, `check M
+/// S`, which decides all lines, `trace M S NAME`, which decides the line of this name and puts its counterexample where
+/// it is refuted, `least M S NAME`, which puts the least one, `wave M S NAME`, which puts it as a waveform, `meet M S`
+/// and `meet M S NAME`, which say what can be met, `machine M S`, which decides all lines and puts the operations of a
+/// set that is signed off as a machine, with the option `--dot` as a graph, and `walk M S ROWS`, which puts the path of
+/// the run from reset whose registers are 0 at first and whose inputs the file ROWS gives, each with the options
+/// `--budget B`, `--workers W`, `--store FILE` and `--progress`; `lines M S`, which puts the names of all lines and
+/// decides none, `clauses M S NAME`, which puts the clauses of the line of this name, `accept M S NAME PROOF --store
+/// FILE`, which keeps the derivation of them in the file PROOF and then decides the line, `demo N`, which checks the
+/// generated texts of N stages, `serve PORT COUNT FILE`, which serves the desk that FILE holds to COUNT connections at
+/// PORT, and `migrate FILE`, which puts the proofs that FILE keeps again as records of the newest form. Lines whose
+/// proofs the keeper holds aren't solved again, and new proofs are put to it; the helpers are asked before the workers.
+/// The status is
 ///
 /// - 2 where the words are no command, or no line has the name, with the line `usage`;
 /// - 6 where a file can't be read, with the line `read: ` and its name, the first in the order of the words;
-/// - 3 where the module text is refused, `module: ` and the fault; 4 where the set's text is, `set: ` and the fault; 5 where the set doesn't fit the
-///   design, `bind: ` and the fault. The first stage that refuses is answered: the module text is read, then the set's, then the modules are made a design;
+/// - 3 where the module text is refused, `module: ` and the fault; 4 where the set's text is, `set: ` and the fault; 5
+///   where the set doesn't fit the design, `bind: ` and the fault. The first stage that refuses is answered: the module
+///   text is read, then the set's, then the modules are made a design;
 /// - 11 where rows are refused or their run breaks a constraint, with the line `rows: ` and the fault or the cycle;
 /// - 12 where a derivation isn't accepted or may not be kept, with the line `proof: ` and the fault;
 /// - 8 where the keeper fails, with the line `keeper`; while the desk is served a peer is told so;
 /// - 9 where the port has no next connection, with the line `port`;
 /// - 7 where the sink refuses a report;
-/// - 1 where a line is refuted, or for `meet` met by nothing, 10 where none is and one is spent, and 0 else, with the report, or where all connections
-///   were served, with the line `served` and their number;
-/// - 70 for want of memory.
+/// - 1 where a line is refuted, or for `meet` met by nothing, 10 where none is and one is spent, and 0 else, with the
+///   report, or where all connections were served, with the line `served` and their number;
+/// - 70 where memory runs out.
 pub fn signoff<R: Threads + Sync, F: Shelf, S: Sink, K: Keeper, P: Port, H: Helper, G: Gate + Sync>(
     rt: &R,
     alloc: Global,
@@ -62,7 +66,7 @@ pub fn signoff<R: Threads + Sync, F: Shelf, S: Sink, K: Keeper, P: Port, H: Help
 ) -> u8
     requires { book.old.lines.items ≡ [] }
 
-    // 2 comes where the words are no command, save for want of memory.
+    // 2 comes where the words are no command, unless memory runs out.
     ensures no_command { command_of (map string_bytes words.now) ≡ None → (result ≡ 2) ⊎ (result ≡ 70) }
 
     // 6, 7, 8 and 9 only where the shelf, the sink, the keeper or the port has failed in this call.
@@ -71,8 +75,8 @@ pub fn signoff<R: Threads + Sync, F: Shelf, S: Sink, K: Keeper, P: Port, H: Help
     ensures keeper_fault { result ≡ 8 → Rose (K.faults keeper.old) (K.faults keeper.new) }
     ensures port_fault { result ≡ 9 → Rose (P.next_faults port.old) (P.next_faults port.new) }
 
-    // Whatever the status, also 70, blocks and sign-offs are as before, or as connections left them; and each proof that differs is one of an obligation of
-    // this call, under its text, or was moved.
+    // Whatever the status, also 70, blocks and sign-offs are as before, or as connections left them; and each proof
+    // that differs is one of an obligation of this call, under its text, or was moved.
     ensures left { (asked : List ℕ) × LeavesRows (F.files shelf.old) (command_of (map string_bytes words.now))
         (around (state (K.tables keeper.old) (K.faults keeper.old) (map H.asked helpers.items) book.old) (line (P.wire port.old) (P.faults port.old)))
         (around (state (K.tables keeper.new) (K.faults keeper.new) asked book.new) (line (P.wire port.new) (P.faults port.new))) }
@@ -105,7 +109,7 @@ pub fn signoff<R: Threads + Sync, F: Shelf, S: Sink, K: Keeper, P: Port, H: Help
     }
 }
 
-/// The answer to words.
+// The answer to words.
 fn answered<R: Threads + Sync, F: Shelf, K: Keeper, P: Port, H: Helper, G: Gate + Sync>(
     checker: &mut Checker<'_, '_, '_, '_, R, K, H, G>,
     words: &[String],
@@ -176,7 +180,7 @@ fn job_answer<R: Threads + Sync, K: Keeper, H: Helper, G: Gate + Sync>(
     }
 }
 
-/// Puts the answer line by line, and says the status.
+// Puts the answer line by line, and says the status.
 fn deliver<S: Sink>(alloc: Global, answer: &Answer, out: &mut S) -> u8
     ensures { Delivers answer.now result (S.faults out.old) (S.faults out.new) (S.written out.old) (S.written out.new) }
 {

@@ -8,7 +8,7 @@ use signoff_places::{
 use std::alloc::{AllocError, Global};
 use vlog_tree::Token;
 
-/// The cover of an output that a property has.
+// The cover of an output that a property has.
 fn cover_of(property: &Property, output: u32) -> Option<Cover> {
     for cover in property.covers.as_slice() {
         if cover.output == output {
@@ -18,7 +18,7 @@ fn cover_of(property: &Property, output: u32) -> Option<Cover> {
     None
 }
 
-/// The cycle of the property that follows in which a cover ends.
+// The cycle of the property that follows in which a cover ends.
 fn end_in_next(property: &Property, cover: Cover) -> Option<u64> {
     match cover.to {
         To::At(offset) => u64::from(offset).checked_sub(u64::from(property.length.high)),
@@ -26,7 +26,7 @@ fn end_in_next(property: &Property, cover: Cover) -> Option<u64> {
     }
 }
 
-/// The place of the cover of an output in a property, else that of the property.
+// The place of the cover of an output in a property, else that of the property.
 fn cover_byte(tokens: &[Token], property: &[u8], output: &[u8]) -> Option<usize> {
     let property = property_in(tokens, property)?;
     byte_at(cover_in(property, output).unwrap_or(property))
@@ -77,7 +77,7 @@ pub fn tile_finding(
     Ok(Finding::of_set(byte, tile_sentence(alloc, set, edge)?))
 }
 
-/// What is wrong with the only cover of an output in a property.
+// What is wrong with the only cover of an output in a property.
 fn bounds_hint(property: &Property, at: u32, output: u32) -> &'static str {
     let Some(cover) = cover_of(property, output) else {
         return "is missing";
@@ -91,7 +91,7 @@ fn bounds_hint(property: &Property, at: u32, output: u32) -> &'static str {
     "ends from its begin to the window + 1"
 }
 
-/// The sentence for a property that has so many covers of an output.
+// The sentence for a property that has so many covers of an output.
 fn cover_sentence(
     alloc: Global,
     set: &Set,

@@ -6,7 +6,7 @@ use outside::Text;
 use signoff_places::{Pick, declared_in, text_of};
 use std::alloc::{AllocError, Global};
 
-/// The wrong form of assignment, by what is declared.
+// The wrong form of assignment, by what is declared.
 fn kind_sentence(alloc: Global, sources: &Sources<'_>, path: &Text) -> Result<String, AllocError> {
     let name = text_of(path);
     let declared = sources
@@ -66,7 +66,7 @@ fn sentence_of(
     }
 }
 
-/// The name that a fault is about.
+// The name that a fault is about.
 fn name_of(fault: &ElabFault) -> Option<&Text> {
     match fault {
         ElabFault::Latch(name)

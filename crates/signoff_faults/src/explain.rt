@@ -96,7 +96,7 @@ fn finding_of(alloc: Global, texts: &Texts<'_>, fault: &CheckFault) -> Result<Fi
     check_finding(alloc, texts, &sources, fault)
 }
 
-/// Adds `FILE:LINE:COL: `, as far as it is known.
+// Adds `FILE:LINE:COL: `, as far as it is known.
 fn add_place(
     out: &mut Vec<u8>,
     alloc: Global,
@@ -112,7 +112,7 @@ fn add_place(
     out.extend_from_slice(b": ")
 }
 
-/// What is put for a finding in a file.
+// What is put for a finding in a file.
 fn put_in_file(
     alloc: Global,
     name: &[u8],
@@ -140,8 +140,9 @@ fn add_sentence(out: &mut Vec<u8>, finding: &Finding) -> Result<(), AllocError> 
     Ok(())
 }
 
-/// What a refusal says to a reader: the file, the line and the column of the fault, as far as they are known, a sentence that says what is wrong and what
-/// would be right, and the line itself with a mark below the place. The texts are those that were refused by this fault. Refused only for want of memory.
+/// What a refusal says to a reader: the file, the line and the column of the fault, as far as they are known, a
+/// sentence that says what is wrong and what would be right, and the line itself with a mark below the place. The texts
+/// are those that were refused by this fault.
 pub fn explained(
     alloc: Global,
     names: &Files<'_>,

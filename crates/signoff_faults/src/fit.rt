@@ -24,7 +24,7 @@ fn missing(alloc: Global, sources: &Sources<'_>, name: &Text) -> Result<Finding,
     Ok(Finding::of_set(byte, sentence))
 }
 
-/// The width that a signal has in the block, where the text has it in plain numbers.
+// The width that a signal has in the block, where the text has it in plain numbers.
 fn width_in_block(sources: &Sources<'_>, name: &Text) -> Option<u64> {
     let named = sources.named(name.bytes())?;
     width_at(declared_in(named.body, named.last, Pick::First)?.range())
@@ -48,7 +48,7 @@ fn other_width(alloc: Global, sources: &Sources<'_>, name: &Text) -> Result<Find
     Ok(Finding::of_set(byte, sentence))
 }
 
-/// The word behind a word of the set's head.
+// The word behind a word of the set's head.
 fn named_behind<'a>(sources: &Sources<'a>, word: &[u8]) -> &'a str {
     match first(sources.set, word) {
         Some(place) => shown(word_at(place, 1)),
@@ -67,7 +67,7 @@ fn extra_input(alloc: Global, sources: &Sources<'_>, name: &Text) -> Result<Find
     Ok(Finding::of_module(byte, sentence))
 }
 
-/// The sentence for a declared name that is something else in the block.
+// The sentence for a declared name that is something else in the block.
 fn declared_role(
     alloc: Global,
     declared: &DeclaredInSet<'_>,

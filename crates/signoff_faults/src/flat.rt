@@ -10,7 +10,7 @@ use signoff_places::{
 };
 use std::alloc::{AllocError, Global};
 
-/// No module has the name of the set's block.
+// No module has the name of the set's block.
 fn no_top(alloc: Global, sources: &Sources<'_>) -> Result<Finding, AllocError> {
     let byte = behind_word(sources.set, b"block", sources.top).and_then(|place| byte_at(place));
     let top = shown(sources.top);
@@ -20,14 +20,14 @@ fn no_top(alloc: Global, sources: &Sources<'_>) -> Result<Finding, AllocError> {
     Ok(Finding::of_set(byte, sentence))
 }
 
-/// The second module of a name.
+// The second module of a name.
 fn module_again(sources: &Sources<'_>, name: &[u8]) -> Option<usize> {
     let first = byte_at(behind_word(sources.modules, b"module", name)?)?;
     let last = byte_at(last_behind_word(sources.modules, b"module", name)?)?;
     if first == last { None } else { Some(last) }
 }
 
-/// The last place at which a name of a module is declared or given.
+// The last place at which a name of a module is declared or given.
 fn last_place(named: &Named<'_>) -> Option<usize> {
     if let Some(instance) = last_instance_in(named.body, named.last) {
         return byte_at(instance.named);
@@ -38,7 +38,7 @@ fn last_place(named: &Named<'_>) -> Option<usize> {
     }
 }
 
-/// A name that is declared twice, or a parameter that is given twice.
+// A name that is declared twice, or a parameter that is given twice.
 fn twice(alloc: Global, sources: &Sources<'_>, name: &Text) -> Result<Finding, AllocError> {
     let text = text_of(name);
     if let Some(byte) = module_again(sources, name.bytes()) {
@@ -55,12 +55,12 @@ fn twice(alloc: Global, sources: &Sources<'_>, name: &Text) -> Result<Finding, A
     Ok(Finding::of_module(byte, sentence))
 }
 
-/// Whether a name is declared, and doesn't stand for an instance.
+// Whether a name is declared, and doesn't stand for an instance.
 fn is_declared(named: &Named<'_>) -> bool {
     declared_in(named.body, named.last, Pick::First).is_some()
 }
 
-/// What must be constant isn't: a declaration, by its name, or an expression, by the name of its instance.
+// What must be constant isn't: a declaration, by its name, or an expression, by the name of its instance.
 fn constant(alloc: Global, sources: &Sources<'_>, name: &Text) -> Result<Finding, AllocError> {
     let byte = sources.byte_of(name.bytes());
     let text = text_of(name);
@@ -81,7 +81,7 @@ fn constant(alloc: Global, sources: &Sources<'_>, name: &Text) -> Result<Finding
     Ok(Finding::of_module(suspect.or(byte), sentence))
 }
 
-/// A width is out of bounds: that of a declaration, by its name, or of an expression, by the name of its instance.
+// A width is out of bounds: that of a declaration, by its name, or of an expression, by the name of its instance.
 fn width(alloc: Global, sources: &Sources<'_>, name: &Text) -> Result<Finding, AllocError> {
     let byte = sources.byte_of(name.bytes());
     let text = text_of(name);
@@ -102,7 +102,7 @@ fn width(alloc: Global, sources: &Sources<'_>, name: &Text) -> Result<Finding, A
     Ok(Finding::of_module(suspect.or(byte), sentence))
 }
 
-/// A module that contains itself.
+// A module that contains itself.
 fn recursion(alloc: Global, sources: &Sources<'_>, name: &Text) -> Result<Finding, AllocError> {
     let byte = sources.byte_of(name.bytes());
     let name = text_of(name);
@@ -112,7 +112,7 @@ fn recursion(alloc: Global, sources: &Sources<'_>, name: &Text) -> Result<Findin
     Ok(Finding::of_module(byte, sentence))
 }
 
-/// Which rule on clocks is broken.
+// Which rule on clocks is broken.
 fn clock(alloc: Global, sources: &Sources<'_>, name: &Text) -> Result<Finding, AllocError> {
     let Some(named) = sources.named(name.bytes()) else {
         return Ok(Finding::of_module(None, String::from_str(alloc, "a rule on clocks is broken")?));

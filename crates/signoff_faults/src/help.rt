@@ -46,12 +46,12 @@ const VERSION: &[u8] =
     b"signoff, an interval property checker for Verilog blocks; `signoff --help` says how it is called
 ";
 
-/// What the program is. Refused only for want of memory.
+/// What the program is.
 pub fn version(alloc: Global) -> Result<Text, AllocError> {
     Text::copy(alloc, VERSION)
 }
 
-/// How the program is called: its commands, options and statuses. Refused only for want of memory.
+/// How the program is called: its commands, options and statuses.
 pub fn usage(alloc: Global) -> Result<Text, AllocError> {
     Text::copy(alloc, USAGE)
 }

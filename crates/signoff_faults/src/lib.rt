@@ -1,5 +1,6 @@
-//! What a refusal is about, for a reader at a terminal: the place of its fault in the text, a sentence that says what is wrong and what would be right,
-//! and the line of the place. The calls are safe and end; that the places and the sentences are right is tested, not proved.
+//! What a refusal is about, for a reader at a terminal: the place of its fault in the text, a sentence that says what
+//! is wrong and what would be right, and the line of the place. The calls are safe and end; that the places and the
+//! sentences are right is tested, not proved.
 #![tactic(auto)]
 
 mod covers;

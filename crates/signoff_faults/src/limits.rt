@@ -8,7 +8,7 @@ use signoff_places::{
 use std::alloc::{AllocError, Global};
 use vlog_tree::Token;
 
-/// The sentence for a quantity.
+// The sentence for a quantity.
 fn limit_sentence(quantity: Quantity) -> &'static str {
     match quantity {
         Quantity::Width =>
@@ -27,7 +27,7 @@ fn limit_sentence(quantity: Quantity) -> &'static str {
     }
 }
 
-/// The place of the word that follows so many of its kind.
+// The place of the word that follows so many of its kind.
 fn surplus(set: &[Token], word: &[u8], most: usize) -> Option<usize> {
     let mut rest = set;
     for _ in 0..most {
@@ -36,7 +36,7 @@ fn surplus(set: &[Token], word: &[u8], most: usize) -> Option<usize> {
     byte_at(first(rest, word)?)
 }
 
-/// The declaration that follows 256 others.
+// The declaration that follows 256 others.
 fn surplus_name(set: &[Token]) -> Option<usize> {
     let mut seen = 0u32;
     for at in 0..set.len() {
@@ -58,7 +58,7 @@ fn is_bad_width(range: &[Token]) -> bool {
     }
 }
 
-/// The range of a declaration that isn't 1 to 64 bits.
+// The range of a declaration that isn't 1 to 64 bits.
 fn bad_width(set: &[Token]) -> Option<usize> {
     for at in 0..set.len() {
         let here = &set[at..];
@@ -76,12 +76,12 @@ fn bad_width(set: &[Token]) -> Option<usize> {
     None
 }
 
-/// The number of the cycles of reset.
+// The number of the cycles of reset.
 fn bad_cycles(set: &[Token]) -> Option<usize> {
     byte_at(behind(first(set, b"reset")?, 3))
 }
 
-/// Where a length leaves its bounds, from the word `length` on: at its greatest number, or at its only one.
+// Where a length leaves its bounds, from the word `length` on: at its greatest number, or at its only one.
 fn bad_number(length: &[Token]) -> Option<&[Token]> {
     let low = number_at(length, 1)?;
     match number_at(length, 3) {
@@ -91,7 +91,7 @@ fn bad_number(length: &[Token]) -> Option<&[Token]> {
     }
 }
 
-/// The first length that leaves its bounds. A length of 0 is reset's alone, which comes first.
+// The first length that leaves its bounds. A length of 0 is reset's alone, which comes first.
 fn bad_length(set: &[Token]) -> Option<usize> {
     let mut is_first = true;
     for at in 0..set.len() {
@@ -109,12 +109,12 @@ fn bad_length(set: &[Token]) -> Option<usize> {
     None
 }
 
-/// The greatest length of a property, from the word `length` on.
+// The greatest length of a property, from the word `length` on.
 fn greatest_length(length: &[Token]) -> u64 {
     number_at(length, 3).or(number_at(length, 1)).unwrap_or(0)
 }
 
-/// The first window that leaves its bounds, or the first offset of a constraint that does.
+// The first window that leaves its bounds, or the first offset of a constraint that does.
 fn bad_window(set: &[Token]) -> Option<usize> {
     let mut length = 0;
     for at in 0..set.len() {
@@ -137,7 +137,7 @@ fn bad_window(set: &[Token]) -> Option<usize> {
     None
 }
 
-/// The first list of more than 64 expressions that are handed over.
+// The first list of more than 64 expressions that are handed over.
 fn bad_hands(set: &[Token]) -> Option<usize> {
     for at in 0..set.len() {
         let here = &set[at..];
@@ -148,7 +148,7 @@ fn bad_hands(set: &[Token]) -> Option<usize> {
     None
 }
 
-/// The byte at which a quantity leaves its bounds.
+// The byte at which a quantity leaves its bounds.
 fn limit_byte(set: &[Token], quantity: Quantity) -> Option<usize> {
     match quantity {
         Quantity::Width => bad_width(set),

@@ -6,7 +6,7 @@ use outside::Text;
 use signoff_places::text_of;
 use std::alloc::{AllocError, Global};
 
-/// A finding about a memory or a word of one, at the place of its declaration.
+// A finding about a memory or a word of one, at the place of its declaration.
 fn named(
     alloc: Global,
     sources: &Sources<'_>,

@@ -9,7 +9,7 @@ use signoff_places::{
 use std::alloc::{AllocError, Global};
 use vlog_tree::Token;
 
-/// An instance whose module the text doesn't have, or that is given more parameters than its module has.
+// An instance whose module the text doesn't have, or that is given more parameters than its module has.
 fn unfit_instance(
     alloc: Global,
     sources: &Sources<'_>,
@@ -29,7 +29,7 @@ fn unfit_instance(
     Ok(Finding::of_module(byte_at(instance.named), sentence))
 }
 
-/// A port or a parameter that is given at an instance and that its module doesn't have.
+// A port or a parameter that is given at an instance and that its module doesn't have.
 fn unknown_port(
     alloc: Global,
     named: &Named<'_>,
@@ -43,7 +43,7 @@ fn unknown_port(
     Ok(Finding::of_module(byte_at(given), sentence))
 }
 
-/// A name that a module uses.
+// A name that a module uses.
 fn unknown_name(alloc: Global, named: &Named<'_>, name: &str) -> Result<Finding, AllocError> {
     let of = shown(named.module_name());
     let byte = used_in(named.body, named.last).and_then(|place| byte_at(place));
@@ -59,12 +59,12 @@ fn unknown_name(alloc: Global, named: &Named<'_>, name: &str) -> Result<Finding,
     Ok(Finding::of_module(byte, sentence))
 }
 
-/// The place at which an instance is given a port or a parameter by a name.
+// The place at which an instance is given a port or a parameter by a name.
 fn given_at<'a>(named: &Named<'a>) -> Option<&'a [Token]> {
     given_in(&named.outer?, named.last)
 }
 
-/// A name that isn't declared in the module in which it should be.
+// A name that isn't declared in the module in which it should be.
 fn undeclared(
     alloc: Global,
     sources: &Sources<'_>,
@@ -98,7 +98,7 @@ pub fn unknown_finding(
     }
 }
 
-/// An instance with more or fewer connections than its module has ports.
+// An instance with more or fewer connections than its module has ports.
 fn unfit_count(alloc: Global, instance: &Instance<'_>, name: &str) -> Result<Finding, AllocError> {
     let of = shown(instance.of_module());
     let sentence = format!(in alloc;
@@ -107,7 +107,7 @@ fn unfit_count(alloc: Global, instance: &Instance<'_>, name: &str) -> Result<Fin
     Ok(Finding::of_module(byte_at(instance.named), sentence))
 }
 
-/// A port that is connected and doesn't fit.
+// A port that is connected and doesn't fit.
 fn unfit_port(alloc: Global, given: &[Token], name: &str) -> Result<Finding, AllocError> {
     let sentence = format!(in alloc;
         "the port `{name}` is connected twice, or is an output connected to what can't be assigned"
@@ -135,7 +135,7 @@ pub fn port_finding(
     }
 }
 
-/// A name that stands in the list of a module's ports without a direction, or has a direction and doesn't stand there.
+// A name that stands in the list of a module's ports without a direction, or has a direction and doesn't stand there.
 fn header_finding(alloc: Global, named: &Named<'_>, name: &str) -> Result<Finding, AllocError> {
     let of = shown(named.module_name());
     let byte = used_in(named.body, named.last).and_then(|place| byte_at(place));

@@ -28,7 +28,7 @@ pub fn word_from(text: &[u8], byte: usize) -> &[u8] {
     rest
 }
 
-/// The sentence for a byte that begins no token.
+// The sentence for a byte that begins no token.
 fn bytes_sentence(alloc: Global, text: &[u8], byte: usize) -> Result<String, AllocError> {
     let sentence = match text.get(byte..).unwrap_or(b"") {
         [b'/', b'*', ..] => "this comment has no end: `*/` is missing",
@@ -39,7 +39,7 @@ fn bytes_sentence(alloc: Global, text: &[u8], byte: usize) -> Result<String, All
     String::from_str(alloc, sentence)
 }
 
-/// The sentence for a number that breaks a rule.
+// The sentence for a number that breaks a rule.
 fn number_sentence(alloc: Global, text: &[u8], byte: usize) -> Result<String, AllocError> {
     let number = word_from(text, byte);
     if number == b"'0".as_slice() || number == b"'1".as_slice() {
@@ -93,7 +93,7 @@ pub fn read_finding(
     Ok(Finding::of_module(byte, sentence))
 }
 
-/// The place at which a name is used that isn't declared, or that is covered and is no output.
+// The place at which a name is used that isn't declared, or that is covered and is no output.
 fn unknown_byte(set: &[Token], name: &[u8]) -> Option<usize> {
     match declared_in_set(set, name, Pick::First) {
         Some(_) => byte_at(behind(cover_in(set, name)?, 1)),
@@ -101,7 +101,7 @@ fn unknown_byte(set: &[Token], name: &[u8]) -> Option<usize> {
     }
 }
 
-/// A name that isn't declared in a set.
+// A name that isn't declared in a set.
 fn unknown_name(alloc: Global, set: &[Token], name: &Text) -> Result<Finding, AllocError> {
     let byte = unknown_byte(set, name.bytes());
     let clause = clause_before(set, byte.unwrap_or(0));
@@ -118,7 +118,7 @@ fn unknown_name(alloc: Global, set: &[Token], name: &Text) -> Result<Finding, Al
     Ok(Finding::of_set(byte, sentence))
 }
 
-/// The second declaration of a name.
+// The second declaration of a name.
 fn declared_again<'a>(set: &'a [Token], name: &[u8]) -> Option<&'a [Token]> {
     let one = declared_in_set(set, name, Pick::First)?;
     let last = declared_in_set(set, name, Pick::Last)?;
@@ -128,7 +128,7 @@ fn declared_again<'a>(set: &'a [Token], name: &[u8]) -> Option<&'a [Token]> {
     Some(last.named)
 }
 
-/// The last property or rule of a name, unless it is the only one.
+// The last property or rule of a name, unless it is the only one.
 fn named_again<'a>(set: &'a [Token], name: &[u8]) -> Option<&'a [Token]> {
     let mut found = None;
     let mut several = false;
@@ -151,7 +151,7 @@ fn named_again<'a>(set: &'a [Token], name: &[u8]) -> Option<&'a [Token]> {
     }
 }
 
-/// A name that stands twice in a set.
+// A name that stands twice in a set.
 fn repeated_name(alloc: Global, set: &[Token], name: &Text) -> Result<Finding, AllocError> {
     let text = text_of(name);
     if let Some(place) = declared_again(set, name.bytes()) {

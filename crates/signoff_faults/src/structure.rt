@@ -10,7 +10,7 @@ use signoff_places::{
 use std::alloc::{AllocError, Global};
 use vlog_tree::Token;
 
-/// The first offset in the `until` of a property that is above 0.
+// The first offset in the `until` of a property that is above 0.
 fn until_offset(property: &[Token]) -> Option<usize> {
     offset_above(up_to(first(property, b"until")?, b";"), 0)
 }
@@ -29,7 +29,8 @@ fn window_sentence(alloc: Global, set: &Set, at: u32, window: u64) -> Result<Str
     )
 }
 
-/// A formula of a property, by its place, that reads behind its window, or an `until` that reads another cycle than its own.
+// A formula of a property, by its place, that reads behind its window, or an `until` that reads another cycle than its
+// own.
 fn offset_in(alloc: Global, property: &[Token], set: &Set, at: u32) -> Result<Finding, AllocError> {
     if let Some(byte) = until_offset(property) {
         return Ok(Finding::of_set(Some(byte), until_sentence(alloc, set, at)?));
@@ -39,7 +40,7 @@ fn offset_in(alloc: Global, property: &[Token], set: &Set, at: u32) -> Result<Fi
     Ok(Finding::of_set(byte, window_sentence(alloc, set, at, window)?))
 }
 
-/// A formula of a property that reads outside its window.
+// A formula of a property that reads outside its window.
 fn property_offset(
     alloc: Global,
     tokens: &[Token],
@@ -86,12 +87,12 @@ fn domain_offset(
     Ok(Finding::of_set(byte, sentence))
 }
 
-/// The place of a word in a property.
+// The place of a word in a property.
 fn word_in(tokens: &[Token], property: &[u8], word: &[u8]) -> Option<usize> {
     byte_at(first(property_in(tokens, property)?, word)?)
 }
 
-/// A property that has reset as a successor.
+// A property that has reset as a successor.
 fn into_reset(alloc: Global, tokens: &[Token], set: &Set, at: u32) -> Result<Finding, AllocError> {
     let byte = word_in(tokens, property_name(set, at), b"next");
     let title = titled(alloc, set, at)?;

@@ -1,6 +1,6 @@
 // What to write in place of words that are outside the subset of Verilog, and of SystemVerilog's words.
 
-/// Words with spaces between, and what to write in place of each.
+// Words with spaces between, and what to write in place of each.
 struct Instead {
     words: &'static str,
     write: &'static str,

@@ -5,7 +5,7 @@ use std::alloc::{AllocError, Global};
 use vlog_read_lex::is;
 use vlog_tree::{Kind, Token};
 
-/// The tokens that stand one, two and three before a place.
+// The tokens that stand one, two and three before a place.
 fn word_before(before: &[Token], back: usize) -> &[u8] {
     match before.iter().rev().nth(back) {
         Some(token) => word_of(token),
@@ -13,7 +13,7 @@ fn word_before(before: &[Token], back: usize) -> &[u8] {
     }
 }
 
-/// What to write in place of a word of SystemVerilog at or just before a place.
+// What to write in place of a word of SystemVerilog at or just before a place.
 fn system_hint<'a>(before: &'a [Token], after: &'a [Token]) -> Option<(&'a [u8], &'static str)> {
     for word in [
         word_at(after, 0),
@@ -28,7 +28,7 @@ fn system_hint<'a>(before: &'a [Token], after: &'a [Token]) -> Option<(&'a [u8],
     None
 }
 
-/// The tokens of the item that goes on at a place: those behind the last `;`.
+// The tokens of the item that goes on at a place: those behind the last `;`.
 fn item_of(before: &[Token]) -> &[Token] {
     for at in (0..before.len()).rev() {
         if is(word_of(&before[at]), b";") {
@@ -42,7 +42,7 @@ fn ends(word: &[u8]) -> bool {
     is(word, b";") || is(word, b"end") || is(word, b"endcase")
 }
 
-/// What is known of a token that no module has at its place.
+// What is known of a token that no module has at its place.
 fn module_hint(before: &[Token], after: &[Token]) -> Option<&'static str> {
     let word = word_at(after, 0);
     let last = word_before(before, 0);
@@ -119,7 +119,7 @@ fn is_of_set(word: &[u8]) -> bool {
         || is(word, b"operation")
 }
 
-/// What is known of a token that no set has at its place.
+// What is known of a token that no set has at its place.
 fn set_hint(before: &[Token], after: &[Token]) -> Option<&'static str> {
     let word = word_at(after, 0);
     let last = word_before(before, 0);
@@ -154,7 +154,7 @@ fn set_hint(before: &[Token], after: &[Token]) -> Option<&'static str> {
     None
 }
 
-/// Whether a word or a sign that is outside the subset stands at a place.
+// Whether a word or a sign that is outside the subset stands at a place.
 fn is_outside(tokens: &[Token]) -> bool {
     match tokens.first() {
         Some(token) => matches!(&token.kind, Kind::Outside),
@@ -162,7 +162,7 @@ fn is_outside(tokens: &[Token]) -> bool {
     }
 }
 
-/// The sentence for a word or a sign that is outside the subset, in a set.
+// The sentence for a word or a sign that is outside the subset, in a set.
 fn outside_set(alloc: Global, word: &[u8]) -> Result<String, AllocError> {
     if word.first().is_some_and(|byte| byte.is_ascii_alphabetic()) {
         let word = shown(word);

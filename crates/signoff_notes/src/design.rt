@@ -35,7 +35,7 @@ fn commitment_sentence(
     format!(in scene.alloc; "{title} violates its {commitment} at cycle 0")
 }
 
-/// Adds a commitment of the property at a position, which starts at cycle 0, if it doesn't hold.
+// Adds a commitment of the property at a position, which starts at cycle 0, if it doesn't hold.
 fn add_commitment(
     scene: &Scene<'_>,
     out: &mut Vec<u8>,

@@ -9,7 +9,7 @@ use set_tree::{Line, Rows, Set};
 use signoff_places::tokens_of;
 use std::alloc::{AllocError, Global};
 
-/// The cycles of the second window; none where there is one window.
+// The cycles of the second window; none where there is one window.
 fn second_rows(shown: &Shown) -> &[Rows<u64>] {
     match &shown.second {
         Some(trace) => trace.rows.as_slice(),
@@ -17,7 +17,7 @@ fn second_rows(shown: &Shown) -> &[Rows<u64>] {
     }
 }
 
-/// Adds what violates a line.
+// Adds what violates a line.
 fn add_violation(scene: &Scene<'_>, out: &mut Vec<u8>, line: Line) -> Result<(), AllocError> {
     match line {
         Line::Base(at) => add_invariant(scene, out, "the run from reset", at, 0),
@@ -33,10 +33,10 @@ fn add_violation(scene: &Scene<'_>, out: &mut Vec<u8>, line: Line) -> Result<(),
     }
 }
 
-/// What a counterexample of a line of a set shows, in the manner of a compiler's notes: the file, the line and the column of the commitment, the invariant,
-/// the assumption, the hand-over or the cover that is violated, a sentence that says so and at which cycle, the text's line with a mark, and the values of the
-/// names that are read there, each at its cycle. The set is that of the file, and what is shown violates the line; else this says less, or nothing. Refused
-/// only for want of memory.
+/// What a counterexample of a line of a set shows, in the manner of a compiler's notes: the file, the line and the
+/// column of the commitment, the invariant, the assumption, the hand-over or the cover that is violated, a sentence
+/// that says so and at which cycle, the text's line with a mark, and the values of the names that are read there, each
+/// at its cycle. The set is that of the file, and what is shown violates the line; else this says less, or nothing.
 pub fn trace_note(
     alloc: Global,
     file: SetFile<'_>,

@@ -6,7 +6,7 @@ use signoff_places::{add_line, place_of, property_at, property_name, shown};
 use std::alloc::{AllocError, Global};
 use vlog_tree::{Entry, Expr, Token};
 
-/// The longest formula, in bytes, that a sentence quotes.
+// The longest formula, in bytes, that a sentence quotes.
 const QUOTED: usize = 64;
 
 /// The file of a set: its name and its bytes.
@@ -16,7 +16,8 @@ pub struct SetFile<'a> {
     pub text: &'a [u8],
 }
 
-/// A set with its text, and the windows that are shown. The second one has no cycles where the line speaks of one window.
+/// A set with its text, and the windows that are shown. The second one has no cycles where the line speaks of one
+/// window.
 #[derive(Clone, Copy)]
 pub struct Scene<'a> {
     pub alloc: Global,
@@ -38,7 +39,7 @@ impl<'a> Scene<'a> {
         span_in(self.tokens, property_name(self.set, at), item)
     }
 
-    /// A part of the text, where it is short and stands in one line.
+    // A part of the text, where it is short and stands in one line.
     fn short(&self, span: Option<Span>) -> Option<&'a str> {
         let span = span?;
         let bytes = self.file.text.get(span.from..span.end)?.trim_ascii_end();
@@ -100,7 +101,7 @@ impl<'a> Scene<'a> {
     }
 }
 
-/// Adds what a name stands for, at its cycle.
+// Adds what a name stands for, at its cycle.
 fn add_entry(
     alloc: Global,
     out: &mut Vec<u8>,
@@ -115,7 +116,7 @@ fn add_entry(
     out.extend_from_slice(one.as_bytes())
 }
 
-/// Adds a line with what names stand for, each at its cycle, in the order of the cycles; none where there are no names.
+// Adds a line with what names stand for, each at its cycle, in the order of the cycles; none where there are no names.
 fn add_entries(
     alloc: Global,
     out: &mut Vec<u8>,

@@ -9,7 +9,8 @@ pub struct Span {
     pub end: usize,
 }
 
-/// An item of a clause: the clause's first word, how many clauses with this word stand before it, and how many items before the item.
+/// An item of a clause: the clause's first word, how many clauses with this word stand before it, and how many items
+/// before the item.
 #[derive(Clone, Copy)]
 pub struct Item<'a> {
     pub word: &'a [u8],
@@ -17,7 +18,7 @@ pub struct Item<'a> {
     pub number: usize,
 }
 
-/// What stands behind the first word of a property's clause.
+// What stands behind the first word of a property's clause.
 fn clause_in<'a>(property: &'a [Token], item: Item<'_>) -> Option<&'a [Token]> {
     // the property's name and a brace stand first
     let mut rest = behind(property, 2);
@@ -34,7 +35,7 @@ fn clause_in<'a>(property: &'a [Token], item: Item<'_>) -> Option<&'a [Token]> {
     None
 }
 
-/// The item of this number of a list that ends with a semicolon. A comma in braces ends none.
+// The item of this number of a list that ends with a semicolon. A comma in braces ends none.
 fn item_in(list: &[Token], number: usize) -> Option<Span> {
     let mut from = byte_at(list)?;
     let mut left = number;

@@ -6,14 +6,14 @@ use signoff_places::{declared_name, shown, titled};
 use std::alloc::{AllocError, Global};
 use vlog_tree::Expr;
 
-/// The length of a property.
+// The length of a property.
 const LENGTH: Item<'static> = Item {
     word: b"length",
     clause: 0,
     number: 0,
 };
 
-/// The successors of a property.
+// The successors of a property.
 const NEXT: Item<'static> = Item {
     word: b"next",
     clause: 0,
@@ -46,7 +46,8 @@ pub fn add_endless(scene: &Scene<'_>, out: &mut Vec<u8>, at: u32) -> Result<(), 
     Ok(())
 }
 
-/// The first assumption of the property at a position that doesn't hold at a cycle, and what comes of it; of two windows the one that is alone.
+// The first assumption of the property at a position that doesn't hold at a cycle, and what comes of it; of two windows
+// the one that is alone.
 fn unassumed(
     scene: &Scene<'_>,
     at: u32,
@@ -75,7 +76,8 @@ fn unassumed_sentence(
     format!(in scene.alloc; "{title} {how} at cycle {cycle}: its {assumption} is false")
 }
 
-/// Adds that the property at a position isn't assumed at a cycle, or is in one of two windows alone, by the first assumption that doesn't hold there.
+// Adds that the property at a position isn't assumed at a cycle, or is in one of two windows alone, by the first
+// assumption that doesn't hold there.
 fn add_unassumed(
     scene: &Scene<'_>,
     out: &mut Vec<u8>,
@@ -101,7 +103,7 @@ fn add_unassumed(
     scene.add_values(out, formula, cycle)
 }
 
-/// Adds that the property at a position ends at a cycle at which no successor is assumed.
+// Adds that the property at a position ends at a cycle at which no successor is assumed.
 fn add_end(scene: &Scene<'_>, out: &mut Vec<u8>, at: u32, end: usize) -> Result<(), AllocError> {
     let title = titled(scene.alloc, scene.set, at)?;
     let sentence = format!(in scene.alloc;
@@ -122,7 +124,7 @@ pub fn add_split(scene: &Scene<'_>, out: &mut Vec<u8>, at: u32) -> Result<(), Al
     Ok(())
 }
 
-/// What is said of a property's end.
+// What is said of a property's end.
 fn ending(alloc: Global, end: Option<usize>) -> Result<String, AllocError> {
     match end {
         Some(cycle) => format!(in alloc; "ends at cycle {cycle}"),
@@ -164,7 +166,7 @@ pub fn add_choice(scene: &Scene<'_>, out: &mut Vec<u8>, edge: Edge) -> Result<()
     }
 }
 
-/// A hand-over of the property at a position, by its number, and the cycle at which that property begins.
+// A hand-over of the property at a position, by its number, and the cycle at which that property begins.
 #[derive(Clone, Copy)]
 struct HandOver {
     at: u32,
@@ -187,7 +189,7 @@ fn hand_sentence(
     )
 }
 
-/// Adds a hand-over if it differs.
+// Adds a hand-over if it differs.
 fn add_hand(
     scene: &Scene<'_>,
     out: &mut Vec<u8>,
@@ -229,7 +231,7 @@ pub fn add_hands(scene: &Scene<'_>, out: &mut Vec<u8>, edge: Edge) -> Result<(),
     Ok(())
 }
 
-/// Whether an output is claimed at a cycle, in each window.
+// Whether an output is claimed at a cycle, in each window.
 fn claims(scene: &Scene<'_>, output: u32, cycle: usize) -> Result<(bool, bool), AllocError> {
     let Some(domain) = scene
         .set
@@ -244,7 +246,7 @@ fn claims(scene: &Scene<'_>, output: u32, cycle: usize) -> Result<(bool, bool), 
     Ok((one, other))
 }
 
-/// How the values of an output differ that is claimed at a cycle. None: they are the same.
+// How the values of an output differ that is claimed at a cycle. None: they are the same.
 fn unlike(scene: &Scene<'_>, output: u32, cycle: usize) -> Result<Option<String>, AllocError> {
     let name = shown(declared_name(scene.set, output));
     let one = scene.first.value(output as usize, cycle).unwrap_or(0);
@@ -257,7 +259,7 @@ fn unlike(scene: &Scene<'_>, output: u32, cycle: usize) -> Result<Option<String>
     )?))
 }
 
-/// Why an output isn't determined at a cycle. None: it is.
+// Why an output isn't determined at a cycle. None: it is.
 fn difference(scene: &Scene<'_>, output: u32, cycle: usize) -> Result<Option<String>, AllocError> {
     let which = match claims(scene, output, cycle)? {
         (true, true) => return unlike(scene, output, cycle),
@@ -271,7 +273,7 @@ fn difference(scene: &Scene<'_>, output: u32, cycle: usize) -> Result<Option<Str
     )?))
 }
 
-/// The cycle before which a cover ends, where its property ends at a cycle.
+// The cycle before which a cover ends, where its property ends at a cycle.
 fn cover_end(to: To, end: usize) -> usize {
     match to {
         To::At(offset) => offset as usize,

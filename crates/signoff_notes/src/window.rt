@@ -16,7 +16,7 @@ pub struct Window<'a> {
     pub rows: &'a [Rows<u64>],
 }
 
-/// The low bits of a value.
+// The low bits of a value.
 fn cut(value: u64, width: u8) -> u64
     requires { IsLength width }
     ensures { result ≡ value % 2 ^ width }
@@ -34,7 +34,7 @@ impl Window<'_> {
         self.rows.get(cycle)?.as_slice().get(position).copied()
     }
 
-    /// Adds what a name stands for that is read at a cycle, unless it is there.
+    // Adds what a name stands for that is read at a cycle, unless it is there.
     fn add_name(
         &self,
         entries: &mut Valuation,
@@ -69,7 +69,7 @@ impl Window<'_> {
         }
     }
 
-    /// Adds what the names of a formula stand for at a cycle.
+    // Adds what the names of a formula stand for at a cycle.
     fn add_names(
         &self,
         entries: &mut Valuation,

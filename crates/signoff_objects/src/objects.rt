@@ -14,7 +14,7 @@ use std::net::{Ipv4Addr, SocketAddr, TcpListener};
 use std::thread::Threads;
 use std::time::Duration;
 
-/// What a call runs on, beside its keeper, its port and its book: threads, the words, and the gate of its workers.
+// What a call runs on, beside its keeper, its port and its book: threads, the words, and the gate of its workers.
 #[derive(Clone, Copy)]
 struct Call<'a, R: Threads + Sync> {
     threads: &'a R,
@@ -22,10 +22,11 @@ struct Call<'a, R: Threads + Sync> {
     gate: &'a Progress,
 }
 
-/// Answers words over real objects: the status of the top call. The proofs and the desk are kept in the file that the words name, and in memory
-/// where they name none; connections come from this machine alone. Threads are started by a handle of their own. The book takes the lines that were
-/// decided. Where it is to be told, standard error says how many lines the workers were handed so far, each time that one is. It is 8, with the line
-/// `keeper`, where a desk that is to be served can't be opened, and 70 where there is no memory for the objects.
+/// Answers words over real objects: the status of the top call. The proofs and the desk are kept in the file that the
+/// words name, and in memory where they name none; connections come from this machine alone. Threads are started by a
+/// handle of their own. The book takes the lines that were decided. Where it is to be told, standard error says how
+/// many lines the workers were handed so far, each time that one is. It is 8, with the line `keeper`, where a desk that
+/// is to be served can't be opened, and 70 where there is no memory for the objects.
 pub fn answer<R: Threads + Sync>(
     threads: &R,
     rt: &HostRuntime,

@@ -18,17 +18,18 @@ pub enum Told {
     HandedOf(usize),
 }
 
-/// A gate that says on standard error how many lines workers were handed so far, and how many seconds after the gate was made. On a terminal it rewrites
-/// one line. Where nothing is to be told, or the clock can't be read, it says nothing.
+/// A gate that says on standard error how many lines workers were handed so far, and how many seconds after the gate
+/// was made. On a terminal it rewrites one line. Where nothing is to be told, or the clock can't be read, it says
+/// nothing.
 #[derive(Drop)]
 pub struct Progress {
     rt: HostRuntime,
     told: Told,
-    /// When the gate was made. None: nothing is said.
+    // When the gate was made. None: nothing is said.
     since: Option<Instant>,
-    /// How many lines workers were handed.
+    // How many lines workers were handed.
     handed: AtomicU64,
-    /// A line stands that the next one rewrites.
+    // A line stands that the next one rewrites.
     stands: AtomicBool,
 }
 
@@ -75,7 +76,7 @@ impl Progress {
         self.rt.stderr().write_all(line.as_bytes())
     }
 
-    /// Takes a line away that stands, so that other output begins at its place.
+    // Takes a line away that stands, so that other output begins at its place.
     fn clear(&self) {
         if self.stands.swap(false, SeqCst) {
             let _ = self.rt.stderr().write_all(b"\r\x1b[K");

@@ -55,7 +55,8 @@ fn is_edge(word: &[u8]) -> bool {
     is(word, b"posedge") || is(word, b"negedge")
 }
 
-/// The first list of events that begins with an edge of a name and that breaks a rule by itself, else the first one that begins so.
+// The first list of events that begins with an edge of a name and that breaks a rule by itself, else the first one that
+// begins so.
 fn waiting_for<'a>(body: &'a [Token], name: &[u8]) -> Option<&'a [Token]> {
     let mut found = None;
     let mut previous: &[u8] = b"";
@@ -72,7 +73,7 @@ fn waiting_for<'a>(body: &'a [Token], name: &[u8]) -> Option<&'a [Token]> {
     found
 }
 
-/// Another name whose edge some block of a module waits for first.
+// Another name whose edge some block of a module waits for first.
 fn waits_for_another(body: &[Token], name: &[u8]) -> bool {
     let mut previous: &[u8] = b"";
     for at in 0..body.len() {
@@ -85,7 +86,7 @@ fn waits_for_another(body: &[Token], name: &[u8]) -> bool {
     false
 }
 
-/// How many edges a list of events has.
+// How many edges a list of events has.
 fn edges_in(list: &[Token]) -> usize {
     up_to(list, b")")
         .iter()
@@ -93,7 +94,7 @@ fn edges_in(list: &[Token]) -> usize {
         .count()
 }
 
-/// Whether the condition at a place tests one of the edges of a list.
+// Whether the condition at a place tests one of the edges of a list.
 fn tests_edge(list: &[Token], condition: &[Token]) -> bool {
     let negated = stands(condition, 0, b"!") || stands(condition, 0, b"~");
     let name = if negated {
@@ -110,7 +111,7 @@ fn tests_edge(list: &[Token], condition: &[Token]) -> bool {
     behind_word(up_to(list, b")"), edge, word_at(name, 0)).is_some()
 }
 
-/// Whether the body of a block with two edges begins with an `if` that tests one of them.
+// Whether the body of a block with two edges begins with an `if` that tests one of them.
 fn tests_reset(list: &[Token]) -> bool {
     let Some(end) = first(list, b")") else {
         return false;
@@ -123,7 +124,7 @@ fn tests_reset(list: &[Token]) -> bool {
     stands(body, 0, b"if") && tests_edge(list, behind(body, 2))
 }
 
-/// Where a name is read: not in its declaration, not in a list of events, and not passed on alone.
+// Where a name is read: not in its declaration, not in a list of events, and not passed on alone.
 fn read_in<'a>(body: &'a [Token], name: &[u8]) -> Option<&'a [Token]> {
     let mut previous: &[u8] = b"";
     let mut is_header = true;
@@ -144,7 +145,7 @@ fn read_in<'a>(body: &'a [Token], name: &[u8]) -> Option<&'a [Token]> {
     None
 }
 
-/// The rule that a list of events breaks by itself.
+// The rule that a list of events breaks by itself.
 fn of_list(list: &[Token]) -> Option<Rule> {
     match edges_in(list) {
         1 if stands(list, 0, b"negedge") => Some(Rule::FallingEdge),
@@ -155,7 +156,7 @@ fn of_list(list: &[Token]) -> Option<Rule> {
     }
 }
 
-/// The rule that a name in a list of events breaks at the top.
+// The rule that a name in a list of events breaks at the top.
 fn of_top(named: &Named<'_>) -> Option<Rule> {
     let declared = declared_in(named.body, named.last, Pick::First)?;
     if !is(declared.kind(), b"input") {
@@ -167,7 +168,7 @@ fn of_top(named: &Named<'_>) -> Option<Rule> {
     None
 }
 
-/// The rule that a name breaks whose lists of events break none by themselves.
+// The rule that a name breaks whose lists of events break none by themselves.
 fn of_uses(named: &Named<'_>, list: &[Token]) -> Broken {
     let read = read_in(named.body, named.last).and_then(byte_at);
     let rule = match read {
@@ -187,7 +188,8 @@ fn of_uses(named: &Named<'_>, list: &[Token]) -> Broken {
     }
 }
 
-/// The rule that a name breaks that no block of its module waits for: an expression reads it, or an instance has another clock.
+// The rule that a name breaks that no block of its module waits for: an expression reads it, or an instance has another
+// clock.
 fn of_no_list(named: &Named<'_>) -> Broken {
     let read = read_in(named.body, named.last).and_then(byte_at);
     let rule = if read.is_some() {

@@ -1,6 +1,7 @@
-//! Where the names of modules and of sets stand in their texts, as far as the tokens tell, and the lines of places. Each call says in its contract what
-//! it answers, but for those that look for declarations, instances, suspect expressions and broken rules on clocks, and the count of covers: these are proved
-//! to be safe and to end, and the rest is tested.
+//! Where the names of modules and of sets stand in their texts, as far as the tokens tell, and the lines of places.
+//! Each call says in its contract what it answers, but for those that look for declarations, instances, suspect
+//! expressions and broken rules on clocks, and the count of covers: these are proved to be safe and to end, and the
+//! rest is tested.
 #![tactic(auto)]
 
 mod clocks;

@@ -1,4 +1,5 @@
-// Where the names of modules are declared and used. A module is the list of its tokens from its name up to its `endmodule`.
+// Where the names of modules are declared and used. A module is the list of its tokens from its name up to its
+// `endmodule`.
 ghost use Rattle.std.specs.Prelude.{◌≡◌};
 ghost use Rattle.std.specs.Option.{option_copied};
 ghost use Rattle.signoff_places.specs.Tokens.{word_at};
@@ -74,7 +75,8 @@ pub fn last_instance_in<'a>(body: &'a [Token], name: &[u8]) -> Option<Instance<'
     Some(found)
 }
 
-/// What a hierarchical name leads to: the module in which its last part stands, and the instance of that module, none at the top.
+/// What a hierarchical name leads to: the module in which its last part stands, and the instance of that module, none
+/// at the top.
 #[derive(Clone, Copy)]
 pub struct Named<'a> {
     pub body: &'a [Token],
@@ -109,7 +111,7 @@ pub fn named_in<'a>(tokens: &'a [Token], top: &[u8], path: &'a [u8]) -> Option<N
     Some(named)
 }
 
-/// The place behind `wire`, `reg` or `signed`, or the same one where none of them stands.
+// The place behind `wire`, `reg` or `signed`, or the same one where none of them stands.
 fn behind_kind(place: &[Token]) -> &[Token]
     ensures { result.now ≡ behind_kind place.now }
 {
@@ -175,14 +177,14 @@ fn closes(word: &[u8]) -> bool {
     is(word, b")") || is(word, b"]") || is(word, b"}")
 }
 
-/// Where a scan over declarations stands.
+// Where a scan over declarations stands.
 #[derive(Clone, Copy, PartialEq, Eq)]
 enum Part {
-    /// In no declaration.
+    // In no declaration.
     Elsewhere,
-    /// Where a name may stand, within so many brackets.
+    // Where a name may stand, within so many brackets.
     Name(u32),
-    /// Behind `=`, within so many brackets.
+    // Behind `=`, within so many brackets.
     Value(u32),
 }
 
@@ -203,7 +205,7 @@ impl Part {
         }
     }
 
-    /// The part behind a word or a sign.
+    // The part behind a word or a sign.
     fn behind(self, word: &[u8]) -> Part {
         if declares(word) {
             Part::Name(0)
@@ -254,7 +256,7 @@ pub fn declared_in<'a>(body: &'a [Token], name: &[u8], pick: Pick) -> Option<Dec
     found
 }
 
-/// Whether a name stands at a place, and isn't that of a port behind a dot.
+// Whether a name stands at a place, and isn't that of a port behind a dot.
 fn is_use(here: &[Token], name: &[u8], previous: &[u8]) -> bool
     ensures { result ≡ is_use name.now previous.now here.now }
 {
@@ -283,7 +285,8 @@ pub fn given_in<'a>(instance: &Instance<'a>, name: &[u8]) -> Option<&'a [Token]>
     behind_word(up_to(instance.item, b";"), b".", name)
 }
 
-/// The place of what a hierarchical name names: its declaration, else its instance, else the module, else its first use.
+/// The place of what a hierarchical name names: its declaration, else its instance, else the module, else its first
+/// use.
 pub fn place_of_name<'a>(named: &Named<'a>) -> Option<&'a [Token]> {
     if let Some(declared) = declared_in(named.body, named.last, Pick::First) {
         return Some(declared.named);

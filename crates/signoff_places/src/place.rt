@@ -22,7 +22,7 @@ pub struct Place {
     pub column: usize,
 }
 
-/// The most bytes of a line that are shown.
+// The most bytes of a line that are shown.
 const SHOWN: usize = 112;
 
 fn is_feed(byte: &u8) -> bool
@@ -31,7 +31,7 @@ fn is_feed(byte: &u8) -> bool
     *byte == b'\n'
 }
 
-/// What stands behind the last line feed.
+// What stands behind the last line feed.
 fn last_line(text: &[u8]) -> &[u8]
     ensures { result.now ≡ last_line text.now }
 {
@@ -43,7 +43,7 @@ fn last_line(text: &[u8]) -> &[u8]
     text
 }
 
-/// What stands before the first line feed.
+// What stands before the first line feed.
 fn first_line(text: &[u8]) -> &[u8]
     ensures { result.now ≡ first_line text.now }
 {
@@ -67,7 +67,7 @@ pub fn place_of(text: &[u8], at: usize) -> Place
     }
 }
 
-/// Bytes that would move what follows on a terminal are shown as spaces.
+// Bytes that would move what follows on a terminal are shown as spaces.
 #[tactic(auto, unfolding(crate::specs::Lines::shown))]
 fn shown(byte: u8) -> u8
     ensures { result ≡ shown byte }
@@ -89,7 +89,7 @@ fn add_shown(out: &mut Vec<u8>, bytes: &[u8]) -> Result<(), AllocError>
     Ok(())
 }
 
-/// The room that a byte takes: tabs stay, and the later bytes of a character of UTF-8 take none.
+// The room that a byte takes: tabs stay, and the later bytes of a character of UTF-8 take none.
 #[tactic(auto, unfolding(crate::specs::Lines::room))]
 fn room(byte: u8) -> &'static [u8]
     ensures { result.now ≡ room byte }
@@ -103,7 +103,7 @@ fn room(byte: u8) -> &'static [u8]
     }
 }
 
-/// As much space as the bytes take.
+// As much space as the bytes take.
 #[tactic(auto, using(crate::proofs::LineLemmas::room_more))]
 fn add_space(out: &mut Vec<u8>, bytes: &[u8]) -> Result<(), AllocError>
     ensures { OnOk result (out.new.items ≡ out.old.items ++ flat_map room bytes.now) }
@@ -114,7 +114,7 @@ fn add_space(out: &mut Vec<u8>, bytes: &[u8]) -> Result<(), AllocError>
     Ok(())
 }
 
-/// What is shown of the line around a place: all of it, or where it is long the parts next to the place.
+// What is shown of the line around a place: all of it, or where it is long the parts next to the place.
 #[tactic(auto, using(crate::proofs::LineLemmas::cut), unfolding(crate::specs::Lines::shown_head, crate::specs::Lines::shown_tail))]
 fn shown_around<'a>(head: &'a [u8], tail: &'a [u8]) -> (&'a [u8], &'a [u8])
     ensures head { result.0.now ≡ shown_head head.now tail.now }

@@ -69,7 +69,7 @@ impl<'a> DeclaredInSet<'a> {
     }
 }
 
-/// Where the name of a declaration stands: behind its words and its range.
+// Where the name of a declaration stands: behind its words and its range.
 fn name_of(item: &[Token]) -> &[Token] {
     let rest = if stands(item, 1, b"signed") && !stands(item, 2, b";") {
         behind(item, 2)
@@ -123,7 +123,7 @@ pub fn property_in<'a>(set: &'a [Token], name: &[u8]) -> Option<&'a [Token]>
     Some(up_to(place, b"operation"))
 }
 
-/// Whether a cover of an output stands at a place.
+// Whether a cover of an output stands at a place.
 fn covers(here: &[Token], output: &[u8]) -> bool
     ensures { result ≡ covers output.now here.now }
 {
@@ -155,7 +155,7 @@ pub fn count_of_covers(property: &[Token], output: &[u8]) -> usize {
     property.len()
 }
 
-/// The word of the clause that goes on behind a token.
+// The word of the clause that goes on behind a token.
 fn clause_behind<'a>(clause: &'a [u8], token: &'a Token) -> &'a [u8]
     ensures { result.now ≡ clause_behind clause.now token.now }
 {
@@ -179,7 +179,7 @@ pub fn clause_before<'a>(set: &'a [Token], byte: usize) -> &'a [u8]
     clause
 }
 
-/// The second place of a name in the list of successors that begins at a place.
+// The second place of a name in the list of successors that begins at a place.
 fn again_in<'a>(list: &'a [Token], name: &[u8]) -> Option<&'a [Token]>
     ensures { option_copied result ≡ again_in name.now list.now }
 {
@@ -203,7 +203,7 @@ pub fn next_again<'a>(set: &'a [Token], name: &[u8]) -> Option<&'a [Token]>
     None
 }
 
-/// Whether an offset above a bound stands at a place.
+// Whether an offset above a bound stands at a place.
 fn begins_above(here: &[Token], bound: u64) -> bool
     ensures { result ≡ begins_above bound here.now }
 {

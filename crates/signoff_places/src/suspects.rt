@@ -4,7 +4,7 @@ use crate::tokens::{Bits, behind, bits_at, byte_at, word_at, word_of};
 use vlog_read_lex::is;
 use vlog_tree::Token;
 
-/// Whether a name is that of a signal.
+// Whether a name is that of a signal.
 fn is_signal(body: &[Token], name: &[u8]) -> bool {
     match declared_in(body, name, Pick::First) {
         Some(declared) => !declared.is_parameter(),
@@ -28,12 +28,12 @@ pub fn divided_signal(body: &[Token]) -> Option<usize> {
     None
 }
 
-/// The declared range of a name, where it has plain numbers.
+// The declared range of a name, where it has plain numbers.
 fn declared_bits(body: &[Token], name: &[u8]) -> Option<Bits> {
     bits_at(declared_in(body, name, Pick::First)?.range())
 }
 
-/// How many tokens of a module are looked through for selects, each of which is looked up in the whole module.
+// How many tokens of a module are looked through for selects, each of which is looked up in the whole module.
 const NEAR: usize = 20_000;
 
 /// A select with plain numbers that leaves its vector, or whose bounds stand the wrong way round.

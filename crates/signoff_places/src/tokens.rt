@@ -129,7 +129,7 @@ pub fn up_to<'a>(tokens: &'a [Token], word: &[u8]) -> &'a [Token]
     tokens
 }
 
-/// Whether two words stand at a place, one behind the other.
+// Whether two words stand at a place, one behind the other.
 fn stand_both(tokens: &[Token], before: &[u8], word: &[u8]) -> bool
     ensures { result ≡ begins_with_both before.now word.now tokens.now }
 {
@@ -163,7 +163,7 @@ pub fn last_behind_word<'a>(tokens: &'a [Token], before: &[u8], word: &[u8]) -> 
     last
 }
 
-/// Where the first dot of a path stands.
+// Where the first dot of a path stands.
 fn first_dot(path: &[u8]) -> Option<usize>
     ensures exact { result ≡ position is_dot path.now }
     ensures within { IfSome result (λ dot. dot < length path.now) }

@@ -39,11 +39,13 @@ pub enum Form {
 /// What is done with a module's text and a set's.
 #[derive(Drop)]
 pub enum Task {
-    /// Lines of the report are decided: those on the design, all, or the one of a name, whose counterexample is shown, or the least one.
+    /// Lines of the report are decided: those on the design, all, or the one of a name, whose counterexample is shown,
+    /// or the least one.
     Decide(Which),
     /// The line of this name is decided, and its counterexample is shown as a waveform.
     Wave(Text),
-    /// What can be met is: `reset` and each operation, or the one of this name, of which the segment that meets it is shown.
+    /// What can be met is: `reset` and each operation, or the one of this name, of which the segment that meets it is
+    /// shown.
     Meet(Option<Text>),
     /// All lines are decided, and the operations of a set that is signed off are shown as a machine.
     Machine(Form),
@@ -64,9 +66,9 @@ pub struct Acceptance {
     pub proof: Text,
 }
 
-/// What is done, the names of the two files, the most steps of the solver for a line (1 to 10,000,000, 20,000 where no option says), how many
-/// workers decide lines (1 to 64, 4 where no option says), the file in which proofs are kept (none where no option says), and whether standard error is told
-/// how the work goes.
+/// What is done, the names of the two files, the most steps of the solver for a line (1 to 10,000,000, 20,000 where no
+/// option says), how many workers decide lines (1 to 64, 4 where no option says), the file in which proofs are kept
+/// (none where no option says), and whether standard error is told how the work goes.
 #[derive(Drop)]
 pub struct Job {
     pub task: Task,
@@ -78,9 +80,10 @@ pub struct Job {
     pub progress: bool,
 }
 
-/// The port that is listened at (1 to 65,535), how many connections are served (1 to 1,000,000), the file that holds the desk, how many seconds a peer has
-/// for its request and as many for taking the reply (1 to 3,600, 10 where no option says), whether connections without a reply don't count, and for the desk's
-/// checks the most steps of the solver for a line and the workers, as for a job.
+/// The port that is listened at (1 to 65,535), how many connections are served (1 to 1,000,000), the file that holds
+/// the desk, how many seconds a peer has for its request and as many for taking the reply (1 to 3,600, 10 where no
+/// option says), whether connections without a reply don't count, and for the desk's checks the most steps of the
+/// solver for a line and the workers, as for a job.
 #[derive(Drop)]
 pub struct Service {
     pub port: u16,
@@ -105,8 +108,8 @@ pub enum Command {
     Migrate(Text),
 }
 
-/// What a command wants opened: the file that holds proofs or the desk, and the port that is listened at, with the seconds that a peer there has
-/// (10 where no option says).
+/// What a command wants opened: the file that holds proofs or the desk, and the port that is listened at, with the
+/// seconds that a peer there has (10 where no option says).
 #[derive(Drop)]
 pub struct Wants {
     pub store: Option<Text>,

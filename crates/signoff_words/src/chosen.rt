@@ -64,7 +64,7 @@ impl Chosen {
         self.serves_by_default() && !self.dot
     }
 
-    /// Whether no option is given that bounds the solver.
+    // Whether no option is given that bounds the solver.
     fn solves_by_default(&self) -> bool
         ensures { result ≡ solves_by_default (choices_of self.now) }
     {

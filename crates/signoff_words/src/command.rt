@@ -83,8 +83,8 @@ fn job_of(
     })
 }
 
-// Whether a task may have these options: where no line is decided there are none, and else none of serving; a derivation is accepted into a file of proofs, which
-// has to be named.
+// Whether a task may have these options: where no line is decided there are none, and else none of serving; a
+// derivation is accepted into a file of proofs, which has to be named.
 fn takes(task: &Task, choices: &Chosen) -> bool
     ensures { result ≡ takes task.now (choices_of choices.now) }
 {
@@ -242,9 +242,10 @@ fn with_plain_words(
     }
 }
 
-/// The command that words spell. The first one is its name. Options stand anywhere after it, each at most once, as `--x v` or `--x=v`, or as
-/// `--replied`, `--dot` and `--progress`, which have no value; a value of the first form doesn't begin with `-`. The word `--` ends the options, and before it any other word
-/// that begins with `-` and isn't `-` alone is wrong. A number is 1 to 10 decimal digits and nothing else. None: the words are no command.
+/// The command that words spell. The first one is its name. Options stand anywhere after it, each at most once, as `--x
+/// v` or `--x=v`, or as `--replied`, `--dot` and `--progress`, which have no value; a value of the first form doesn't
+/// begin with `-`. The word `--` ends the options, and before it any other word that begins with `-` and isn't `-`
+/// alone is wrong. A number is 1 to 10 decimal digits and nothing else. None: the words are no command.
 pub fn command_in(alloc: Global, words: &[String]) -> Result<Option<Command>, AllocError>
     ensures is { IfOk result (λ o. o ≡ command_of (map string_bytes words.now)) }
     ensures bounded { IfOk result (λ o. IfSome o IsBounded) }
@@ -273,8 +274,9 @@ pub fn command_in(alloc: Global, words: &[String]) -> Result<Option<Command>, Al
     }
 }
 
-/// What the command that words spell wants opened: the file of proofs that an option `--store` names, that `migrate` moves, or that holds the desk of `serve`, and the port of `serve` with the seconds that its option `--timeout` gives a peer (10 where it gives none). Neither
-/// file nor port where the words are no command, or it names none. Refused only for want of memory.
+/// What the command that words spell wants opened: the file of proofs that an option `--store` names, that `migrate`
+/// moves, or that holds the desk of `serve`, and the port of `serve` with the seconds that its option `--timeout` gives
+/// a peer (10 where it gives none). Neither file nor port where the words are no command, or it names none.
 pub fn wants(alloc: Global, words: &[String]) -> Result<Wants, AllocError>
     ensures store { IfOk result (λ w. w.store ≡ store_of (command_of (map string_bytes words.now))) }
     ensures port { IfOk result (λ w. w.port ≡ port_of (command_of (map string_bytes words.now))) }

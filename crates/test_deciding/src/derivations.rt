@@ -2,7 +2,7 @@ use clause_check::{Clause, Clauses, Cnf, Lit, Marks, Step, accept};
 use std::alloc::{AllocError, Global};
 use std::test::Fail;
 
-/// The literal of a number that isn't 0: variable 0 is 1, and its negation -1.
+// The literal of a number that isn't 0: variable 0 is 1, and its negation -1.
 fn literal(number: i32) -> Lit {
     Lit {
         var: number.unsigned_abs().saturating_sub(1),
@@ -21,7 +21,7 @@ fn push(alloc: Global, clauses: &mut Clauses, numbers: &[i32]) -> Result<(), All
     Ok(())
 }
 
-/// That a bit and its negation are both 1.
+// That a bit and its negation are both 1.
 fn contradiction(alloc: Global) -> Result<Option<Cnf>, AllocError> {
     let mut clauses = Clauses::new(alloc)?;
     push(alloc, &mut clauses, &[1])?;
@@ -31,7 +31,7 @@ fn contradiction(alloc: Global) -> Result<Option<Cnf>, AllocError> {
     Ok(Cnf::of(3, clauses))
 }
 
-/// Whether a step with the empty clause and these hints refutes the formula.
+// Whether a step with the empty clause and these hints refutes the formula.
 fn accepts(alloc: Global, cnf: &Cnf, hints: &[u32]) -> Result<bool, AllocError> {
     let mut marks = Marks::new(alloc, cnf.vars)?;
     let mut steps = Vec::new(alloc);

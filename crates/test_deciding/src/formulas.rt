@@ -1,4 +1,5 @@
-// Formulas of texts: a clause is the numbers of its literals, its variables counted from 1, negated ones below 0, and clauses have a comma between them.
+// Formulas of texts: a clause is the numbers of its literals, its variables counted from 1, negated ones below 0, and
+// clauses have a comma between them.
 use clause_check::{Clause, Clauses, Cnf, Lit};
 use std::alloc::{AllocError, Global};
 
@@ -26,7 +27,8 @@ fn add_clauses(alloc: Global, clauses: &mut Clauses, text: &str) -> Result<(), A
     Ok(())
 }
 
-/// The formula over so many variables that has the clauses of all texts; a clause that has a variable twice is left out.
+/// The formula over so many variables that has the clauses of all texts; a clause that has a variable twice is left
+/// out.
 pub fn formula(alloc: Global, vars: u8, texts: &[&str]) -> Result<Option<Cnf>, AllocError> {
     let mut clauses = Clauses::new(alloc)?;
     for text in texts {

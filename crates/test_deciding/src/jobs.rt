@@ -47,7 +47,8 @@ impl Side {
         }
     }
 
-    // Raises this side's flag and looks for the other's, a bounded number of turns. Between two looks it lets other threads run.
+    // Raises this side's flag and looks for the other's, a bounded number of turns. Between two looks it lets other
+    // threads run.
     fn meet(&self, other: &Side) {
         self.entries.fetch_add(1, SeqCst);
         self.flag.store(true, SeqCst);

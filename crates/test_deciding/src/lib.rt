@@ -1,5 +1,5 @@
-//! Rows of the deciding layer: words, derivations, their records and texts, the solver and the simplifier, least values, helpers, the workers, and
-//! obligations settled over a keeper.
+//! Rows of the deciding layer: words, derivations, their records and texts, the solver and the simplifier, least
+//! values, helpers, the workers, and obligations settled over a keeper.
 #![tactic(auto)]
 
 #[cfg(test)]

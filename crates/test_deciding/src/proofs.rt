@@ -18,7 +18,7 @@ fn a_formula_is_written(rt: HostRuntime) -> Result<(), Fail> {
     Ok(())
 }
 
-/// Texts, and how many steps are read of each, which the checker accepts, or what stands against it.
+// Texts, and how many steps are read of each, which the checker accepts, or what stands against it.
 static ROWS: [(&str, &str); 8] = [
     (
         "c two steps\n\n7 1 1 0 1 2 0\r\n7 d 1 2 0\n 9 0\t7 3 4 1 0\n",

@@ -3,7 +3,8 @@ use proof_store_records::{fits_version_1, read_steps, record_fits, write_steps, 
 use std::process::Abort;
 use std::test::Fail;
 
-// Records of the same steps in both versions: an empty clause; two steps; none; the greatest variable and the greatest hint.
+// Records of the same steps in both versions: an empty clause; two steps; none; the greatest variable and the greatest
+// hint.
 const RECORDS: &[(&[u8], &[u8])] = &[
     (
         b"\x44\x31\0\0\0\x01\0\0\0\0\0\0\0\x01\0\0\0\0\0\0\0\x05",
@@ -20,9 +21,10 @@ const RECORDS: &[(&[u8], &[u8])] = &[
     ),
 ];
 
-// Bytes that are no record, the second version's first: cut, and with a byte behind; a varint that ends in 0, one of eleven bytes, one of 2^64; a distance of 0
-// as a lower one, and a hint below 0; a variable twice; a hint and a variable of 2^32; no version; the first version cut, with a byte behind, with a variable
-// twice, and with a hint and a variable of 2^32.
+// Bytes that are no record, the second version's first: cut, and with a byte behind; a varint that ends in 0, one of
+// eleven bytes, one of 2^64; a distance of 0 as a lower one, and a hint below 0; a variable twice; a hint and a
+// variable of 2^32; no version; the first version cut, with a byte behind, with a variable twice, and with a hint and a
+// variable of 2^32.
 const NO_RECORDS: &[&[u8]] = &[
     b"\x44\x32\x01\x00\x01",
     b"\x44\x32\x01\x00\x01\x05\x00",

@@ -9,8 +9,8 @@ use std::test::Fail;
 const CHAINS: &str = "-3 1, -3 2, 3 -1 -2, -4 2, -4 1, 4 -2 -1,
     -5 3 1, -5 -3 -1, 5 -3 1, 5 3 -1, -6 4 1, -6 -4 -1, 6 -4 1, 6 4 -1, 5 6, -5 -6";
 
-// 1 is true; 5, 6 and 7 are a conjunction, an exclusive disjunction and a multiplexer of 2, 3 and 4; 8 is 2 by way of 1; 9, 10
-// and 11 are 5, 6 and 7 with their inputs in another order, 9 over 8
+// 1 is true; 5, 6 and 7 are a conjunction, an exclusive disjunction and a multiplexer of 2, 3 and 4; 8 is 2 by way of
+// 1; 9, 10 and 11 are 5, 6 and 7 with their inputs in another order, 9 over 8
 const GATES: &str = "1, -5 2, -5 3, 5 -2 -3, -6 2 3, -6 -2 -3, 6 -2 3, 6 2 -3,
     -4 -7 2, -4 7 -2, 4 -7 3, 4 7 -3, -8 1, -8 2, 8 -1 -2, -9 3, -9 8, 9 -3 -8,
     -10 3 2, -10 -3 -2, 10 -3 2, 10 3 -2, 4 -11 3, 4 11 -3, -4 -11 2, -4 11 -2";
@@ -27,7 +27,8 @@ const FOUR_PIGEONS: &str = "1 2 3, 4 5 6, 7 8 9, 10 11 12,
 const FEW: &str =
     "6 -1, -2 5 4, 6 3, 4 6, -5 2 1, -4 -2 3, 4 1, -5 6 2, -4 1, -1 6, -3 -4, -6 4 -2, 2 3 -6";
 
-/// Formulas over 12 variables, and whether they can be satisfied; none where one learnt clause isn't enough to decide it.
+// Formulas over 12 variables, and whether they can be satisfied; none where one learnt clause isn't enough to decide
+// it.
 static ROWS: [(&[&str], Option<bool>); 8] = [
     // variables that are equal
     (&[CHAINS], Some(false)),

@@ -3,7 +3,7 @@ use clause_check::{Clause, Clauses, Cnf, Lit, Marks, accept, holds};
 use std::alloc::{AllocError, Global};
 use std::test::Fail;
 
-/// Adds the clause of these literals, each a variable and whether it is negated.
+// Adds the clause of these literals, each a variable and whether it is negated.
 fn push(alloc: Global, clauses: &mut Clauses, lits: &[(u32, bool)]) -> Result<(), AllocError> {
     let lits = lits
         .iter()
@@ -18,7 +18,7 @@ fn push(alloc: Global, clauses: &mut Clauses, lits: &[(u32, bool)]) -> Result<()
     Ok(())
 }
 
-/// Five pigeons in four holes: each has a hole, and no two have one.
+// Five pigeons in four holes: each has a hole, and no two have one.
 fn pigeons(alloc: Global) -> Result<Option<Cnf>, AllocError> {
     let mut clauses = Clauses::new(alloc)?;
     for pigeon in 0..5_u32 {
@@ -46,7 +46,7 @@ fn pigeons(alloc: Global) -> Result<Option<Cnf>, AllocError> {
     Ok(Cnf::of(20, clauses))
 }
 
-/// Two chains of 300,000 variables each, the first with its links from the end.
+// Two chains of 300,000 variables each, the first with its links from the end.
 fn chains(alloc: Global) -> Result<Option<Cnf>, AllocError> {
     let mut clauses = Clauses::new(alloc)?;
     push(alloc, &mut clauses, &[(0, false)])?;

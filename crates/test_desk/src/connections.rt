@@ -7,7 +7,7 @@ use std::alloc::{AllocError, Global};
 use std::process::Abort;
 use std::test::Fail;
 
-/// Counts the commands, keeps the last text and the last line, and answers by the block's name.
+// Counts the commands, keeps the last text and the last line, and answers by the block's name.
 #[derive(Drop)]
 struct NamedAnswers {
     acts: u32,
@@ -77,7 +77,7 @@ fn desk(alloc: Global) -> NamedAnswers {
     }
 }
 
-/// Serves one connection by this desk.
+// Serves one connection by this desk.
 fn serve_one(
     alloc: Global,
     port: &mut MemPort,
@@ -92,12 +92,12 @@ fn serve_one(
     }
 }
 
-/// A port with one connection, on which these bytes come. The calls of these numbers fail.
+// A port with one connection, on which these bytes come. The calls of these numbers fail.
 fn port(alloc: Global, sent: &[u8], fails: &[u64]) -> Result<MemPort, AllocError> {
     port_with_room(alloc, sent, 512, fails)
 }
 
-/// Such a port, with room for a reply of so many bytes.
+// Such a port, with room for a reply of so many bytes.
 fn port_with_room(
     alloc: Global,
     sent: &[u8],
@@ -109,7 +109,7 @@ fn port_with_room(
     MemPort::new(alloc, peers, room, fails.to_vec(alloc)?)
 }
 
-/// Serves a connection on which these bytes come, and says whether the reply has the status and ends so.
+// Serves a connection on which these bytes come, and says whether the reply has the status and ends so.
 fn gives(
     alloc: Global,
     desk: &mut NamedAnswers,
@@ -122,10 +122,10 @@ fn gives(
     Ok(served == Ok(Served::Replied { status }) && port.reply(0).ends_with(end.as_bytes()))
 }
 
-/// What a peer sends, and the status and the end of the reply.
+// What a peer sends, and the status and the end of the reply.
 type Row<'a> = (&'a str, u16, &'a str);
 
-/// Serves connections one after another, and wants these replies.
+// Serves connections one after another, and wants these replies.
 fn replies(
     rt: &(impl Abort + AllocGlobal),
     desk: &mut NamedAnswers,
@@ -177,7 +177,7 @@ fn each_route_has_its_command(rt: HostRuntime) -> Result<(), Fail> {
     Ok(())
 }
 
-/// Asks for a file of the page, and says whether the reply ends with these bytes.
+// Asks for a file of the page, and says whether the reply ends with these bytes.
 fn gives_file(
     alloc: Global,
     desk: &mut NamedAnswers,
@@ -201,7 +201,7 @@ fn the_page_is_sent_without_the_desk(rt: HostRuntime) -> Result<(), Fail> {
     Ok(())
 }
 
-/// The text of a line, and the number that it has at the desk.
+// The text of a line, and the number that it has at the desk.
 const LINES: &[(&str, u32)] = &[
     ("0", 0),
     ("00012", 12),
@@ -412,7 +412,7 @@ fn add_fields(bytes: &mut Vec<u8>, fields: u32, more: u32) -> Result<(), AllocEr
     Ok(())
 }
 
-/// A head with so many fields, and then so many bytes of one more, and then this.
+// A head with so many fields, and then so many bytes of one more, and then this.
 fn long_head(alloc: Global, fields: u32, more: u32, end: &[u8]) -> Result<Vec<u8>, AllocError> {
     let mut bytes = b"GET /blocks HTTP/1.1\r\n".to_vec(alloc)?;
     add_fields(&mut bytes, fields, more)?;
@@ -420,7 +420,7 @@ fn long_head(alloc: Global, fields: u32, more: u32, end: &[u8]) -> Result<Vec<u8
     Ok(bytes)
 }
 
-/// How many fields a head has, how many bytes of one more, what ends it, and the status and the end of the reply.
+// How many fields a head has, how many bytes of one more, what ends it, and the status and the end of the reply.
 const FRONTS: &[(u32, u32, &[u8], u16, &str)] = &[
     (64, 0, b"\r\n", 200, "[]"),
     (65, 0, b"", 431, "{\"error\":\"large head\"}"),
@@ -436,7 +436,7 @@ fn fronts(rt: &(impl Abort + AllocGlobal), desk: &mut NamedAnswers) -> Result<()
     Ok(())
 }
 
-/// Whether a request of these bytes alone is cut.
+// Whether a request of these bytes alone is cut.
 fn is_cut(alloc: Global, desk: &mut NamedAnswers, sent: &[u8]) -> Result<bool, AllocError> {
     let mut port = port(alloc, sent, &[])?;
     let served = serve_one(alloc, &mut port, desk);
@@ -475,7 +475,7 @@ fn a_request_that_ends_early_is_cut(rt: HostRuntime) -> Result<(), Fail> {
     Ok(())
 }
 
-/// The call that fails, what becomes of the connection, and how often the desk acts.
+// The call that fails, what becomes of the connection, and how often the desk acts.
 const FAILS: &[(u64, Result<Served, ServeFault>, u32)] = &[
     (1, Err(ServeFault::Next), 0),
     (2, Ok(Served::Broken), 0),

@@ -6,7 +6,7 @@ use std::fs;
 use std::process::Abort;
 use std::test::Fail;
 
-/// A block to put, with a trace for each of these lines.
+// A block to put, with a trace for each of these lines.
 #[derive(Clone, Copy)]
 struct Row<'a> {
     name: &'a [u8],
@@ -71,7 +71,7 @@ fn is_of(block: &Block, row: &Row<'_>) -> bool {
         && has_traces(block, row)
 }
 
-/// Whether the keeper has this row.
+// Whether the keeper has this row.
 fn has<K: Keeper>(alloc: Global, keeper: &mut K, row: &Row<'_>) -> Result<bool, OutFault> {
     match keeper.block(alloc, row.name)? {
         Some(block) => Ok(is_of(&block, row)),
@@ -92,7 +92,7 @@ fn add_all(all: &mut Text, texts: &[Text]) -> Result<(), AllocError> {
     Ok(())
 }
 
-/// These texts, each behind a space.
+// These texts, each behind a space.
 fn joined(alloc: Global, texts: &[Text]) -> Result<Text, AllocError> {
     let mut all = Text::copy(alloc, b"")?;
     add_all(&mut all, texts)?;
@@ -111,14 +111,14 @@ fn walk<K: Keeper>(alloc: Global, keeper: &mut K, keys: &mut Vec<Text>) -> Resul
     Ok(())
 }
 
-/// The proofs' keys, each behind a space, as a walk from the least one finds them.
+// The proofs' keys, each behind a space, as a walk from the least one finds them.
 fn walked<K: Keeper>(alloc: Global, keeper: &mut K) -> Result<Text, OutFault> {
     let mut keys = Vec::new(alloc);
     walk(alloc, keeper, &mut keys)?;
     Ok(joined(alloc, &keys)?)
 }
 
-/// Rows as they are put, the second one in place of the first.
+// Rows as they are put, the second one in place of the first.
 const PUT: &[Row] = &[
     Row {
         name: b"b",

@@ -6,7 +6,7 @@ use std::alloc::{AllocError, Global};
 use std::process::Abort;
 use std::test::Fail;
 
-/// Whether the reply has this status, phrase, kind and body.
+// Whether the reply has this status, phrase, kind and body.
 fn is(
     alloc: Global,
     reply: &Reply,
@@ -26,10 +26,10 @@ const JSON: &str = "application/json";
 
 const TEXT: &str = "text/plain";
 
-/// The status, phrase, kind and body of a reply.
+// The status, phrase, kind and body of a reply.
 type Want<'a> = (u16, &'a str, &'a str, &'a str);
 
-/// Wants this reply.
+// Wants this reply.
 fn replied(rt: &(impl Abort + AllocGlobal), reply: &Reply, want: Want<'_>) -> Result<(), Fail> {
     let (status, phrase, kind, body) = want;
     let told = is(rt.alloc(), reply, status, phrase, kind, body)?;
@@ -108,7 +108,7 @@ fn a_desk_that_fails_has_its_reply(rt: HostRuntime) -> Result<(), Fail> {
     Ok(())
 }
 
-/// Wants a reply of this kind to a request for a file of the page.
+// Wants a reply of this kind to a request for a file of the page.
 fn sent(rt: &(impl Abort + AllocGlobal), file: PageFile, kind: &str) -> Result<(), Fail> {
     let alloc = rt.alloc();
     let reply = file_reply(alloc, file)?;
@@ -125,14 +125,14 @@ fn each_file_of_the_page_has_its_kind(rt: HostRuntime) -> Result<(), Fail> {
     sent(&rt, PageFile::Script, "text/javascript")
 }
 
-/// Wants this reply to an answer.
+// Wants this reply to an answer.
 fn told(rt: &(impl Abort + AllocGlobal), answer: Answer, want: Want<'_>) -> Result<(), Fail> {
     let reply = reply_of(rt.alloc(), &answer);
     drop(answer);
     replied(rt, &reply?, want)
 }
 
-/// Wants that there is not what is asked for.
+// Wants that there is not what is asked for.
 fn absent(rt: &(impl Abort + AllocGlobal), answer: Answer, body: &str) -> Result<(), Fail> {
     told(rt, answer, (404, "Not Found", JSON, body))
 }

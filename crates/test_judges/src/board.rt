@@ -59,7 +59,7 @@ fn leaves(
     Ok(leaves)
 }
 
-/// A leaf for each signal of a module, with the constant of its value. Refused only for want of memory.
+/// A leaf for each signal of a module, with the constant of its value.
 pub fn board(
     alloc: Global,
     dag: &mut Dag,

@@ -128,13 +128,13 @@ fn is_input(ports: &[TopPort], name: &[u8]) -> bool
     false
 }
 
-/// What drives the bits of a module's signals.
+// What drives the bits of a module's signals.
 #[derive(Drop)]
 struct Drivers<'a> {
     flat: &'a Flat,
-    /// The parts that continuous assignments and combinational blocks drive.
+    // The parts that continuous assignments and combinational blocks drive.
     nets: &'a [Part<'a>],
-    /// Those that clocked blocks drive.
+    // Those that clocked blocks drive.
     clocked: &'a [Part<'a>],
 }
 
@@ -191,9 +191,9 @@ fn meets_cycle(alloc: Global, flat: &Flat, values: &[u64]) -> Result<bool, Alloc
     Ok(assigns && (blocks && driven))
 }
 
-/// Whether values of a module's signals, one each in their order, are a cycle of it: each continuous assignment and each combinational block
-/// holds, and a bit is 0 that nothing drives and that is of no register and no input (IEEE 1364-2005, sections 6.1 and 9.2). Refused for want of
-/// memory alone.
+/// Whether values of a module's signals, one each in their order, are a cycle of it: each continuous assignment and
+/// each combinational block holds, and a bit is 0 that nothing drives and that is of no register and no input (IEEE
+/// 1364-2005, sections 6.1 and 9.2).
 pub fn is_cycle(alloc: Global, flat: &Flat, values: &[u64]) -> Result<bool, AllocError>
     requires can { CanElaborate flat.now }
     requires values { AreValues flat.now.signals values.now }
@@ -308,8 +308,9 @@ fn meets_edge(alloc: Global, flat: &Flat, now: &[u64], next: &[u64]) -> Result<b
     Ok(blocks && kept)
 }
 
-/// Whether values of a module's signals, one each in their order, follow others: a bit that a clocked block drives has what this block gives from
-/// the cycle before, and each other bit of a register keeps its value (IEEE 1364-2005, section 9.2). Refused for want of memory alone.
+/// Whether values of a module's signals, one each in their order, follow others: a bit that a clocked block drives has
+/// what this block gives from the cycle before, and each other bit of a register keeps its value (IEEE 1364-2005,
+/// section 9.2).
 pub fn follows(alloc: Global, flat: &Flat, now: &[u64], next: &[u64]) -> Result<bool, AllocError>
     requires can { CanElaborate flat.now }
     requires now { AreValues flat.now.signals now.now }

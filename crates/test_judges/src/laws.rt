@@ -6,8 +6,8 @@ ghost use Rattle.test_judges.specs.Joins.{ViolationsAreBreakingRuns};
 
 use set_tree_completeness::Cycle;
 
-/// A segment of a design violates a line on it exactly where its cycles are a run that the line speaks of, from reset or without, and its rows
-/// break the line.
+/// A segment of a design violates a line on it exactly where its cycles are a run that the line speaks of, from reset
+/// or without, and its rows break the line.
 pub fn violations_are_breaking_runs<C: Cycle>()
     ensures { (m : Meaning) (set : Set) → ViolationsAreBreakingRuns (design_of C.follows C.is_reset C.values) m set }
 {}

@@ -1,5 +1,5 @@
-//! Plain programs for tests: whether values of a module's signals are a cycle, whether a cycle follows another one, whether
-//! cycles are a run, and whether rows break a line of a design. Rows tell the last without the design.
+//! Plain programs for tests: whether values of a module's signals are a cycle, whether a cycle follows another one,
+//! whether cycles are a run, and whether rows break a line of a design. Rows tell the last without the design.
 #![tactic(auto)]
 
 mod board;

@@ -1,4 +1,5 @@
-// The bits of a signal that left sides drive, as a word with a 1 for each of them (IEEE 1364-2005, sections 5.2.1, 6.1 and 9.2).
+// The bits of a signal that left sides drive, as a word with a 1 for each of them (IEEE 1364-2005, sections 5.2.1, 6.1
+// and 9.2).
 
 ghost use Rattle.std.specs.Prelude.{◌≡◌, ◌≤◌, IfOk, Some, map};
 ghost use Rattle.std.specs.Str.{bytes_eq};
@@ -102,7 +103,7 @@ fn part_bits(alloc: Global, part: Part<'_>, signal: &Signal) -> Result<u64, Allo
     own_bits(alloc, part, signal)
 }
 
-/// The bits of a signal that some part names. Refused only for want of memory.
+/// The bits of a signal that some part names.
 pub fn bits_in(alloc: Global, parts: &[Part<'_>], signal: &Signal) -> Result<u64, AllocError>
     requires narrow { signal.now.width ≤ 64 }
     requires ready { ArePartsReady (map part_meant parts.now) }
@@ -128,7 +129,7 @@ pub fn names(parts: &[Part<'_>], name: &[u8]) -> bool
     }
 }
 
-/// The bits of each signal that some part names. Refused only for want of memory.
+/// The bits of each signal that some part names.
 pub fn masks(alloc: Global, parts: &[Part<'_>], signals: &[Signal]) -> Result<Vec<u64>, AllocError>
     requires narrow { All (λ g. g.width ≤ 64) signals.now }
     requires ready { ArePartsReady (map part_meant parts.now) }
@@ -142,7 +143,7 @@ pub fn masks(alloc: Global, parts: &[Part<'_>], signals: &[Signal]) -> Result<Ve
     Ok(all)
 }
 
-/// All bits of each signal. Refused only for want of memory.
+/// All bits of each signal.
 pub fn whole(alloc: Global, signals: &[Signal]) -> Result<Vec<u64>, AllocError>
     requires { All (λ g. g.width ≤ 64) signals.now }
     ensures { IfOk result (λ r. r.items ≡ whole signals.now) }

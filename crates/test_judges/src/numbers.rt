@@ -129,7 +129,7 @@ fn same_within(
     Ok(same)
 }
 
-/// Whether each leaf has its value, as far as its mask tells, the free words having the value 0. Refused only for want of memory.
+/// Whether each leaf has its value, as far as its mask tells, the free words having the value 0.
 pub fn leaves_same(
     alloc: Global,
     dag: &mut Dag,

@@ -44,7 +44,7 @@ fn add_body<'a>(all: &mut Vec<Part<'a>>, alloc: Global, body: &'a Stmt) -> Resul
     Ok(())
 }
 
-/// The parts of the left sides in a statement. Refused only for want of memory.
+/// The parts of the left sides in a statement.
 pub fn body_parts(alloc: Global, body: &Stmt) -> Result<Vec<Part<'_>>, AllocError>
     ensures { IfOk result (λ r. map part_meant r.items ≡ body_parts body.now) }
 {
@@ -88,7 +88,7 @@ fn is_same(a: bool, b: bool) -> bool
     if a { b } else { !b }
 }
 
-/// The parts of the left sides of continuous assignments and combinational blocks. Refused only for want of memory.
+/// The parts of the left sides of continuous assignments and combinational blocks.
 pub fn net_parts(alloc: Global, flat: &Flat) -> Result<Vec<Part<'_>>, AllocError>
     ensures { IfOk result (λ r. map part_meant r.items ≡ net_parts flat.now) }
 {
@@ -98,7 +98,7 @@ pub fn net_parts(alloc: Global, flat: &Flat) -> Result<Vec<Part<'_>>, AllocError
     Ok(all)
 }
 
-/// The parts of the left sides in clocked blocks. Refused only for want of memory.
+/// The parts of the left sides in clocked blocks.
 pub fn clocked_parts(alloc: Global, flat: &Flat) -> Result<Vec<Part<'_>>, AllocError>
     ensures { IfOk result (λ r. map part_meant r.items ≡ clocked_parts flat.now) }
 {

@@ -41,7 +41,7 @@ fn all_follow(alloc: Global, flat: &Flat, cycles: &[Rows<u64>]) -> Result<bool, 
     Ok(true)
 }
 
-/// Whether rows of values of a module's signals are a run of it: each is a cycle, and follows the one before. Refused for want of memory alone.
+/// Whether rows of values of a module's signals are a run of it: each is a cycle, and follows the one before.
 pub fn is_run(alloc: Global, flat: &Flat, cycles: &[Rows<u64>]) -> Result<bool, AllocError>
     requires can { CanElaborate flat.now }
     requires values { All (AreValues flat.now.signals) cycles.now }

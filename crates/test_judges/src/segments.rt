@@ -152,9 +152,9 @@ fn breaks_operation(
     Ok(!committed)
 }
 
-/// Whether rows break a line of a design: they are as many as the line asks, a trace of the set that meets its constraints, and what they show of
-/// the invariants and of the property that the line names violates it. No rows break a line on the set, nor one that names an invariant or an
-/// operation which isn't there. Refused for want of memory alone.
+/// Whether rows break a line of a design: they are as many as the line asks, a trace of the set that meets its
+/// constraints, and what they show of the invariants and of the property that the line names violates it. No rows break
+/// a line on the set, nor one that names an invariant or an operation which isn't there.
 pub fn is_broken(
     alloc: Global,
     set: &Sound,

@@ -59,7 +59,7 @@ impl Kept {
             .ok_or(wrong())
     }
 
-    /// The place of the next line, the first one's for the last.
+    // The place of the next line, the first one's for the last.
     fn neighbour(&self, at: usize) -> usize {
         let next = at.saturating_add(1);
         if next == self.keys.len() { 0 } else { next }
@@ -109,7 +109,7 @@ fn halved(bytes: Vec<u8>) -> Vec<u8> {
     bytes
 }
 
-/// The bytes, of which the one at a place has its lowest bit turned.
+// The bytes, of which the one at a place has its lowest bit turned.
 fn turned(bytes: Vec<u8>, at: usize) -> Vec<u8> {
     let mut bytes = bytes;
     if let Some(byte) = bytes.get_mut(at) {
@@ -118,7 +118,7 @@ fn turned(bytes: Vec<u8>, at: usize) -> Vec<u8> {
     bytes
 }
 
-/// Puts the record under a key again as one of version 1, where that holds it.
+// Puts the record under a key again as one of version 1, where that holds it.
 fn put_first(alloc: Global, keeper: &mut MemKeeper, key: &[u8]) -> io::Result<()> {
     let bytes = given(keeper.proof(alloc, key))?.ok_or(wrong())?;
     let steps = read_steps(alloc, &bytes)?.ok_or(wrong())?;

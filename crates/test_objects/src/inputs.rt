@@ -3,7 +3,8 @@ use crate::aides::Aide;
 use outside::Text;
 use std::alloc::{AllocError, Global};
 
-/// What one run is given besides its words and its keeper: which calls of its shelf, its sink and its port fail, the connections, and the helpers.
+/// What one run is given besides its words and its keeper: which calls of its shelf, its sink and its port fail, the
+/// connections, and the helpers.
 #[derive(Drop)]
 pub struct Given {
     pub shelf: Vec<u64>,

@@ -1,5 +1,5 @@
-//! Objects of the program's runs: what a run is given, what it came to, and what is told of that; kept proofs that are damaged, and helpers whose
-//! claims are false; expressions as what they come to.
+//! Objects of the program's runs: what a run is given, what it came to, and what is told of that; kept proofs that are
+//! damaged, and helpers whose claims are false; expressions as what they come to.
 #![tactic(auto)]
 
 mod aides;

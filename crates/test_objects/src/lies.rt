@@ -36,7 +36,7 @@ fn refutation(alloc: Global, hints: Vec<u32>) -> Result<Claim, AllocError> {
     Ok(Claim::Unsat(steps))
 }
 
-/// Zeros for the free words, and this many more.
+// Zeros for the free words, and this many more.
 fn zeros(alloc: Global, ob: &Ob, more: usize) -> Result<Vec<u64>, AllocError> {
     let mut values = Vec::new(alloc);
     for node in ob.nodes() {
@@ -50,7 +50,7 @@ fn zeros(alloc: Global, ob: &Ob, more: usize) -> Result<Vec<u64>, AllocError> {
     Ok(values)
 }
 
-/// The power of two that the first free word's length has no room for, or 2^63 where it has 64 bits.
+// The power of two that the first free word's length has no room for, or 2^63 where it has 64 bits.
 fn too_great(ob: &Ob) -> u64 {
     for node in ob.nodes() {
         if let Node::Free { width, .. } = node {

@@ -5,7 +5,8 @@ use outside::{MemPort, MemSink, Text};
 use std::alloc::{AllocError, Global};
 use word_dag::text;
 
-/// Where the lines of a run were decided: how many at the keeper, by a helper and by the workers, and how many numbers these drew.
+/// Where the lines of a run were decided: how many at the keeper, by a helper and by the workers, and how many numbers
+/// these drew.
 #[derive(Clone, Copy)]
 pub struct Counts {
     pub kept: u64,
@@ -44,7 +45,8 @@ fn replies_of(alloc: Global, port: &MemPort, peers: usize) -> Result<Vec<Text>, 
 }
 
 impl Ran {
-    /// What a call with this status and this book came to, which put what this sink has, and replied to so many peers at this port.
+    /// What a call with this status and this book came to, which put what this sink has, and replied to so many peers
+    /// at this port.
     pub fn of(
         alloc: Global,
         status: u8,

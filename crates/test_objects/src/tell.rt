@@ -27,7 +27,7 @@ pub enum Tell<'a> {
     Replies,
 }
 
-/// How many lines bytes have, each ended by a line feed.
+// How many lines bytes have, each ended by a line feed.
 fn line_count(bytes: &[u8]) -> usize {
     bytes.iter().filter(|byte| **byte == b'\n').count()
 }

@@ -68,8 +68,8 @@ fn show_text(
     }
 }
 
-/// The length, the sign and the value of the expression that a text of a module spells, where its names stand for what the valuation says: at its own length,
-/// or at `length` bits where that is more. `unread` where it spells none.
+/// The length, the sign and the value of the expression that a text of a module spells, where its names stand for what
+/// the valuation says: at its own length, or at `length` bits where that is more. `unread` where it spells none.
 pub fn shown(
     alloc: Global,
     text: &[u8],
@@ -152,7 +152,8 @@ fn add_names(alloc: Global, valuation: &mut Valuation) -> Result<(), AllocError>
     add_memory(alloc, valuation)
 }
 
-/// The names that expressions may have: `a` and `b` of two bits, `v[11:4]`, the signed `s` and `t` of four bits, and a memory `m` of two words of four bits.
+/// The names that expressions may have: `a` and `b` of two bits, `v[11:4]`, the signed `s` and `t` of four bits, and a
+/// memory `m` of two words of four bits.
 pub fn names(alloc: Global) -> Result<Valuation, AllocError> {
     let mut valuation = Valuation::new(alloc);
     add_names(alloc, &mut valuation)?;

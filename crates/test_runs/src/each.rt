@@ -28,16 +28,16 @@ pub enum Each {
     Line(Damage),
 }
 
-/// Runs of a command line, each with one thing changed.
+// Runs of a command line, each with one thing changed.
 #[derive(Clone, Copy)]
 struct Series<'a> {
     each: Each,
     line: &'a str,
-    /// What a run puts where nothing is changed.
+    // What a run puts where nothing is changed.
     all: &'a [u8],
-    /// The request that is cut.
+    // The request that is cut.
     sent: &'a [u8],
-    /// The place of the line of whose proof bytes are turned.
+    // The place of the line of whose proof bytes are turned.
     place: usize,
 }
 
@@ -60,7 +60,7 @@ impl<'a> Series<'a> {
     }
 }
 
-/// Numbers in a row that come to the same.
+// Numbers in a row that come to the same.
 #[derive(Drop)]
 struct Stretch {
     from: usize,
@@ -85,7 +85,7 @@ impl Stretch {
         println!(rt; "{from} to {to}: {text}")
     }
 
-    /// What the next number comes to.
+    // What the next number comes to.
     fn add(&mut self, rt: &HostRuntime, at: usize, text: String) -> io::Result<()> {
         if self.text.as_str() != text.as_str() {
             self.put(rt)?;
@@ -97,7 +97,7 @@ impl Stretch {
     }
 }
 
-/// What a run comes to that meets a damaged proof; then the proof is as before.
+// What a run comes to that meets a damaged proof; then the proof is as before.
 fn told_damaged<R: Threads + Sync>(
     threads: &R,
     rt: &HostRuntime,
@@ -115,7 +115,7 @@ fn told_damaged<R: Threads + Sync>(
     Ok(text)
 }
 
-/// What a run comes to whose peer sends the first bytes of the request alone, and how many blocks the desk has then.
+// What a run comes to whose peer sends the first bytes of the request alone, and how many blocks the desk has then.
 fn told_cut<R: Threads + Sync>(
     threads: &R,
     rt: &HostRuntime,
@@ -130,7 +130,7 @@ fn told_cut<R: Threads + Sync>(
     Ok(format!(in alloc; "{replies}, blocks {blocks}")?)
 }
 
-/// What the run of a number comes to.
+// What the run of a number comes to.
 fn told_at<R: Threads + Sync>(
     threads: &R,
     rt: &HostRuntime,
@@ -169,7 +169,7 @@ fn told_at<R: Threads + Sync>(
     }
 }
 
-/// Prints what the runs of these numbers come to.
+// Prints what the runs of these numbers come to.
 fn put_series<R: Threads + Sync>(
     threads: &R,
     rt: &HostRuntime,
@@ -185,7 +185,7 @@ fn put_series<R: Threads + Sync>(
     stretch.put(rt)
 }
 
-/// What a command line puts over a new keeper, where nothing fails.
+// What a command line puts over a new keeper, where nothing fails.
 fn whole<R: Threads + Sync>(
     threads: &R,
     rt: &HostRuntime,
@@ -198,7 +198,7 @@ fn whole<R: Threads + Sync>(
     Ok(ran.out)
 }
 
-/// `COUNT WORDS`
+// `COUNT WORDS`
 fn each_number<R: Threads + Sync>(
     threads: &R,
     rt: &HostRuntime,
@@ -216,7 +216,7 @@ fn each_number<R: Threads + Sync>(
     put_series(threads, rt, world, &series, numbers)
 }
 
-/// `LINE | FILE`
+// `LINE | FILE`
 fn each_cut<R: Threads + Sync>(
     threads: &R,
     rt: &HostRuntime,
@@ -232,7 +232,7 @@ fn each_cut<R: Threads + Sync>(
     put_series(threads, rt, world, &series, 0..sent.len().saturating_add(1))
 }
 
-/// `NAME | WORDS`
+// `NAME | WORDS`
 fn each_byte<R: Threads + Sync>(
     threads: &R,
     rt: &HostRuntime,
@@ -251,7 +251,7 @@ fn each_byte<R: Threads + Sync>(
     put_series(threads, rt, world, &series, 0..bytes)
 }
 
-/// `WORDS`
+// `WORDS`
 fn each_line<R: Threads + Sync>(
     threads: &R,
     rt: &HostRuntime,

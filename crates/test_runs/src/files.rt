@@ -5,7 +5,7 @@ use std::alloc::AllocError;
 use std::thread::Threads;
 use std::{fs, io};
 
-/// The parts of a line `NAME BASE: OLD => NEW`: the text BASE with NEW in place of the first OLD is named NAME.
+// The parts of a line `NAME BASE: OLD => NEW`: the text BASE with NEW in place of the first OLD is named NAME.
 #[derive(Clone, Copy)]
 struct Change<'a> {
     name: &'a str,
@@ -27,7 +27,7 @@ fn change_of(line: &str) -> Option<Change<'_>> {
     })
 }
 
-/// Writes the text that a line makes of another one; a line that isn't one of these is refused.
+// Writes the text that a line makes of another one; a line that isn't one of these is refused.
 fn write_change(rt: &HostRuntime, line: &str) -> io::Result<()> {
     let Some(change) = change_of(line) else {
         return Err(io::Error::from(io::ErrorKind::InvalidData));
@@ -59,7 +59,7 @@ pub fn words_of(rt: &HostRuntime, line: &str) -> Result<Vec<String>, AllocError>
     Ok(words)
 }
 
-/// Prints a command line, answers it, and prints the status under what it put.
+// Prints a command line, answers it, and prints the status under what it put.
 fn run<R: Threads + Sync>(threads: &R, rt: &HostRuntime, line: &str) -> io::Result<()> {
     println!(rt; ">{line}")?;
     let words = words_of(rt, line)?;

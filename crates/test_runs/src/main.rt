@@ -1,5 +1,6 @@
-//! Runs of the program: command lines over its real objects, and over objects in memory that fail and are changed. Each is printed with what it puts
-//! and its status. The scripts `rows` and `memory` say what is run; `values` has expressions whose values are printed.
+//! Runs of the program: command lines over its real objects, and over objects in memory that fail and are changed. Each
+//! is printed with what it puts and its status. The scripts `rows` and `memory` say what is run; `values` has
+//! expressions whose values are printed.
 #![tactic(auto)]
 
 mod each;

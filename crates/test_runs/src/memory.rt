@@ -11,10 +11,10 @@ use std::thread::Threads;
 use std::{fs, io};
 use test_objects::{Aide, Given, Liar, Ran};
 
-/// The room for each reply of a port, in bytes.
+// The room for each reply of a port, in bytes.
 const ROOM: usize = 4_096;
 
-/// The files that these words name.
+// The files that these words name.
 fn files_of(rt: &HostRuntime, words: &[String]) -> io::Result<Vec<File>> {
     let alloc = rt.alloc();
     let mut files = Vec::new(alloc);
@@ -29,7 +29,7 @@ fn files_of(rt: &HostRuntime, words: &[String]) -> io::Result<Vec<File>> {
     Ok(files)
 }
 
-/// The objects of a run but its keeper.
+// The objects of a run but its keeper.
 #[derive(Drop)]
 struct Objects {
     shelf: MemShelf,
@@ -55,7 +55,7 @@ fn objects_of(rt: &HostRuntime, words: &[String], given: Given) -> io::Result<Ob
     })
 }
 
-/// Makes the helpers, and calls the top call: its status, and the book.
+// Makes the helpers, and calls the top call: its status, and the book.
 fn called<R: Threads + Sync>(
     threads: &R,
     alloc: Global,

@@ -17,7 +17,7 @@ pub struct World {
     pub given: Given,
 }
 
-/// What the first word of a line asks for.
+// What the first word of a line asks for.
 #[derive(Clone, Copy)]
 enum Verb {
     New,
@@ -73,7 +73,7 @@ pub fn number(text: &str) -> io::Result<usize> {
     text.parse::<usize>().map_err(|_| wrong())
 }
 
-/// The numbers of a line.
+// The numbers of a line.
 fn numbers(alloc: Global, line: &str) -> io::Result<Vec<u64>> {
     let mut all = Vec::new(alloc);
     for part in line.split_whitespace() {
@@ -82,7 +82,8 @@ fn numbers(alloc: Global, line: &str) -> io::Result<Vec<u64>> {
     Ok(all)
 }
 
-/// The bytes of a request: its first line up to the version, and the text of a file as its body, of which some last bytes may be kept back.
+/// The bytes of a request: its first line up to the version, and the text of a file as its body, of which some last
+/// bytes may be kept back.
 pub fn request(rt: &HostRuntime, line: &str) -> io::Result<Text> {
     let alloc = rt.alloc();
     let (first, rest) = line.split_once(" | ").unwrap_or((line, ""));
@@ -101,7 +102,7 @@ pub fn request(rt: &HostRuntime, line: &str) -> io::Result<Text> {
     Ok(Text::new(bytes))
 }
 
-/// Changes what the next run is given, or what the keeper has. False: the line asks for something else.
+// Changes what the next run is given, or what the keeper has. False: the line asks for something else.
 fn set(rt: &HostRuntime, world: &mut World, verb: Verb, rest: &str) -> io::Result<bool> {
     let alloc = rt.alloc();
     match verb {
@@ -119,19 +120,19 @@ fn set(rt: &HostRuntime, world: &mut World, verb: Verb, rest: &str) -> io::Resul
     Ok(true)
 }
 
-/// Turns the lowest bit of the first byte that is kept for a line.
+// Turns the lowest bit of the first byte that is kept for a line.
 fn turn(alloc: Global, kept: &mut Kept, name: &str) -> io::Result<()> {
     let at = kept.place(name)?;
     let bytes = kept.damaged(alloc, at, Damage::Turned(0))?;
     kept.put(alloc, at, &bytes)
 }
 
-/// Takes what the next run is given, so that the one after it is given nothing.
+// Takes what the next run is given, so that the one after it is given nothing.
 fn take_given(alloc: Global, world: &mut World) -> Given {
     std::mem::replace(&mut world.given, Given::nothing(alloc))
 }
 
-/// Runs a command line, prints what it came to, and remembers its lines, where it has some.
+// Runs a command line, prints what it came to, and remembers its lines, where it has some.
 fn run_shown<R: Threads + Sync>(
     threads: &R,
     rt: &HostRuntime,
@@ -147,7 +148,7 @@ fn run_shown<R: Threads + Sync>(
     Ok(())
 }
 
-/// Prints the lines of a run over a new keeper that have no proof at the keeper.
+// Prints the lines of a run over a new keeper that have no proof at the keeper.
 fn put_missing<R: Threads + Sync>(
     threads: &R,
     rt: &HostRuntime,
@@ -170,7 +171,7 @@ fn put_missing_line(rt: &HostRuntime, key: &Key) -> io::Result<()> {
     println!(rt; "missing {name}")
 }
 
-/// Moves so many rows at most, and prints what it came to.
+// Moves so many rows at most, and prints what it came to.
 fn put_moved(rt: &HostRuntime, world: &mut World, most: usize) -> io::Result<()> {
     match migrate(rt.alloc(), &mut world.kept.keeper, (most as u64).max(1)) {
         Ok(now) => {
@@ -181,7 +182,7 @@ fn put_moved(rt: &HostRuntime, world: &mut World, most: usize) -> io::Result<()>
     }
 }
 
-/// Does what a line asks for.
+// Does what a line asks for.
 fn step<R: Threads + Sync>(
     threads: &R,
     rt: &HostRuntime,

@@ -8,7 +8,7 @@ pub fn put(rt: &HostRuntime, bytes: &[u8]) -> io::Result<()> {
     io::writer(rt).write_all(bytes)
 }
 
-/// Prints a reply: its status and its body.
+// Prints a reply: its status and its body.
 fn put_reply(rt: &HostRuntime, reply: &[u8]) -> io::Result<()> {
     match parts(reply) {
         Some((status, body)) => println!(rt; "{status} {body}"),

@@ -36,7 +36,8 @@ pub fn told_anew<R: Threads + Sync>(
     told(threads, rt, &mut keeper, given, asked)
 }
 
-/// What is told of a run over a new keeper of which the call of this number fails, and of a run after it, in which none does.
+/// What is told of a run over a new keeper of which the call of this number fails, and of a run after it, in which none
+/// does.
 pub fn told_twice<R: Threads + Sync>(
     threads: &R,
     rt: &HostRuntime,

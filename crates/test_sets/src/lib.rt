@@ -1,4 +1,5 @@
-//! Rows of words and of sets: their texts and structure, the lines that windows violate and that are refuted, and texts that are made.
+//! Rows of words and of sets: their texts and structure, the lines that windows violate and that are refuted, and texts
+//! that are made.
 #![tactic(auto)]
 
 #[cfg(test)]

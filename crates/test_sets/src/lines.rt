@@ -37,7 +37,8 @@ fn refuted_lines(alloc: Global, set: &Sound) -> Result<Text, AllocError> {
     Ok(text)
 }
 
-// The names of the lines of the set whose root can be 1, a line each. `unread` and `unsound` where the text is no set with a sound structure.
+// The names of the lines of the set whose root can be 1, a line each. `unread` and `unsound` where the text is no set
+// with a sound structure.
 fn shown(alloc: Global, text: &[u8]) -> Result<Text, AllocError> {
     match read_set(alloc, text) {
         Ok(set) => match structure(set) {

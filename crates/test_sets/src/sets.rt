@@ -1,4 +1,5 @@
-// What a set's text comes to, shown as a line: why it is refused, the first fault of its structure, or that it is sound.
+// What a set's text comes to, shown as a line: why it is refused, the first fault of its structure, or that it is
+// sound.
 ghost use Rattle.set_tree_structure.specs.Condition.{IsWellFormed};
 
 use outside::Text;

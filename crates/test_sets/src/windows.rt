@@ -18,8 +18,8 @@ enum Judged {
     Design(Line),
 }
 
-// A line, the end of its property where the line speaks of one, and the windows that may violate it: a row of values in the order of the
-// set's names for each cycle. A line on a design has the first window alone, the rows of a segment.
+// A line, the end of its property where the line speaks of one, and the windows that may violate it: a row of values in
+// the order of the set's names for each cycle. A line on a design has the first window alone, the rows of a segment.
 struct Windows<'a> {
     line: Judged,
     end: u8,
@@ -86,8 +86,9 @@ fn verdict_of(alloc: Global, set: &Sound, windows: &Windows) -> Result<&'static 
     judged_rows(alloc, set, windows, &one, &other)
 }
 
-// `violated` where the windows violate a line of the set, `broken` where the rows break one of a design; else `kept`, or `unconstrained` where the first
-// isn't a trace that meets the set's constraints. `unread` and `unsound` where the text is no set with a sound structure.
+// `violated` where the windows violate a line of the set, `broken` where the rows break one of a design; else `kept`,
+// or `unconstrained` where the first isn't a trace that meets the set's constraints. `unread` and `unsound` where the
+// text is no set with a sound structure.
 fn shown(alloc: Global, text: &[u8], windows: &Windows) -> Result<&'static str, AllocError> {
     match read_set(alloc, text) {
         Ok(set) => match structure(set) {

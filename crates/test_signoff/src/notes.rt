@@ -18,7 +18,7 @@ operation hold { length 1 to 2 until en; assume !en@0; commit q@1 == q@0; hand q
   cover q from 1 to end + 1; cover y from 1 to end + 1; next step; }
 ";
 
-/// A line, so many reset cycles, windows with the values of `en`, `q` and `y`, and what is said.
+// A line, so many reset cycles, windows with the values of `en`, `q` and `y`, and what is said.
 struct Row {
     line: Line,
     before: u32,
@@ -207,7 +207,7 @@ fn note_of(alloc: Global, set: &Set, row: &Row) -> Result<Text, AllocError> {
     trace_note(alloc, file, set, row.line, &shown)
 }
 
-/// What is said of a row.
+// What is said of a row.
 fn said(alloc: Global, row: &Row) -> Result<Text, AllocError> {
     match set_of(alloc, SET.as_bytes()) {
         Ok(sound) => {

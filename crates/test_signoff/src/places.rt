@@ -31,7 +31,8 @@ operation stay { length 1; assume !en@0; commit c@1 == c@0 + 2'd1; hand c@0;
   cover o from 1 to 2; next go, stay; }
 ";
 
-// Rows: what is written in place of something, the begin of what is said then, and a part of its sentence, with a tab between them. `\n` is a line feed.
+// Rows: what is written in place of something, the begin of what is said then, and a part of its sentence, with a tab
+// between them. `\n` is a line feed.
 
 const MODULE_ROWS: &str = "  wire n;\t  wire n; /* open\tm.v:6:11: error: \thas no end
   wire n;\t  wire n; (* keep\tm.v:6:11: error: \tattribute
@@ -131,7 +132,7 @@ clock clk\tclock en\tm.v:4:18: error: \tits clock `en`
 clock clk; reset rst high\tclock rst; reset clk high\ts.set:1:18: error: \tisn't the block's clock
 ";
 
-/// What is said of two texts.
+// What is said of two texts.
 fn said(alloc: Global, module: &str, set: &str) -> Result<String, AllocError> {
     let names = Files {
         module: b"m.v",
@@ -156,7 +157,7 @@ fn said(alloc: Global, module: &str, set: &str) -> Result<String, AllocError> {
     String::from_str(alloc, shown(text?.bytes()))
 }
 
-/// A row of a table.
+// A row of a table.
 #[derive(Drop)]
 struct Row<'a> {
     old: &'a str,
@@ -175,7 +176,7 @@ fn row_of(line: &str) -> Row<'_> {
     }
 }
 
-/// A text with a row's change.
+// A text with a row's change.
 fn changed(alloc: Global, text: &str, row: &Row<'_>) -> Result<String, AllocError> {
     let old = row.old.replace(alloc, "\\n", "\n")?;
     let new = row.new.replace(alloc, "\\n", "\n")?;

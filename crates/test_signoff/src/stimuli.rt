@@ -7,7 +7,8 @@ use std::alloc::{AllocError, Global};
 use std::test::Fail;
 use unroll_binding::Bound;
 
-/// A block and its set, whose reset takes one cycle; texts, and the rows that are read of each, or what stands against it.
+// A block and its set, whose reset takes one cycle; texts, and the rows that are read of each, or what stands against
+// it.
 struct Table {
     module: &'static str,
     set: &'static str,

@@ -133,7 +133,7 @@ fn read(alloc: Global, out: &mut Vec<u8>, dump: &[u8]) -> Result<(), AllocError>
     reader.add_lines(out)
 }
 
-/// What is shown, in plain values, and the lines that are read of its dump.
+// What is shown, in plain values, and the lines that are read of its dump.
 struct Case {
     signals: &'static [(&'static str, u8)],
     firsts: &'static [(&'static str, u8, u64)],

@@ -1,4 +1,5 @@
-//! Rows of modules: tokens, trees, what stands for names, what follows in modules that are freed of memories, and the faults of memories.
+//! Rows of modules: tokens, trees, what stands for names, what follows in modules that are freed of memories, and the
+//! faults of memories.
 #![tactic(auto)]
 
 #[cfg(test)]

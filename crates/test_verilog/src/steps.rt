@@ -88,7 +88,8 @@ const QUEUE_STEPS: &[(&[u64], &[u64], bool)] = &[
     ),
 ];
 
-// A signed index counts as unsigned, and the last part of a left side has the lowest bits. Signals are clk, i, d, o, and the words.
+// A signed index counts as unsigned, and the last part of a left side has the lowest bits. Signals are clk, i, d, o,
+// and the words.
 const PARTS: &str = "module m(input clk, input signed [1:0] i, input [7:0] d, output [3:0] o);
 reg [3:0] r [0:3]; assign o = r[i]; always @(posedge clk) {r[i], r[0]} <= d; endmodule";
 
@@ -127,7 +128,8 @@ const IDLE_STEPS: &[(&[u64], &[u64], bool)] = &[
     (&[0, 3, 7, 5, 7], &[0, 0, 7, 5, 7], false),
 ];
 
-// A module without a memory. A bit that nothing drives is 0, and one that nothing assigns keeps its value; signals are clk, a, y, w and q.
+// A module without a memory. A bit that nothing drives is 0, and one that nothing assigns keeps its value; signals are
+// clk, a, y, w and q.
 const WIRED: &str = "module m(input clk, input a, output y, output [1:0] w, output reg [1:0] q);
 assign y = a; assign w[0] = a; always @(posedge clk) q[0] <= y; endmodule";
 

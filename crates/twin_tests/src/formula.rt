@@ -20,8 +20,8 @@ use std::alloc::{AllocError, Global};
 use vlog_tree::Expr;
 use word_dag::Dag;
 
-/// The node of a formula of a set, whose names are read in rows of nodes. Its number is the formula's value, whatever the free words are. It
-/// is refused for want of memory alone, and then the nodes that were there stay as they were.
+/// The node of a formula of a set, whose names are read in rows of nodes. Its number is the formula's value, whatever
+/// the free words are. On an error the nodes that were there stay as they were.
 pub fn formula_node(
     alloc: Global,
     dag: &mut Dag,

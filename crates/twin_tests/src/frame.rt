@@ -16,7 +16,8 @@ use set_tree::Set;
 use std::alloc::{AllocError, Global};
 use word_dag::Dag;
 
-/// The first cycles of one side as nodes, and for each cycle the node that tells whether the constraints hold in the window that ends there.
+/// The first cycles of one side as nodes, and for each cycle the node that tells whether the constraints hold in the
+/// window that ends there.
 #[derive(Drop)]
 pub struct Frame {
     pub side: u8,

@@ -161,7 +161,8 @@ fn push_leaf(
     }
 }
 
-/// What the names of a formula stand for in these rows: so the leaves are as few as its names, however many names the set declares.
+/// What the names of a formula stand for in these rows: so the leaves are as few as its names, however many names the
+/// set declares.
 pub fn leaves_of(
     alloc: Global,
     names: &[Name],

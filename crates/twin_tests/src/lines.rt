@@ -91,7 +91,7 @@ fn push_edges(lines: &mut Vec<SetLine>, set: &Set, kind: OfEdge) -> Result<(), A
     Ok(())
 }
 
-/// The lines of a set, in the order of a report. It is refused for want of memory alone.
+/// The lines of a set, in the order of a report.
 pub fn lines_of(alloc: Global, set: &Set) -> Result<Vec<SetLine>, AllocError>
     requires { length set.now.operations < 2 ^ 31 }
     ensures { IfOk result (λ lines. map line_of lines.items ≡ set_lines set.now) }

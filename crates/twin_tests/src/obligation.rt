@@ -12,8 +12,8 @@ ghost use Rattle.word_dag.specs.Names.{HasOneWidthEach, HasOneWordEach};
 use std::alloc::{AllocError, Global};
 use word_dag::{Dag, Ob, extract};
 
-/// The obligation of a root. Where the root is the test of a line at all values, it is an obligation of the line; where free words of one name, side
-/// and cycle have one length, it has each of them once.
+/// The obligation of a root. Where the root is the test of a line at all values, it is an obligation of the line; where
+/// free words of one name, side and cycle have one length, it has each of them once.
 pub fn obligation_of(alloc: Global, dag: &Dag, root: u64) -> Result<Ob, AllocError>
     requires { HasWidth dag.now root 1 }
     ensures of_line { IfOk result (λ ob. (m : Meaning) (set : Set) (line : Line) → HasLength set line → IsTestOf (line_test m set line) dag.now root → IsOf m set line ob.nodes ob.root) }

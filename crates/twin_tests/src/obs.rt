@@ -55,9 +55,9 @@ impl Twins<'_> {
     }
 }
 
-/// The obligations of the lines of a set, in the order of a report: for each line its name, and nodes whose root is 1 exactly at values whose
-/// windows violate the line, no two free words of which have one name, side and cycle. Where the end of a property may lie at several offsets, the windows of each reach as far as that end asks. It is
-/// refused for want of memory alone.
+/// The obligations of the lines of a set, in the order of a report: for each line its name, and nodes whose root is 1
+/// exactly at values whose windows violate the line, no two free words of which have one name, side and cycle. Where
+/// the end of a property may lie at several offsets, the windows of each reach as far as that end asks.
 pub fn twin_obs(alloc: Global, sound: &Sound) -> Result<Vec<Named>, AllocError>
     ensures { IfOk result (λ obs. AllZip (IsNamedOf sound.now) (set_lines sound.now) obs.items) }
 {
@@ -75,8 +75,9 @@ pub fn twin_obs(alloc: Global, sound: &Sound) -> Result<Vec<Named>, AllocError>
     Ok(obs)
 }
 
-/// The obligation of one line of a set, that of this number in the order of a report: it is the one that `twin_obs` makes of the line, node by node. So
-/// the nodes of the lines before it are put into the dag too, but no other line's obligation is taken out of it. It is refused for want of memory alone.
+/// The obligation of one line of a set, that of this number in the order of a report: it is the one that `twin_obs`
+/// makes of the line, node by node. So the nodes of the lines before it are put into the dag too, but no other line's
+/// obligation is taken out of it.
 pub fn twin_ob(alloc: Global, sound: &Sound, number: usize) -> Result<Named, AllocError>
     requires { number < length (set_lines sound.now) }
     ensures { IfOk result (IsNamedOf sound.now (set_line sound.now number)) }

@@ -5,7 +5,8 @@ ghost use Rattle.twin_tests.specs.Ordering.{line_of};
 
 use set_tree::Line;
 
-/// A line of a report on a set, which speaks of windows and of no design. Properties go by their position, 0 being the reset property.
+/// A line of a report on a set, which speaks of windows and of no design. Properties go by their position, 0 being the
+/// reset property.
 #[derive(Clone, Copy)]
 pub enum SetLine {
     /// `end P`: P has an end.

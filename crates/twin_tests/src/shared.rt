@@ -34,8 +34,8 @@ pub enum Predicate {
     Hands,
 }
 
-/// A predicate of a property, given by its position in the set, at a row of both windows, of which `end` is the last row. Rows are counted in cycles
-/// from the first row of a window, which is 0.
+/// A predicate of a property, given by its position in the set, at a row of both windows, of which `end` is the last
+/// row. Rows are counted in cycles from the first row of a window, which is 0.
 #[derive(Clone, Copy, PartialEq, Eq)]
 pub struct Atom {
     predicate: Predicate,
@@ -65,8 +65,8 @@ struct Made {
     node: u64,
 }
 
-/// The nodes of lines, and for each property and predicate the atom that was made last: the lines of a property follow one another, and
-/// where lengths are fixed a line shares all its atoms with others.
+/// The nodes of lines, and for each property and predicate the atom that was made last: the lines of a property follow
+/// one another, and where lengths are fixed a line shares all its atoms with others.
 #[derive(Drop)]
 pub struct Nodes {
     pub dag: Dag,

@@ -5,7 +5,8 @@ use crate::window::NodeRow;
 use set_tree::Set;
 use std::alloc::Global;
 
-/// What the nodes of a line are made with: the set, and both windows as nodes, which reach as far as any of its lines does.
+/// What the nodes of a line are made with: the set, and both windows as nodes, which reach as far as any of its lines
+/// does.
 #[derive(Drop)]
 pub struct Twins<'a> {
     pub alloc: Global,

@@ -27,8 +27,8 @@ pub fn tests_are_of_lines()
     ensures { (m : Meaning) (set : Set) (line : Line) → TestsAreOfLines m set line }
 {}
 
-/// Where windows violate a line of the set, some values name such windows, where no name is declared twice; and the windows that values name
-/// are such windows.
+/// Where windows violate a line of the set, some values name such windows, where no name is declared twice; and the
+/// windows that values name are such windows.
 pub fn violations_have_values()
     ensures named { (m : Meaning) (set : Set) → HasDistinctNames set → ViolationsHaveValues m set }
     ensures shown { (m : Meaning) (set : Set) → ValuesAreViolations m set }

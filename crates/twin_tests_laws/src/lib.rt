@@ -1,5 +1,5 @@
-//! Laws of the lines of a set over values of free words: which values name windows that violate a line, each law being the contract of a
-//! function that does nothing; and the names of lines.
+//! Laws of the lines of a set over values of free words: which values name windows that violate a line, each law being
+//! the contract of a function that does nothing; and the names of lines.
 #![tactic(auto)]
 
 mod laws;

@@ -49,7 +49,7 @@ fn joined_edge(alloc: Global, kind: &[u8], from: &[u8], to: &[u8]) -> Result<Tex
     Ok(text)
 }
 
-/// The name of a line in a report, as `choose idle run`. It is refused for want of memory alone.
+/// The name of a line in a report, as `choose idle run`.
 pub fn line_name(alloc: Global, set: &Set, line: Line) -> Result<Text, AllocError>
     ensures { IfOk result (λ text. text ≡ line_name set.now line) }
 {

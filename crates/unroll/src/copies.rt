@@ -65,8 +65,8 @@ fn copy_node(dag: &mut Dag, node: &Node, copies: &[u64], leaf: u64) -> Result<u6
     }
 }
 
-/// For each node of a design a node with its word, where the registers and inputs are these nodes, each at the place of its node in the
-/// design. It is refused for want of memory alone.
+/// For each node of a design a node with its word, where the registers and inputs are these nodes, each at the place of
+/// its node in the design.
 pub fn copy_nodes(
     alloc: Global,
     dag: &mut Dag,

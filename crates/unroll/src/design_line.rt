@@ -4,8 +4,8 @@ ghost use Rattle.unroll.specs.Named.{line_of};
 
 use set_tree::Line;
 
-/// A line of a report on a design, which speaks of its segments. An invariant goes by its position, from 0, and a property by its own, 0 being the
-/// reset property.
+/// A line of a report on a design, which speaks of its segments. An invariant goes by its position, from 0, and a
+/// property by its own, 0 being the reset property.
 #[derive(Clone, Copy)]
 pub enum DesignLine {
     /// `base I`: after reset invariant I holds.

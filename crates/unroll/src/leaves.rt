@@ -88,7 +88,8 @@ fn input_node(
     free_node(alloc, dag, input.name.bytes(), input.width, moment)
 }
 
-// The node of a register in a cycle: at first its free word, and then what the cycle before leaves in it, whose nodes are the copies.
+// The node of a register in a cycle: at first its free word, and then what the cycle before leaves in it, whose nodes
+// are the copies.
 fn register_node(
     alloc: Global,
     dag: &mut Dag,
@@ -159,8 +160,8 @@ fn put_inputs(
     Ok(())
 }
 
-/// For each register and input of a design a node with its value in a cycle of a segment, at the place of its node in the design. The copies
-/// are the nodes of the cycle before, where there is one. It is refused for want of memory alone.
+/// For each register and input of a design a node with its value in a cycle of a segment, at the place of its node in
+/// the design. The copies are the nodes of the cycle before, where there is one.
 pub fn leaves_of(
     alloc: Global,
     dag: &mut Dag,

@@ -36,7 +36,7 @@ pub fn base_node(
     both(dag, met, fails)
 }
 
-/// Whether the constraints that fit hold, and the invariants in the first row. It is refused for want of memory alone.
+/// Whether the constraints that fit hold, and the invariants in the first row.
 #[tactic(auto, using(crate::proofs::Joining::joins))]
 pub fn begins_node(
     alloc: Global,

@@ -41,7 +41,7 @@ fn push_lines(
     Ok(())
 }
 
-/// The lines of a design, in the order of a report. It is refused for want of memory alone.
+/// The lines of a design, in the order of a report.
 pub fn lines_of(alloc: Global, set: &Set) -> Result<Vec<DesignLine>, AllocError>
     requires invariants { length set.now.invariants < 2 ^ 31 }
     requires operations { length set.now.operations < 2 ^ 31 }

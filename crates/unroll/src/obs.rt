@@ -102,9 +102,10 @@ fn named_ob(
     Ok(Named { name, ob })
 }
 
-/// The obligations of the lines of a design, in the order of a report: for each line its name, and nodes whose root is 1 exactly at values
-/// whose segment violates the line, no two free words of which have one name and cycle. The free words are the registers' in a segment's first cycle and the inputs' in each of its cycles, the
-/// reset cycles among them; the reset is a constant. It is refused for want of memory alone.
+/// The obligations of the lines of a design, in the order of a report: for each line its name, and nodes whose root is
+/// 1 exactly at values whose segment violates the line, no two free words of which have one name and cycle. The free
+/// words are the registers' in a segment's first cycle and the inputs' in each of its cycles, the reset cycles among
+/// them; the reset is a constant.
 pub fn design_obs(alloc: Global, bound: &Bound) -> Result<Vec<Named>, AllocError>
     ensures { IfOk result (λ obs. AllZip (IsNamedOf bound.now.design bound.now.set) (design_lines bound.now.set) obs.items) }
 {
@@ -122,9 +123,9 @@ pub fn design_obs(alloc: Global, bound: &Bound) -> Result<Vec<Named>, AllocError
     Ok(obs)
 }
 
-/// The obligation of one line of a design, that of this number in the order of a report: it is the one that `design_obs` makes of the line, node by
-/// node. So the nodes of the lines before it are put into the dag too, but no other line's obligation is taken out of it. It is refused for want of
-/// memory alone.
+/// The obligation of one line of a design, that of this number in the order of a report: it is the one that
+/// `design_obs` makes of the line, node by node. So the nodes of the lines before it are put into the dag too, but no
+/// other line's obligation is taken out of it.
 pub fn design_ob(alloc: Global, bound: &Bound, number: usize) -> Result<Named, AllocError>
     requires { number < length (design_lines bound.now.set) }
     ensures { IfOk result (IsNamedOf bound.now.design bound.now.set (design_line bound.now.set number)) }

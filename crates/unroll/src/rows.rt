@@ -30,7 +30,7 @@ pub fn place_of(nets: &[Net], name: &[u8]) -> Option<u64>
     None
 }
 
-/// The nodes of a design in one cycle of a segment, from those of the cycle before, where there is one.
+// The nodes of a design in one cycle of a segment, from those of the cycle before, where there is one.
 fn cycle_nodes(
     alloc: Global,
     dag: &mut Dag,
@@ -83,8 +83,8 @@ fn row_of(alloc: Global, copies: &[u64], places: &[u64]) -> Result<NodeRow, Allo
     Ok(NodeRow::new(nodes))
 }
 
-/// The rows of a segment, so many of them from cycle 0 on, behind so many reset cycles. The places are those of the declared names' signals. It is
-/// refused for want of memory alone.
+/// The rows of a segment, so many of them from cycle 0 on, behind so many reset cycles. The places are those of the
+/// declared names' signals.
 pub fn segment_nodes(
     alloc: Global,
     dag: &mut Dag,

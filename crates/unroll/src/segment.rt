@@ -20,7 +20,7 @@ pub struct Segments {
     pub plain: Vec<NodeRow>,
 }
 
-/// The places of the declared names' signals among the nodes of the design. It is refused for want of memory alone.
+/// The places of the declared names' signals among the nodes of the design.
 pub fn places_of(alloc: Global, bound: &Bound) -> Result<Vec<u64>, AllocError>
     ensures { IfOk result (λ places. AllZip (IsPlaceOf bound.now.design) bound.now.set.names places.items) }
 {

@@ -12,7 +12,7 @@ use set_tree::Set;
 use set_tree_structure::Sound;
 use std::alloc::Global;
 
-/// Names and lengths, and inputs that the set doesn't declare.
+// Names and lengths, and inputs that the set doesn't declare.
 fn check_names(alloc: Global, design: &Design, set: &Set) -> Result<(), BindFault>
     ensures ok { OnOk result (HasNames design.now set.now) }
     ensures err { IfErr result (Refuses design.now set.now) }
@@ -29,7 +29,7 @@ fn check_names(alloc: Global, design: &Design, set: &Set) -> Result<(), BindFaul
     Ok(())
 }
 
-/// Roles, the clock and the resets.
+// Roles, the clock and the resets.
 fn check_roles(alloc: Global, design: &Design, set: &Set) -> Result<(), BindFault>
     ensures ok { OnOk result (HasRoles design.now set.now) }
     ensures err { IfErr result (Refuses design.now set.now) }

@@ -13,11 +13,11 @@ pub enum BindFault {
     WidthOf(Text),
     /// An input of the design other than the clock and the reset isn't declared in the set.
     ExtraInput(Text),
-    /// A declared input is no input, or it is the clock or the reset; a declared output is no output; a declared state is an input; the
-    /// clock or the reset is no input of one bit, or both are one; the design has another clock; or it has an asynchronous reset
-    /// that isn't the set's reset at its level.
+    /// A declared input is no input, or it is the clock or the reset; a declared output is no output; a declared state
+    /// is an input; the clock or the reset is no input of one bit, or both are one; the design has another clock; or it
+    /// has an asynchronous reset that isn't the set's reset at its level.
     Role(Text),
-    /// Want of memory.
+    /// Out of memory.
     Memory,
 }
 

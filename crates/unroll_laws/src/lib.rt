@@ -1,7 +1,7 @@
 //! Laws of the lines of a design over values of free words: which values name segments that violate a line. A line is
-//! violated of a design of words exactly where it is of the modules whose runs it has, and a report without a violated line
-//! is a promise about every run, of which there are some of every length. Each law is the contract of a function that does
-//! nothing.
+//! violated of a design of words exactly where it is of the modules whose runs it has, and a report without a violated
+//! line is a promise about every run, of which there are some of every length. Each law is the contract of a function
+//! that does nothing.
 #![tactic(auto)]
 
 mod law;

@@ -1,4 +1,4 @@
-//! Declarations: a sign and a range, and a list up to its semicolon.
+// Declarations: a sign and a range, and a list up to its semicolon.
 ghost use Rattle.std.specs.Prelude.{◌≤◌, ◌≡◌};
 ghost use Rattle.vlog_read.specs.Answers.{Finds};
 ghost use Rattle.vlog_read.specs.Declarations.{declared_height, SpellsDeclared, ReadsDeclared};

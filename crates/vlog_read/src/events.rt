@@ -1,4 +1,4 @@
-//! Edges and lists of events.
+// Edges and lists of events.
 ghost use Rattle.std.specs.Prelude.{ℕ, ◌≡◌, ◌≤◌, ◌<◌, ◌+◌, ◌⊎◌, ◌↔◌, IsTrue, length, codes};
 ghost use Rattle.vlog_tree.specs.Signs.{IsSign};
 ghost use Rattle.vlog_tree.specs.Statements.{SpellsEdge, SpellsEvents};
@@ -48,7 +48,7 @@ impl Part for Edge {
     }
 }
 
-/// Whether the word of an edge stands at a place.
+// Whether the word of an edge stands at a place.
 fn is_edge(tokens: &[Token], at: usize) -> bool
     ensures { IsTrue result ↔ IsEdge tokens.now at }
 {
@@ -85,7 +85,7 @@ pub fn read_events(
     names(alloc, tokens, at, depth)
 }
 
-/// `(*)`
+// `(*)`
 fn all_events(tokens: &[Token], at: usize, depth: usize) -> Result<Found<Events>, ReadFault>
     requires opens { IsSign tokens.now at (codes "(") }
     requires star { IsSign tokens.now (at + 1) (codes "*") }

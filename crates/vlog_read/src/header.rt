@@ -1,4 +1,4 @@
-//! Headers of modules.
+// Headers of modules.
 ghost use Rattle.std.specs.Prelude.{ℕ, ◌≡◌, ◌≤◌, ◌<◌, ◌+◌, ◌⊎◌, length, codes, IfOk};
 ghost use Rattle.vlog_tree.specs.Signs.{IsSign, IsWord};
 ghost use Rattle.vlog_tree.specs.Lists.{Maybe, AfterHash, highest, highest_of, InParens};
@@ -39,7 +39,7 @@ impl Part for HeaderPort {
     }
 }
 
-/// A port with its direction, sign and range.
+// A port with its direction, sign and range.
 fn port_group(
     alloc: Global,
     tokens: &[Token],
@@ -132,7 +132,7 @@ pub fn header_parameters(
     })
 }
 
-/// Ports: names alone, or with their directions.
+// Ports: names alone, or with their directions.
 fn read_ports(
     alloc: Global,
     tokens: &[Token],

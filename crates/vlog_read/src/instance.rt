@@ -1,4 +1,4 @@
-//! Instances, their connections and overrides.
+// Instances, their connections and overrides.
 ghost use Rattle.std.specs.Prelude.{ℕ, ◌≡◌, ◌≤◌, ◌<◌, ◌+◌, length, codes, false};
 ghost use Rattle.vlog_tree.specs.Signs.{IsSign};
 ghost use Rattle.vlog_tree.specs.Lists.{Maybe, InParens, AfterHash, highest_of};
@@ -13,7 +13,7 @@ use vlog_read_expr::{after, identifier, is_sign, read_tree};
 use vlog_read_lex::ReadFault;
 use vlog_tree::{Args, Connection, Expr, Instance, Token};
 
-/// `( expression )` or `()`.
+// `( expression )` or `()`.
 fn connected(
     alloc: Global,
     tokens: &[Token],
@@ -73,7 +73,7 @@ impl Part for Connection {
     }
 }
 
-/// Connections or overrides: one or more.
+// Connections or overrides: one or more.
 fn read_args(
     alloc: Global,
     tokens: &[Token],
@@ -99,7 +99,7 @@ fn read_args(
     })
 }
 
-/// `( connections )` or `()`.
+// `( connections )` or `()`.
 fn connections(
     alloc: Global,
     tokens: &[Token],

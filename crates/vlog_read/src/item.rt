@@ -1,4 +1,4 @@
-//! Items, by their first word.
+// Items, by their first word.
 ghost use Rattle.std.specs.Prelude.{ℕ, ◌≡◌, ◌≤◌, ◌<◌, ◌+◌, ◌-◌, ◌⊎◌, ◌↔◌, IsTrue, length, codes};
 ghost use Rattle.vlog_tree.specs.Signs.{IsWord};
 ghost use Rattle.vlog_read.specs.Answers.{FindsKind, FindsItem, NamesModule, SkipsWire};
@@ -15,7 +15,7 @@ use vlog_read_lex::ReadFault;
 use vlog_read_stmt::read_stmt;
 use vlog_tree::{Assign, Instance, Item, Parameter, PortKind, Register, Token, Wire};
 
-/// The place after a `wire` that may stand.
+// The place after a `wire` that may stand.
 fn past_wire(tokens: &[Token], at: usize) -> usize
     ensures { SkipsWire tokens.now at result }
 {

@@ -1,4 +1,4 @@
-//! Lists of parts.
+// Lists of parts.
 ghost use Rattle.std.specs.Prelude.{◌≤◌, ◌<◌, ◌↔◌, IsTrue, IfOk};
 ghost use Rattle.vlog_tree.specs.Lists.{Separated, Comma, UpToEnd, highest};
 ghost use Rattle.vlog_tree.specs.Statements.{OrComma};
@@ -40,7 +40,7 @@ pub fn comma_list<T: Part>(
     })
 }
 
-/// Whether a comma or the word `or` stands at a place.
+// Whether a comma or the word `or` stands at a place.
 fn is_or(tokens: &[Token], at: usize) -> bool
     ensures { IsTrue result ↔ OrComma tokens.now at }
 {

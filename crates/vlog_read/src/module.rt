@@ -1,4 +1,4 @@
-//! Modules, and lists of them.
+// Modules, and lists of them.
 ghost use Rattle.std.specs.Prelude.{ℕ, ◌≡◌, ◌≤◌, ◌<◌, ◌+◌, ◌-◌, length, codes, IfOk, IfErr};
 ghost use Rattle.vlog_tree.specs.Lists.{highest};
 ghost use Rattle.vlog_tree.specs.Modules.{SpellsFile, item_height, file_height};
@@ -59,7 +59,7 @@ fn read_head(
     })
 }
 
-/// Items up to an `endmodule`.
+// Items up to an `endmodule`.
 fn read_items(
     alloc: Global,
     tokens: &[Token],

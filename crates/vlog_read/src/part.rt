@@ -1,4 +1,4 @@
-//! What stands in lists.
+// What stands in lists.
 ghost use Rattle.std.specs.Prelude.{ℕ, List, ◌<◌, ◌≤◌, IfOk};
 ghost use Rattle.vlog_tree.specs.declared.token.Token.{Token};
 ghost use Rattle.vlog_read.specs.Answers.{Finds, Before, Follows};

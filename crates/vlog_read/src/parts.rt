@@ -1,4 +1,4 @@
-//! Names, ranges, values, and what is declared by them.
+// Names, ranges, values, and what is declared by them.
 ghost use Rattle.std.specs.Prelude.{ℕ, ◌≡◌, ◌≤◌, ◌<◌, ◌+◌, codes, length, IfOk, false};
 ghost use Rattle.vlog_tree.specs.Signs.{IsSign, IsWord};
 ghost use Rattle.vlog_tree.specs.Lists.{Maybe, Flag, highest_of};
@@ -75,7 +75,7 @@ impl Part for Lval {
     }
 }
 
-/// `[high:low]`
+// `[high:low]`
 fn read_range(
     alloc: Global,
     tokens: &[Token],
@@ -186,7 +186,7 @@ pub fn read_value(
     })
 }
 
-/// `= value`, or nothing.
+// `= value`, or nothing.
 fn maybe_value(
     alloc: Global,
     tokens: &[Token],

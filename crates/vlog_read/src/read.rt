@@ -1,4 +1,4 @@
-//! Reads the modules of a text from its bytes.
+// Reads the modules of a text from its bytes.
 ghost use Rattle.std.specs.Prelude.{ℕ, ◌≤◌, IfOk, IfErr, List, length};
 ghost use Rattle.vlog_tree.specs.declared.token.Token.{Token};
 ghost use Rattle.vlog_tree.specs.Modules.{SpellsFile, file_height};
@@ -10,7 +10,7 @@ use std::alloc::Global;
 use vlog_read_lex::{ReadFault, byte_of, read_tokens};
 use vlog_tree::{Module, Token};
 
-/// A fault with the place of a byte, of one with the place of a token.
+// A fault with the place of a byte, of one with the place of a token.
 fn by_bytes(tokens: &[Token], fault: ReadFault) -> ReadFault
     ensures refused { (ts : List Token) → RefusesTokens ts fault → RefusesTokens ts result }
     ensures within { (ts : List Token) (size : ℕ) → RefusesTokens ts fault → LieWithin size tokens.now → NamesByte size result }
@@ -21,7 +21,7 @@ fn by_bytes(tokens: &[Token], fault: ReadFault) -> ReadFault
     }
 }
 
-/// The modules that tokens spell; the place of a fault is a byte.
+// The modules that tokens spell; the place of a fault is a byte.
 fn modules_of(alloc: Global, tokens: &[Token]) -> Result<Vec<Module>, ReadFault>
     ensures ok { IfOk result (λ list. SpellsFile tokens.now list.items) }
     ensures low { IfOk result (λ list. file_height list.items ≤ 500) }
@@ -34,10 +34,11 @@ fn modules_of(alloc: Global, tokens: &[Token]) -> Result<Vec<Module>, ReadFault>
     }
 }
 
-/// The modules that a text spells: one or more, by the grammar of IEEE 1364-2005 annex A as far as it is read, each no higher
-/// than 500 nodes. The text is refused where its bytes spell no tokens (`Bytes`, `Number`, `Outside`) or its tokens no modules
-/// (`Syntax`, with the byte at which the token begins that cannot stand there, or at which the last one ends), where there are
-/// more than 500 tokens and they spell no modules that are low enough (`Deep`), and for want of memory (`Memory`).
+/// The modules that a text spells: one or more, by the grammar of IEEE 1364-2005 annex A as far as it is read, each no
+/// higher than 500 nodes. The text is refused where its bytes spell no tokens (`Bytes`, `Number`, `Outside`) or its
+/// tokens no modules (`Syntax`, with the byte at which the token begins that cannot stand there, or at which the last
+/// one ends), where there are more than 500 tokens and they spell no modules that are low enough (`Deep`), or where
+/// memory runs out (`Memory`).
 pub fn read_modules(alloc: Global, bytes: &[u8]) -> Result<Vec<Module>, ReadFault>
     ensures ok { IfOk result (λ list. SpellsModules bytes.now list.items) }
     ensures low { IfOk result (λ list. file_height list.items ≤ 500) }

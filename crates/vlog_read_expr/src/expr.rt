@@ -1,4 +1,4 @@
-//! Expressions, by how tightly their operators bind.
+// Expressions, by how tightly their operators bind.
 ghost use Rattle.std.specs.Prelude.{◌≡◌, ◌≤◌, ◌<◌, ◌+◌, ◌-◌, length, Some, None, codes, true, IfOk, IfErr};
 ghost use Rattle.vlog_tree.specs.Signs.{kind_at, IsSign, IsWord, infix_at, infix_level, binary_level, unary_at, cast_at, cast_of, span_at};
 ghost use Rattle.vlog_tree.specs.Spelling.{height, Reads, IsName};
@@ -13,10 +13,10 @@ use std::alloc::Global;
 use vlog_read_lex::ReadFault;
 use vlog_tree::{Binary, Cast, Expr, Infix, Kind, Number, Span, Token, Unary, is};
 
-// Where a reading fails, the trees that were read before are dropped by a call: dropped in place, each would be proved anew at
-// each such exit.
+// Where a reading fails, the trees that were read before are dropped by a call: dropped in place, each would be proved
+// anew at each such exit.
 
-/// How tightly a choice binds.
+// How tightly a choice binds.
 const CHOICE: u8 = 1;
 
 const MAX_HEIGHT: usize = 500;
@@ -37,39 +37,39 @@ pub struct Listed {
     pub end: usize,
 }
 
-/// Reads the expressions of one text.
+// Reads the expressions of one text.
 #[derive(Drop)]
 struct Reader<'a> {
-    /// Where the trees are kept.
+    // Where the trees are kept.
     alloc: Global,
-    /// Whether the text is a set, and not modules.
+    // Whether the text is a set, and not modules.
     set: bool,
     tokens: &'a [Token],
 }
 
-/// Which expression is sought.
+// Which expression is sought.
 #[derive(Clone, Copy)]
 struct Sought {
-    /// Where it begins.
+    // Where it begins.
     at: usize,
-    /// How tightly its operators bind at least.
+    // How tightly its operators bind at least.
     level: u8,
-    /// How high it is at most.
+    // How high it is at most.
     depth: usize,
 }
 
-/// A select or part-select of which the first expression in brackets is read.
+// A select or part-select of which the first expression in brackets is read.
 #[derive(Drop)]
 struct SelectStart {
-    /// Where the name begins.
+    // Where the name begins.
     at: usize,
-    /// The name, which ends where the bracket stands.
+    // The name, which ends where the bracket stands.
     named: Named,
     index: Parsed,
 }
 
 impl Reader<'_> {
-    /// The operator at a place, if it binds at `level` or more.
+    // The operator at a place, if it binds at `level` or more.
     fn operator_at(&self, at: usize, level: u8) -> Option<Infix>
         ensures { IsNextOp self.now.set self.now.tokens.now level at result }
     {
@@ -92,7 +92,7 @@ impl Reader<'_> {
         Ok(left)
     }
 
-    /// The tree that an operator makes with `left` as its left part.
+    // The tree that an operator makes with `left` as its left part.
     #[cycle(expr)]
     fn extended(&self, sought: Sought, left: Parsed, op: Infix) -> Result<Parsed, ReadFault>
         requires grown { Grown self.now.set self.now.tokens.now sought.level sought.at sought.depth left }
@@ -170,7 +170,7 @@ impl Reader<'_> {
         self.chosen(sought, left, yes, no)
     }
 
-    /// A choice whose parts are read.
+    // A choice whose parts are read.
     fn chosen(
         &self,
         sought: Sought,
@@ -202,7 +202,7 @@ impl Reader<'_> {
         Ok(Parsed { tree, height, end })
     }
 
-    /// A unary operator with its operand, or a form that needs none.
+    // A unary operator with its operand, or a form that needs none.
     #[cycle(expr)]
     fn operand(&self, at: usize, depth: usize) -> Result<Parsed, ReadFault>
         requires low { depth ≤ 500 }
@@ -241,7 +241,7 @@ impl Reader<'_> {
         })
     }
 
-    /// What begins with a word.
+    // What begins with a word.
     #[cycle(expr)]
     fn worded(&self, at: usize, word: &[u8], depth: usize) -> Result<Parsed, ReadFault>
         requires here { IsWord self.now.tokens.now at word.now }
@@ -295,7 +295,7 @@ impl Reader<'_> {
         })
     }
 
-    /// A name and what stands in brackets after it.
+    // A name and what stands in brackets after it.
     #[cycle(expr)]
     fn bracket(&self, at: usize, named: Named, depth: usize) -> Result<Parsed, ReadFault>
         requires here { IsName self.now.set self.now.tokens.now at named.name named.end }
@@ -312,7 +312,7 @@ impl Reader<'_> {
         }
     }
 
-    /// A select of one bit, whose index is read.
+    // A select of one bit, whose index is read.
     fn selected(&self, start: SelectStart, depth: usize) -> Result<Parsed, ReadFault>
         requires here { IsName self.now.set self.now.tokens.now start.at start.named.name start.named.end }
         requires open { IsSign self.now.tokens.now start.named.end (codes "[") }
@@ -341,7 +341,7 @@ impl Reader<'_> {
         })
     }
 
-    /// The second number of a part-select.
+    // The second number of a part-select.
     #[cycle(expr)]
     fn part(&self, start: SelectStart, span: Span, depth: usize) -> Result<Parsed, ReadFault>
         requires here { IsName self.now.set self.now.tokens.now start.at start.named.name start.named.end }
@@ -369,7 +369,7 @@ impl Reader<'_> {
         Ok(Parsed { tree, height, end })
     }
 
-    /// What begins with a sign.
+    // What begins with a sign.
     #[cycle(expr)]
     fn signed(&self, at: usize, sign: &[u8], depth: usize) -> Result<Parsed, ReadFault>
         requires here { IsSign self.now.tokens.now at sign.now }
@@ -422,7 +422,7 @@ impl Reader<'_> {
         })
     }
 
-    /// A tree and its closing sign, which no bracket follows.
+    // A tree and its closing sign, which no bracket follows.
     #[cycle(expr)]
     fn enclosed(&self, at: usize, close: &[u8], depth: usize) -> Result<Parsed, ReadFault>
         requires low { depth ≤ 500 }
@@ -446,7 +446,7 @@ impl Reader<'_> {
         })
     }
 
-    /// What begins with a brace: the first tree tells whether it is a replication's count.
+    // What begins with a brace: the first tree tells whether it is a replication's count.
     #[cycle(expr)]
     fn brace(&self, at: usize, depth: usize) -> Result<Parsed, ReadFault>
         requires here { IsSign self.now.tokens.now at (codes "{") }
@@ -521,7 +521,7 @@ impl Reader<'_> {
         Ok(Parsed { tree, height, end })
     }
 
-    /// Trees with commas between.
+    // Trees with commas between.
     #[cycle(expr)]
     fn list(&self, at: usize, depth: usize) -> Result<Listed, ReadFault>
         requires low { depth ≤ 500 }
@@ -531,7 +531,7 @@ impl Reader<'_> {
         self.list_from(at, first, depth)
     }
 
-    /// The rest of a list after its first tree.
+    // The rest of a list after its first tree.
     #[cycle(expr)]
     fn list_from(&self, at: usize, first: Parsed, depth: usize) -> Result<Listed, ReadFault>
         requires read { IsRead self.now.set self.now.tokens.now 1 at depth first }
@@ -552,9 +552,9 @@ impl Reader<'_> {
     }
 }
 
-/// The expression of a set's language at a place of a set's tokens, and the place after it, where the end or a token stands that
-/// can't continue an expression. Syntax: there is none. Deep: it is higher than 500, or there is none and more than 500
-/// tokens follow.
+/// The expression of a set's language at a place of a set's tokens, and the place after it, where the end or a token
+/// stands that can't continue an expression. Syntax: there is none. Deep: it is higher than 500, or there is none and
+/// more than 500 tokens follow.
 pub fn read_expr(alloc: Global, tokens: &[Token], at: usize) -> Result<(Expr, usize), ReadFault>
     requires { at ≤ length tokens.now }
     ensures ok { IfOk result (λ read. Reads true tokens.now 1 at read.0 read.1) }
@@ -570,8 +570,8 @@ pub fn read_expr(alloc: Global, tokens: &[Token], at: usize) -> Result<(Expr, us
     Ok((tree, end))
 }
 
-/// The expression that is read at a place, no higher than `depth`, for the readers above: of a text of modules or, where `set`
-/// is true, of a set.
+/// The expression that is read at a place, no higher than `depth`, for the readers above: of a text of modules or,
+/// where `set` is true, of a set.
 pub fn read_tree(
     alloc: Global,
     set: bool,

@@ -1,4 +1,4 @@
-//! Identifiers, and names with their paths and offsets.
+// Identifiers, and names with their paths and offsets.
 ghost use Rattle.std.specs.Prelude.{◌≡◌, ◌+◌, ◌↔◌, ◌<◌, ◌≤◌, IsTrue, IfOk, IfErr, length, true};
 ghost use Rattle.vlog_tree.specs.Spelling.{IsIdentifier, IsOffset};
 ghost use Rattle.vlog_read_expr.specs.Names.{RefusesIdentifier, NameAnswers, PathAnswers, OffsetAnswers};
@@ -44,8 +44,8 @@ pub fn identifier(alloc: Global, set: bool, tokens: &[Token], at: usize) -> Resu
     }
 }
 
-/// The path at a place of a set: identifiers with dots between, as many as stand there. Syntax: no identifier stands there, or
-/// none after a dot.
+/// The path at a place of a set: identifiers with dots between, as many as stand there. Syntax: no identifier stands
+/// there, or none after a dot.
 pub fn read_path(alloc: Global, tokens: &[Token], at: usize) -> Result<Path, ReadFault>
     ensures { PathAnswers tokens.now at result }
 {
@@ -61,7 +61,7 @@ pub fn read_path(alloc: Global, tokens: &[Token], at: usize) -> Result<Path, Rea
     Ok(Path { text, end })
 }
 
-/// `@` and decimal digits, or nothing.
+// `@` and decimal digits, or nothing.
 fn read_offset(tokens: &[Token], at: usize) -> Result<Offset, ReadFault>
     ensures { OffsetAnswers tokens.now at result }
 {
@@ -80,7 +80,7 @@ fn read_offset(tokens: &[Token], at: usize) -> Result<Offset, ReadFault>
     }
 }
 
-/// A path with its offset.
+// A path with its offset.
 fn set_name(alloc: Global, tokens: &[Token], at: usize) -> Result<Named, ReadFault>
     ensures { NameAnswers true tokens.now at result }
 {

@@ -1,4 +1,4 @@
-//! Tokens by their place.
+// Tokens by their place.
 ghost use Rattle.std.specs.Prelude.{◌≡◌, ◌+◌, ◌↔◌, ◌<◌, ◌≤◌, IsTrue, OnSome, length};
 ghost use Rattle.std.specs.Option.{option_copied};
 ghost use Rattle.vlog_tree.specs.Signs.{kind_at, IsSign, IsWord, infix_at, span_at};

@@ -15,7 +15,8 @@ pub enum ReadFault {
 }
 
 impl ReadFault {
-    /// The fault itself; what its reader had read so far is dropped by this call: dropped in place, it would be proved anew at each exit.
+    /// The fault itself; what its reader had read so far is dropped by this call: dropped in place, it would be proved
+    /// anew at each exit.
     pub fn dropping<T: Drop>(self, _read: T) -> ReadFault
         ensures { result ≡ self }
     {

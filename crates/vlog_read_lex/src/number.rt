@@ -96,7 +96,7 @@ fn is_unknown(byte: u8) -> bool
     byte == b'x' || byte == b'X'
 }
 
-/// One more digit behind what the digits before it make.
+// One more digit behind what the digits before it make.
 #[tactic(auto, unfolding(crate::specs::Numbers::fit))]
 fn put_digit(base: Base, made: u64, digit: u8) -> Option<u64>
     ensures { result ≡ fit (put_digit base made digit) }
@@ -136,7 +136,7 @@ fn put_wild(base: Base, made: u64, digit: u8) -> u64
         .wrapping_add(wild_digit(base, digit))
 }
 
-/// The bits on the left of the digits: all, where the first digit stands for any bits.
+// The bits on the left of the digits: all, where the first digit stands for any bits.
 fn filled(digits: &[u8]) -> u64
     ensures { result ≡ filled digits.now }
 {
@@ -146,7 +146,7 @@ fn filled(digits: &[u8]) -> u64
     }
 }
 
-/// The bits of the digits that stand for any bits, in 64 bits.
+// The bits of the digits that stand for any bits, in 64 bits.
 #[tactic(auto, unfolding(crate::specs::Numbers::wild))]
 fn wild(base: Base, digits: &[u8]) -> u64
     ensures { result ≡ wild base digits.now }
@@ -158,7 +158,7 @@ fn wild(base: Base, digits: &[u8]) -> u64
     made
 }
 
-/// The low bits of a value.
+// The low bits of a value.
 fn cut(value: u64, bits: u8) -> u64
     ensures { result ≡ value % 2 ^ bits }
 {

@@ -61,7 +61,7 @@ fn number_piece(number: Option<Number>, end: usize) -> Piece
     }
 }
 
-/// The digits after a base, behind white space.
+// The digits after a base, behind white space.
 #[tactic(auto, unfolding(crate::specs::Pieces::digits_at))]
 fn digits_at(size: Size, signed: bool, base: Base, bytes: &[u8], at: usize) -> Piece
     requires { at ≤ length bytes.now }
@@ -77,7 +77,7 @@ fn digits_at(size: Size, signed: bool, base: Base, bytes: &[u8], at: usize) -> P
     number_piece(based_number(size, signed, base, digits), end)
 }
 
-/// The letter of a base and its digits.
+// The letter of a base and its digits.
 #[tactic(auto, unfolding(crate::specs::Pieces::based_at))]
 fn based_at(size: Size, signed: bool, bytes: &[u8], at: usize) -> Piece
     requires { at ≤ length bytes.now }
@@ -94,7 +94,7 @@ fn based_at(size: Size, signed: bool, bytes: &[u8], at: usize) -> Piece
     }
 }
 
-/// A number from its `'` on.
+// A number from its `'` on.
 #[tactic(auto, unfolding(crate::specs::Pieces::quoted_at))]
 fn quoted_at(size: Size, bytes: &[u8], at: usize) -> Piece
     requires { at < length bytes.now }
@@ -109,7 +109,7 @@ fn quoted_at(size: Size, bytes: &[u8], at: usize) -> Piece
     }
 }
 
-/// A number that begins with a decimal digit.
+// A number that begins with a decimal digit.
 #[tactic(auto, unfolding(crate::specs::Pieces::number_at))]
 fn number_at(bytes: &[u8], at: usize) -> Piece
     requires { at < length bytes.now }
@@ -143,7 +143,7 @@ fn sign_at(alloc: Global, bytes: &[u8], at: usize) -> Result<Piece, AllocError>
     Ok(Piece::Token(Kind::Sign(Text::copy(alloc, text)?), at + size))
 }
 
-/// A comment, or a sign.
+// A comment, or a sign.
 #[tactic(auto, unfolding(crate::specs::Pieces::slash_at))]
 fn slash_at(alloc: Global, bytes: &[u8], at: usize) -> Result<Piece, AllocError>
     requires { at < length bytes.now }
@@ -159,7 +159,7 @@ fn slash_at(alloc: Global, bytes: &[u8], at: usize) -> Result<Piece, AllocError>
     sign_at(alloc, bytes, at)
 }
 
-/// An attribute, or a sign.
+// An attribute, or a sign.
 #[tactic(auto, unfolding(crate::specs::Pieces::paren_at))]
 fn paren_at(alloc: Global, bytes: &[u8], at: usize) -> Result<Piece, AllocError>
     requires { at < length bytes.now }
@@ -187,7 +187,7 @@ fn is_function(word: &[u8]) -> bool
     is(word, b"$signed") || is(word, b"$unsigned")
 }
 
-/// A word that begins with a backtick.
+// A word that begins with a backtick.
 #[tactic(auto, unfolding(crate::specs::Pieces::tick_at))]
 fn tick_at(set: bool, bytes: &[u8], at: usize) -> Piece
     requires { at < length bytes.now }
@@ -201,7 +201,7 @@ fn tick_at(set: bool, bytes: &[u8], at: usize) -> Piece
     Piece::Outside(end)
 }
 
-/// A word that begins with `$`.
+// A word that begins with `$`.
 #[tactic(auto, unfolding(crate::specs::Pieces::dollar_at))]
 fn dollar_at(alloc: Global, bytes: &[u8], at: usize) -> Result<Piece, AllocError>
     requires { at < length bytes.now }
@@ -258,7 +258,7 @@ fn plain_at(alloc: Global, set: bool, bytes: &[u8], at: usize) -> Result<Piece, 
     }
 }
 
-/// In a set, what the language leaves out is a token.
+// In a set, what the language leaves out is a token.
 fn seen(set: bool, piece: Piece) -> Piece
     ensures { result ≡ seen set piece }
 {

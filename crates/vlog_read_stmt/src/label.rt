@@ -1,4 +1,4 @@
-//! Labels of case items.
+// Labels of case items.
 ghost use Rattle.std.specs.Prelude.{◌≡◌, ◌≤◌, ◌<◌, ◌+◌, length, codes, false};
 ghost use Rattle.vlog_read_stmt.specs.Answers.{IsWildAt, AnswersLabel, AnswersLabelList, AnswersLabels};
 
@@ -26,7 +26,7 @@ pub struct ParsedLabels {
     pub end: usize,
 }
 
-/// The number at a place, where it is a label of `casez` with digits `?` or `z`.
+// The number at a place, where it is a label of `casez` with digits `?` or `z`.
 fn wild_at(kind: CaseKind, tokens: &[Token], at: usize) -> Option<Number>
     ensures { IsWildAt kind tokens.now at result }
 {
@@ -39,7 +39,7 @@ fn wild_at(kind: CaseKind, tokens: &[Token], at: usize) -> Option<Number>
     }
 }
 
-/// A label: an expression, or in `casez` a number with digits `?` or `z`.
+// A label: an expression, or in `casez` a number with digits `?` or `z`.
 fn label(
     alloc: Global,
     kind: CaseKind,
@@ -63,7 +63,7 @@ fn label(
     })
 }
 
-/// Labels with commas between.
+// Labels with commas between.
 fn label_list(
     alloc: Global,
     kind: CaseKind,

@@ -1,4 +1,4 @@
-//! Left sides of assignments.
+// Left sides of assignments.
 ghost use Rattle.std.specs.Prelude.{◌≡◌, ◌≤◌, ◌<◌, ◌+◌, ◌-◌, length, Some, None, codes, false};
 ghost use Rattle.vlog_tree.specs.Signs.{IsSign, span_at};
 ghost use Rattle.vlog_tree.specs.Spelling.{IsIdentifier};
@@ -12,8 +12,8 @@ use vlog_read_expr::{Parsed, after, identifier, is_sign, read_tree, span_at};
 use vlog_read_lex::ReadFault;
 use vlog_tree::{Lval, Span, Token};
 
-// Where a reading fails, the trees that were read before are dropped by a call: dropped in place, each would be proved anew at
-// each such exit.
+// Where a reading fails, the trees that were read before are dropped by a call: dropped in place, each would be proved
+// anew at each such exit.
 
 /// A left side, its height, and the place after it.
 #[derive(Drop)]
@@ -31,10 +31,10 @@ pub struct ListedLvals {
     pub end: usize,
 }
 
-/// A part-select of which the first expression and the sign after it are read.
+// A part-select of which the first expression and the sign after it are read.
 #[derive(Drop)]
 struct PartStart {
-    /// Where the name stands.
+    // Where the name stands.
     at: usize,
     name: Text,
     index: Parsed,
@@ -74,7 +74,7 @@ pub fn read_lval(
     Ok(read)
 }
 
-/// A name with its select.
+// A name with its select.
 fn named(alloc: Global, tokens: &[Token], at: usize, depth: usize) -> Result<ParsedLval, ReadFault>
     requires apart { IsSign tokens.now at (codes "{") → ⊥ }
     requires positive { 0 < depth }
@@ -93,7 +93,7 @@ fn named(alloc: Global, tokens: &[Token], at: usize, depth: usize) -> Result<Par
     })
 }
 
-/// A name and what stands in brackets after it.
+// A name and what stands in brackets after it.
 fn bracket(
     alloc: Global,
     tokens: &[Token],
@@ -130,7 +130,7 @@ fn bracket(
     })
 }
 
-/// The second expression of a part-select.
+// The second expression of a part-select.
 fn part(
     alloc: Global,
     tokens: &[Token],
@@ -172,7 +172,7 @@ fn part(
     })
 }
 
-/// Left sides in braces.
+// Left sides in braces.
 #[cycle(lval)]
 fn concat(alloc: Global, tokens: &[Token], at: usize, depth: usize) -> Result<ParsedLval, ReadFault>
     requires here { IsSign tokens.now at (codes "{") }
@@ -191,7 +191,7 @@ fn concat(alloc: Global, tokens: &[Token], at: usize, depth: usize) -> Result<Pa
     })
 }
 
-/// Left sides with commas between.
+// Left sides with commas between.
 #[cycle(lval)]
 fn list(alloc: Global, tokens: &[Token], at: usize, depth: usize) -> Result<ListedLvals, ReadFault>
     requires low { depth ≤ 500 }

@@ -1,4 +1,4 @@
-//! Statements, by their first token.
+// Statements, by their first token.
 ghost use Rattle.std.specs.Prelude.{◌≡◌, ◌≤◌, ◌<◌, ◌+◌, ◌-◌, length, Some, codes, false};
 ghost use Rattle.vlog_tree.specs.Statements.{case_word};
 ghost use Rattle.vlog_tree.specs.Signs.{IsSign, IsWord};
@@ -13,8 +13,8 @@ use vlog_read_expr::{Parsed, after, identifier, is_sign, is_word, read_tree};
 use vlog_read_lex::ReadFault;
 use vlog_tree::{CaseItem, CaseKind, Stmt, Token};
 
-// Where a reading fails, the trees that were read before are dropped by a call: dropped in place, each would be proved anew at
-// each such exit.
+// Where a reading fails, the trees that were read before are dropped by a call: dropped in place, each would be proved
+// anew at each such exit.
 
 /// A statement, its height, and the place after it.
 #[derive(Drop)]
@@ -57,10 +57,10 @@ pub struct BlockName {
     pub end: usize,
 }
 
-/// An `if` of which the condition and the statement after it are read.
+// An `if` of which the condition and the statement after it are read.
 #[derive(Drop)]
 struct IfStart {
-    /// Where the `if` stands.
+    // Where the `if` stands.
     at: usize,
     condition: Parsed,
     yes: ParsedStmt,
@@ -98,7 +98,7 @@ pub fn read_stmt(
     }
 }
 
-/// How the case statement compares that begins at a place.
+// How the case statement compares that begins at a place.
 fn case_kind(tokens: &[Token], at: usize) -> Option<CaseKind>
     ensures { IsCaseWord tokens.now at result }
 {
@@ -111,7 +111,7 @@ fn case_kind(tokens: &[Token], at: usize) -> Option<CaseKind>
     }
 }
 
-/// A case statement or an assignment.
+// A case statement or an assignment.
 #[cycle(stmt)]
 fn case_or_assignment(
     alloc: Global,
@@ -132,7 +132,7 @@ fn case_or_assignment(
     }
 }
 
-/// `:` and a name, or nothing.
+// `:` and a name, or nothing.
 fn block_name(alloc: Global, tokens: &[Token], at: usize) -> Result<BlockName, ReadFault>
     ensures { AnswersBlockName tokens.now at result }
 {
@@ -172,7 +172,7 @@ fn block(alloc: Global, tokens: &[Token], at: usize, depth: usize) -> Result<Par
     })
 }
 
-/// Statements up to an `end`.
+// Statements up to an `end`.
 #[cycle(stmt)]
 fn sequence(
     alloc: Global,
@@ -195,7 +195,7 @@ fn sequence(
     Ok(ParsedSeq { items, height, end })
 }
 
-/// After a word, an expression in parentheses; the place answered is that after the closing one.
+// After a word, an expression in parentheses; the place answered is that after the closing one.
 fn header(alloc: Global, tokens: &[Token], at: usize, depth: usize) -> Result<Parsed, ReadFault>
     requires within { at < length tokens.now }
     requires low { depth ≤ 500 }
@@ -257,7 +257,7 @@ fn conditional(
     }
 }
 
-/// The `else` of an `if` whose first part is read.
+// The `else` of an `if` whose first part is read.
 #[cycle(stmt)]
 fn with_else(
     alloc: Global,
@@ -324,7 +324,7 @@ fn choice(
     })
 }
 
-/// Case items up to an `endcase`: one or more, at most one of them `default`.
+// Case items up to an `endcase`: one or more, at most one of them `default`.
 #[cycle(stmt)]
 fn case_items(
     alloc: Global,
@@ -387,7 +387,7 @@ fn case_item(
     })
 }
 
-/// An expression and its semicolon; the place answered is that after it.
+// An expression and its semicolon; the place answered is that after it.
 fn value(alloc: Global, tokens: &[Token], at: usize, depth: usize) -> Result<Parsed, ReadFault>
     requires low { depth ≤ 500 }
     ensures { AnswersValue tokens.now at depth result }

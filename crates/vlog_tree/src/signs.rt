@@ -42,7 +42,8 @@ impl Infix {
         }
     }
 
-    /// The operator that a sign is between two operands, in a text of modules or, where `set` is true, of a set: a set has neither `/` nor `%`.
+    /// The operator that a sign is between two operands, in a text of modules or, where `set` is true, of a set: a set
+    /// has neither `/` nor `%`.
     #[tactic(auto, unfolding(crate::specs::Signs::infix_of))]
     pub fn of_sign(set: bool, sign: &[u8]) -> Option<Infix>
         ensures { result ≡ infix_of set sign.now }
@@ -160,7 +161,7 @@ impl Span {
     }
 }
 
-/// Whether a word is one of the module grammar.
+// Whether a word is one of the module grammar.
 #[tactic(auto, unfolding(crate::specs::Signs::is_keyword))]
 fn is_keyword(word: &[u8]) -> bool
     ensures { result ≡ is_keyword word.now }
@@ -189,8 +190,8 @@ fn is_keyword(word: &[u8]) -> bool
         || is(word, b"wire")
 }
 
-/// Whether a word is no name. In a text of modules these are the words of the grammar, `$signed` and `$unsigned`; in a set
-/// (`set` is true) `$signed` and `$unsigned` alone.
+/// Whether a word is no name. In a text of modules these are the words of the grammar, `$signed` and `$unsigned`; in a
+/// set (`set` is true) `$signed` and `$unsigned` alone.
 #[tactic(auto, unfolding(crate::specs::Signs::is_reserved))]
 pub fn is_reserved(set: bool, word: &[u8]) -> bool
     ensures { result ≡ is_reserved set word.now }

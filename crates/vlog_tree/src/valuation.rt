@@ -61,7 +61,7 @@ fn fingerprint(name: &[u8], offset: u32) -> u64
     state.finish()
 }
 
-// Puts in the place of a fingerprint that has none yet. It is refused for want of memory alone, and then nothing changes.
+// Puts in the place of a fingerprint that has none yet. On an error nothing changes.
 fn note(first: &mut HashMap<u64, usize>, print: u64, place: usize) -> Result<(), AllocError>
     ensures ok { OnOk result ((p : ℕ) → get nat_eq first.new p ≡ option_or (get nat_eq first.old p) (if nat_eq print p then Some place else None)) }
     ensures err { OnErr result ((p : ℕ) → get nat_eq first.new p ≡ get nat_eq first.old p) }
@@ -98,7 +98,7 @@ impl Valuation {
         }
     }
 
-    /// Adds an entry at the end. It is refused for want of memory alone, and then nothing changes.
+    /// Adds an entry at the end. On an error nothing changes.
     pub fn push(&mut self, entry: Entry) -> Result<(), AllocError>
         requires { EntryFits entry }
         ensures ok { OnOk result (self.new ≡ self.old ++ entry ∷ []) }

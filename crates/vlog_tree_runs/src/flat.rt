@@ -43,8 +43,8 @@ pub struct Async {
     pub high: bool,
 }
 
-/// One module without instances and parameters: its names are hierarchical, joined by `.` without the top's name, and each
-/// parameter is replaced by its number.
+/// One module without instances and parameters: its names are hierarchical, joined by `.` without the top's name, and
+/// each parameter is replaced by its number.
 #[derive(Drop)]
 pub struct Flat {
     pub signals: Items<Signal>,

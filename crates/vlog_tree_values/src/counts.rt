@@ -1,7 +1,8 @@
 // Numbers of part-selects and counts of replications, each taken once.
 //
-// Such a number says how long an expression is, so it is taken for the length of what it stands in and again for the value; a number
-// inside of it is taken twice for each of these. Here each is spelt as a number, the innermost before those around it, and taken once.
+// Such a number says how long an expression is, so it is taken for the length of what it stands in and again for the
+// value; a number inside of it is taken twice for each of these. Here each is spelt as a number, the innermost before
+// those around it, and taken once.
 
 ghost use Rattle.std.specs.Prelude.{◌≡◌, ◌≤◌, IfOk, IfSome, IfNone, false};
 ghost use Rattle.vlog_tree.specs.Value.{IsFormed, IsDefined, width_of, sign_of};
@@ -23,7 +24,8 @@ struct Folder<'a> {
     valuation: &'a Valuation,
 }
 
-// Both of two values. Where one is refused the other is dropped here: dropped where it is made, each tree would be proved anew there.
+// Both of two values. Where one is refused the other is dropped here: dropped where it is made, each tree would be
+// proved anew there.
 fn both<A: Drop, B: Drop>(
     first: Result<A, AllocError>,
     second: Result<B, AllocError>,
@@ -147,9 +149,9 @@ impl Folder<'_> {
     }
 }
 
-/// An expression that means the same, in which the numbers of part-selects and the counts of replications are spelt as numbers where
-/// they have values. Its length and its value are then taken in a time that grows with its size times its height, however deep such
-/// numbers stood in one another. Refused only for want of memory.
+/// An expression that means the same, in which the numbers of part-selects and the counts of replications are spelt as
+/// numbers where they have values. Its length and its value are then taken in a time that grows with its size times its
+/// height, however deep such numbers stood in one another.
 pub fn folded(alloc: Global, expr: &Expr, valuation: &Valuation) -> Result<Expr, AllocError>
     ensures { IfOk result (λ r. MeanSame valuation.now expr.now r) }
 {
@@ -157,7 +159,7 @@ pub fn folded(alloc: Global, expr: &Expr, valuation: &Valuation) -> Result<Expr,
     folder.expr(expr)
 }
 
-/// The length and the sign that an expression has by itself; none where it isn't well formed. Refused only for want of memory.
+/// The length and the sign that an expression has by itself; none where it isn't well formed.
 pub fn measured(
     alloc: Global,
     expr: &Expr,
@@ -172,7 +174,7 @@ pub fn measured(
     Ok(shape)
 }
 
-/// The value of an expression by itself, and its sign; none where it isn't well formed or a divisor is 0. Refused only for want of memory.
+/// The value of an expression by itself, and its sign; none where it isn't well formed or a divisor is 0.
 pub fn evaluated(
     alloc: Global,
     expr: &Expr,
@@ -187,7 +189,7 @@ pub fn evaluated(
     Ok(own)
 }
 
-/// The value of an expression at a length and a sign; none where a divisor is 0 there. Refused only for want of memory.
+/// The value of an expression at a length and a sign; none where a divisor is 0 there.
 pub fn evaluated_at(
     alloc: Global,
     expr: &Expr,

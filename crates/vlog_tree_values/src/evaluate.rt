@@ -126,8 +126,9 @@ pub fn shape_of(expr: &Expr, valuation: &Valuation) -> Option<(u8, bool)>
     }
 }
 
-// The length and the sign that a well-formed expression has by itself. Operands on which they don't depend aren't looked at: those of a
-// comparison and of a reduction, a condition, the index of a constant's bit. Any other select, a part-select and a concatenation are looked at whole.
+// The length and the sign that a well-formed expression has by itself. Operands on which they don't depend aren't
+// looked at: those of a comparison and of a reduction, a condition, the index of a constant's bit. Any other select, a
+// part-select and a concatenation are looked at whole.
 #[cycle(evaluation)]
 fn own_shape(expr: &Expr, valuation: &Valuation) -> (u8, bool)
     requires { IsFormed valuation.now expr.now }

@@ -1,5 +1,6 @@
-//! The evaluator: lengths, signs and values of expressions, by IEEE 1364-2005 sections 5.1, 5.2, 5.4 and 5.5. Calls that are
-//! passed an allocator take each count once, at the cost of a copy of the expression; the others take no memory.
+//! The evaluator: lengths, signs and values of expressions, by IEEE 1364-2005 sections 5.1, 5.2, 5.4 and 5.5. Calls
+//! that are passed an allocator take each count once, at the cost of a copy of the expression; the others take no
+//! memory.
 #![tactic(auto)]
 
 mod counts;

@@ -99,7 +99,7 @@ fn is_word_name(bytes: &[u8], name: &[u8], index: u64) -> bool
     is_decimal(&bytes[split + 1..], index)
 }
 
-// The value of a memory's word, and 0 where it doesn't stand in the valuation.
+/// The value of a memory's word, and 0 where it doesn't stand in the valuation.
 pub fn word_value(name: &Name, index: u64, valuation: &Valuation) -> u64
     ensures { result ≡ (named valuation.now (word_name name.now index)).value }
 {

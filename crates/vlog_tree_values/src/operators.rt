@@ -331,7 +331,8 @@ pub fn sizing(family: Family) -> Counting
     }
 }
 
-/// The length and the sign at which an operator of this family takes its left operand, from those of the expression and of both operands.
+/// The length and the sign at which an operator of this family takes its left operand, from those of the expression and
+/// of both operands.
 pub fn left_place(
     family: Family,
     here: (u8, bool),
@@ -394,8 +395,8 @@ fn one_bit(test: bool, length: u8) -> Word
     extended(flag(test), length, false)
 }
 
-/// The word of an operator at the length and the sign of its expression, from those of its operands, the left one being taken at the
-/// sign `sign`; none where the right one is a divisor and 0.
+/// The word of an operator at the length and the sign of its expression, from those of its operands, the left one being
+/// taken at the sign `sign`; none where the right one is a divisor and 0.
 pub fn joined(op: Binary, here: (u8, bool), sign: bool, left: Word, right: Word) -> Option<Word>
     requires some { 1 ≤ here.0 }
     requires most { here.0 ≤ 64 }

@@ -1,4 +1,4 @@
-//! A dag of nodes that shares equal ones and folds constants.
+// A dag of nodes that shares equal ones and folds constants.
 ghost use Rattle.std.specs.Prelude.{◌≡◌, ℕ, ◌<◌, ◌++◌, ◌∷◌, [], length, map, get_or, IfOk, OnErr, OnOk};
 ghost use Rattle.word_dag.specs.Nodes.{FitFrom, FitsNode, width_of};
 ghost use Rattle.word_dag.specs.Prints.{print_of};
@@ -104,8 +104,8 @@ impl Dag {
 
     /// The number of a node with the value of this one. Its operands are nodes of the dag of fitting widths.
     ///
-    /// An equal node is shared, a node of constants becomes a constant, and a choice by a constant is what it chooses; nothing
-    /// else is rewritten. The older nodes keep number and value. It is refused for want of memory alone, and then nothing changes.
+    /// An equal node is shared, a node of constants becomes a constant, and a choice by a constant is what it chooses;
+    /// nothing else is rewritten. The older nodes keep number and value. On an error nothing changes.
     pub fn add(&mut self, node: Node) -> Result<u64, AllocError>
         requires { FitsNode (map width_of self.old) node }
         ensures adds { IfOk result (λ i. Adds self.old self.new node i) }

@@ -1,4 +1,4 @@
-//! An obligation taken out of a dag, depth first, without recursion.
+// An obligation taken out of a dag, depth first, without recursion.
 ghost use Rattle.std.specs.Prelude.{◌≡◌, ◌<◌, ◌==◌, [], length, map, slice_index, IfOk};
 ghost use Rattle.word_dag.specs.Nodes.{FitFrom, IsSmall, width_at, width_of};
 ghost use Rattle.word_dag.specs.Walks.{operands, renumbered, place_of, first_open, Each, MeansSame};
@@ -144,8 +144,8 @@ fn walk(alloc: Global, dag: &[Node], root: u64) -> Result<Ob, AllocError>
     Ok(Ob::new(nodes, root))
 }
 
-/// The obligation of a 1-bit node: the nodes that it reads and it, numbered depth first, operands from left to right, each
-/// after its operands. The obligation's root has the value of the node in the dag.
+/// The obligation of a 1-bit node: the nodes that it reads and it, numbered depth first, operands from left to right,
+/// each after its operands. The obligation's root has the value of the node in the dag.
 #[tactic(auto, using(crate::proofs::NodeValues::width_facts))]
 pub fn extract(alloc: Global, dag: &Dag, root: u64) -> Result<Ob, AllocError>
     requires root_in { root < length dag.now }

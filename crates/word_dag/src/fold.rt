@@ -1,4 +1,4 @@
-//! Nodes of constants, and choices by a constant.
+// Nodes of constants, and choices by a constant.
 ghost use Rattle.std.specs.Prelude.{◌≡◌, ℕ, ◌<◌, length, map, slice_index, IfSome};
 ghost use Rattle.word_core.specs.Words.{Bits, IsWord, not_of, slice_of, zext_of, sext_of};
 ghost use Rattle.word_dag.specs.declared.node.Node.TheVariants.{Const};

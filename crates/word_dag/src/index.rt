@@ -1,4 +1,4 @@
-//! Which earlier entries of a list have a given key.
+// Which earlier entries of a list have a given key.
 ghost use Rattle.std.specs.Prelude.{◌≡◌, ℕ, ◌<◌, ◌++◌, ◌∷◌, [], length, slice_index, OnOk, OnErr};
 ghost use Rattle.word_dag.specs.Keys.{IsLast};
 

@@ -1,12 +1,13 @@
-//! One node: a word by itself, or an operation on earlier nodes.
+// One node: a word by itself, or an operation on earlier nodes.
 ghost use Rattle.std.specs.Prelude.{◌≡◌};
 ghost use Rattle.word_dag.specs.Nodes.{width_of};
 
 use outside::Text;
 use word_core::Word;
 
-/// An operation on two words, as `word_core::Word` has it. `Shl`, `Shr` and `Sar` take a second word of any width, `Ult`, `Slt`
-/// and `Eq` give one bit, and all others have operands of the node's width; `Concat` has the first word's bits above the second's.
+/// An operation on two words, as `word_core::Word` has it. `Shl`, `Shr` and `Sar` take a second word of any width,
+/// `Ult`, `Slt` and `Eq` give one bit, and all others have operands of the node's width; `Concat` has the first word's
+/// bits above the second's.
 #[derive(Clone, Copy, PartialEq, Eq, Debug)]
 pub enum Op {
     Add,
@@ -27,7 +28,8 @@ pub enum Op {
 /// A node: a word of `width` bits. `a`, `b` and `c` are numbers of earlier nodes.
 #[derive(Drop)]
 pub enum Node {
-    /// A free word: an input or a first register value in one trace (`side` 0 or 1) at one cycle, negative in reset cycles.
+    /// A free word: an input or a first register value in one trace (`side` 0 or 1) at one cycle, negative in reset
+    /// cycles.
     Free {
         name: Text,
         width: u8,

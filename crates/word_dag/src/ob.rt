@@ -1,4 +1,4 @@
-//! One obligation.
+// One obligation.
 ghost use Rattle.std.specs.Prelude.{◌≡◌, ◌<◌, length, take, map, IfOk};
 ghost use Rattle.word_dag.specs.Nodes.{Parts, IsOb};
 
@@ -7,8 +7,8 @@ use outside::Text;
 use std::alloc::{AllocError, Global};
 use std::marker::Model;
 
-/// An obligation: nodes, each after its operands, and a 1-bit node of them, the root. The question is whether some values of
-/// the free nodes make the root 1.
+/// An obligation: nodes, each after its operands, and a 1-bit node of them, the root. The question is whether some
+/// values of the free nodes make the root 1.
 #[derive(Drop)]
 pub struct Ob {
     nodes: Vec<Node>,

@@ -1,4 +1,4 @@
-//! Whether two nodes are the same, and a fingerprint that tells most nodes apart.
+// Whether two nodes are the same, and a fingerprint that tells most nodes apart.
 ghost use Rattle.std.specs.Prelude.{◌≡◌};
 ghost use Rattle.word_dag.specs.Prints.{mixed, all_mixed, op_code as op_code_of, print_of, same};
 

@@ -1,4 +1,4 @@
-//! The value of an obligation.
+// The value of an obligation.
 ghost use Rattle.std.specs.Prelude.{◌≡◌, ◌≤◌, ◌^◌, ◌<◌, ◌↔◌, ℕ, [], length, take, slice_index, IfOk, IsTrue};
 ghost use Rattle.word_core.specs.Words.{Bits};
 ghost use Rattle.word_dag.specs.Nodes.{FitsOp, FitsNode, FitFrom, IsOb, word_at, op_value, node_value, left_after, ob_values, root_value};
@@ -85,7 +85,7 @@ impl Model for Table {
 }
 
 impl Table {
-    /// A table for this many nodes. It is refused for want of memory alone.
+    /// A table for this many nodes.
     pub fn new(alloc: Global, nodes: usize) -> Result<Table, AllocError>
         ensures { IfOk result (λ t. t ≡ nodes) }
     {
@@ -170,8 +170,8 @@ fn fill(nodes: &[Node], root: u64, values: &[u64], words: &mut [Word]) -> Word
     word_of(words, root)
 }
 
-/// The value of the root at these values of the free nodes, one each in number order and each within its width. The table has
-/// room for as many nodes as there are. It takes no memory.
+/// The value of the root at these values of the free nodes, one each in number order and each within its width. The
+/// table has room for as many nodes as there are. It takes no memory.
 pub fn value_at(ob: &Ob, values: &[u64], table: &mut Table) -> Word
     requires values { AllFit values.now ob.now.nodes }
     requires room { length ob.now.nodes ≤ table.old }

@@ -1,4 +1,4 @@
-//! The text of an obligation: a line for each node, and one for the root.
+// The text of an obligation: a line for each node, and one for the root.
 ghost use Rattle.std.specs.Prelude.{◌≡◌, ◌++◌, ◌∷◌, [], map, codes, IfOk, OnOk};
 ghost use Rattle.std.specs.Fmt.{decimal, signed_decimal};
 ghost use Rattle.word_dag.specs.Text.{spaced, line, op_word as op_word_of, node_line, lines_from, ob_text, Tells};
@@ -158,9 +158,9 @@ fn put_root(alloc: Global, out: &mut Vec<u8>, root: u64) -> Result<(), AllocErro
     Ok(())
 }
 
-/// The text of an obligation: for each node in number order a line with its number, kind, width and operands, and then `root`
-/// and the root's number. Single spaces part the words, and a line feed ends each line. No other obligation has this text, where
-/// no name has a space or a line feed.
+/// The text of an obligation: for each node in number order a line with its number, kind, width and operands, and then
+/// `root` and the root's number. Single spaces part the words, and a line feed ends each line. No other obligation has
+/// this text, where no name has a space or a line feed.
 #[tactic(auto, using(crate::proofs::Texts::text_joined))]
 pub fn text(alloc: Global, ob: &Ob) -> Result<Vec<u8>, AllocError>
     ensures text { IfOk result (λ t. t.items ≡ ob_text ob.now.nodes ob.now.root) }
