@@ -84,7 +84,8 @@ impl Copies {
     /// The clause of this number.
     pub fn clause(&self, number: u32) -> &[Packed]
         requires known { number + 1 < length self.now.bounds.items }
-        requires ordered { slice_index_or self.now.bounds.items number 0 ≤ slice_index_or self.now.bounds.items (number + 1) 0 }
+        requires ordered { slice_index_or self.now.bounds.items number 0 ≤ slice_index_or self.now.bounds.items
+            (number + 1) 0 }
         requires within { slice_index_or self.now.bounds.items (number + 1) 0 ≤ length self.now.lits.items }
         ensures { result.now ≡ part_at self.now.lits.items self.now.bounds.items number }
     {

@@ -61,7 +61,8 @@ fn part<'a>(lits: &'a [Lit], bounds: &[u32], number: usize) -> &'a [Lit]
     requires known { number + 1 < length bounds.now }
     requires ordered { slice_index_or bounds.now number 0 ≤ slice_index_or bounds.now (number + 1) 0 }
     requires within { slice_index_or bounds.now (number + 1) 0 ≤ length lits.now }
-    ensures { result.now ≡ slice_range lits.now (slice_index_or bounds.now number 0) (slice_index_or bounds.now (number + 1) 0) }
+    ensures { result.now ≡ slice_range lits.now (slice_index_or bounds.now number 0)
+        (slice_index_or bounds.now (number + 1) 0) }
 {
     &lits[bounds[number] as usize..bounds[number + 1] as usize]
 }
@@ -99,7 +100,8 @@ impl Clauses {
 
     /// The literals of the clause of this number, where there is one.
     pub fn get(&self, number: usize) -> Option<&[Lit]>
-        ensures { MatchOption result (length self.now ≤ number) (λ c. (number < length self.now) × (c.now ≡ slice_index_or self.now number [])) }
+        ensures { MatchOption result (length self.now ≤ number) (λ c. (number < length self.now) ×
+            (c.now ≡ slice_index_or self.now number [])) }
     {
         if number < self.len() {
             Some(self.clause(number))

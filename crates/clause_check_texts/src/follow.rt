@@ -38,7 +38,8 @@ pub fn assume(
     requires none { known.old.items ≡ [] }
     ensures shows { OnOk result (Shows values.new known.new.items) }
     ensures in_range { OnOk result (IsInRange vars known.new.items) }
-    ensures answer { IfOk result (λ b. MatchBool b (IsClauseOf numbers.now (map negated known.new.items)) ((c : List Lit) → IsClauseOf numbers.now c → IsInRange vars c → ⊥)) }
+    ensures answer { IfOk result (λ b. MatchBool b (IsClauseOf numbers.now (map negated known.new.items))
+        ((c : List Lit) → IsClauseOf numbers.now c → IsInRange vars c → ⊥)) }
 {
     for number in numbers {
         let Some(lit) = lit_of(vars, *number) else {

@@ -151,7 +151,8 @@ fn take_step(
     requires blank { IsBlank values.old }
     requires above { last_id (length cnf.now.clauses) past.old.ids.items < addition.now.id }
     ensures blank { OnOk result (IsBlank values.new) }
-    ensures step { IfOk result (λ closed. (step : Step) × Follows cnf.now past.old.ids.items past.old.steps.items addition.now.lits.items addition.now.hints.items step
+    ensures step { IfOk result (λ closed. (step : Step) ×
+        Follows cnf.now past.old.ids.items past.old.steps.items addition.now.lits.items addition.now.hints.items step
         × (past.new.ids.items ≡ past.old.ids.items ++ addition.now.id ∷ []) × (past.new.steps.items ≡ past.old.steps.items ++ step ∷ []) × ((closed ≡ true) ↔ (step.clause ≡ []))) }
     ensures err { IfErr result (λ fault. RefusesStep cnf.now past.old.ids.items past.old.steps.items addition.now.lits.items addition.now.hints.items fault) }
 {

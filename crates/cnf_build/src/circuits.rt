@@ -41,7 +41,8 @@ pub fn gate_row(
     b: &[Lit],
 ) -> Result<Vec<Lit>, AllocError>
     requires { length a.now ≡ length b.now }
-    ensures { IfOk result (λ r. Makes gates.old.items gates.new.items r.items (row (length gates.old.items) (zip_gates (bit_gate kind) a.now b.now))) }
+    ensures { IfOk result (λ r. Makes gates.old.items gates.new.items r.items
+        (row (length gates.old.items) (zip_gates (bit_gate kind) a.now b.now))) }
 {
     let mut lits = Vec::new(alloc);
     for i in 0..a.len() {
@@ -87,7 +88,8 @@ pub fn add(
     b: &[Lit],
 ) -> Result<Sum, AllocError>
     requires { length a.now ≡ length b.now }
-    ensures { IfOk result (λ r. Sums gates.old.items gates.new.items r.lits.items r.carry (adder (length gates.old.items) carry a.now b.now)) }
+    ensures { IfOk result (λ r. Sums gates.old.items gates.new.items r.lits.items r.carry
+        (adder (length gates.old.items) carry a.now b.now)) }
 {
     let mut carry = carry;
     let mut lits = Vec::new(alloc);
@@ -122,7 +124,8 @@ pub fn subtract(
     b: &[Lit],
 ) -> Result<Sum, AllocError>
     requires { length a.now ≡ length b.now }
-    ensures { IfOk result (λ r. Sums gates.old.items gates.new.items r.lits.items r.carry (subtractor (length gates.old.items) a.now b.now)) }
+    ensures { IfOk result (λ r. Sums gates.old.items gates.new.items r.lits.items r.carry
+        (subtractor (length gates.old.items) a.now b.now)) }
 {
     let inverted = inverted(alloc, b)?;
     add(alloc, gates, true_lit(), a, &inverted)
@@ -131,7 +134,8 @@ pub fn subtract(
 /// Whether two words of one width are equal: the and of the negated exclusive ors, from the lowest bit.
 pub fn equal(gates: &mut Vec<Gate>, a: &[Lit], b: &[Lit]) -> Result<Lit, AllocError>
     requires { length a.now ≡ length b.now }
-    ensures { IfOk result (λ r. Decides gates.old.items gates.new.items r (equal_from (length gates.old.items) true_spec a.now b.now)) }
+    ensures { IfOk result (λ r. Decides gates.old.items gates.new.items r
+        (equal_from (length gates.old.items) true_spec a.now b.now)) }
 {
     let mut same = true_lit();
     for i in 0..a.len() {
@@ -183,7 +187,8 @@ pub fn shift(
     b: &[Lit],
 ) -> Result<Vec<Lit>, AllocError>
     requires { length b.now ≤ 64 }
-    ensures { IfOk result (λ r. Makes gates.old.items gates.new.items r.items (shifter (length gates.old.items) (moved_by direction) 1 a.now b.now)) }
+    ensures { IfOk result (λ r. Makes gates.old.items gates.new.items r.items
+        (shifter (length gates.old.items) (moved_by direction) 1 a.now b.now)) }
 {
     let mut lits = Vec::from_slice(alloc, a)?;
     for i in 0..b.len() {
@@ -202,7 +207,8 @@ fn add_part(
     bit: Lit,
 ) -> Result<Vec<Lit>, AllocError>
     requires { length sum.now ≡ length a.now }
-    ensures { IfOk result (λ r. Makes gates.old.items gates.new.items r.items (part_made (length gates.old.items) sum.now a.now bit)) }
+    ensures { IfOk result (λ r. Makes gates.old.items gates.new.items r.items
+        (part_made (length gates.old.items) sum.now a.now bit)) }
 {
     let bits = vec![in alloc; bit; a.len()]?;
     let part = gate_row(alloc, gates, Bitwise::Both, a, &bits)?;
@@ -218,7 +224,8 @@ pub fn multiply(
     a: &[Lit],
     b: &[Lit],
 ) -> Result<Vec<Lit>, AllocError>
-    ensures { IfOk result (λ r. Makes gates.old.items gates.new.items r.items (product_from (length gates.old.items) (replicate (length a.now) false_spec) a.now b.now)) }
+    ensures { IfOk result (λ r. Makes gates.old.items gates.new.items r.items
+        (product_from (length gates.old.items) (replicate (length a.now) false_spec) a.now b.now)) }
 {
     let mut sum = vec![in alloc; false_lit(); a.len()]?;
     let mut up = Vec::from_slice(alloc, a)?;

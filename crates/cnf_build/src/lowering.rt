@@ -66,7 +66,8 @@ pub fn low_bit(a: &[Lit]) -> Lit
 
 // New variables for a free word.
 fn free_row(alloc: Global, gates: &mut Vec<Gate>, width: u8) -> Result<Vec<Lit>, AllocError>
-    ensures { IfOk result (λ r. Makes gates.old.items gates.new.items r.items (row (length gates.old.items) (replicate width Free))) }
+    ensures { IfOk result (λ r. Makes gates.old.items gates.new.items r.items
+        (row (length gates.old.items) (replicate width Free))) }
 {
     let mut lits = Vec::new(alloc);
     for i in 0..width {
@@ -131,7 +132,8 @@ pub fn node_lits(
 ) -> Result<Vec<Lit>, AllocError>
     requires fits { FitsNode (map length table.now) node.now }
     requires short { AllShort table.now }
-    ensures { IfOk result (λ r. Makes gates.old.items gates.new.items r.items (node_made (length gates.old.items) table.now node.now)) }
+    ensures { IfOk result (λ r. Makes gates.old.items gates.new.items r.items
+        (node_made (length gates.old.items) table.now node.now)) }
 {
     match node {
         Node::Free { width, .. } => free_row(alloc, gates, *width),

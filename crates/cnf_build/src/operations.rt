@@ -60,7 +60,8 @@ fn or_row(
     operands: &Operands<'_>,
 ) -> Result<Vec<Lit>, AllocError>
     requires { length operands.now.a.now ≡ length operands.now.b.now }
-    ensures { IfOk result (λ r. Makes gates.old.items gates.new.items r.items (or_made (length gates.old.items) operands.now.a.now operands.now.b.now)) }
+    ensures { IfOk result (λ r. Makes gates.old.items gates.new.items r.items
+        (or_made (length gates.old.items) operands.now.a.now operands.now.b.now)) }
 {
     let neither = gate_row(alloc, gates, Bitwise::Neither, operands.a, operands.b)?;
     inverted(alloc, &neither)
@@ -73,7 +74,8 @@ fn less(
     operands: &Operands<'_>,
 ) -> Result<Vec<Lit>, AllocError>
     requires { length operands.now.a.now ≡ length operands.now.b.now }
-    ensures { IfOk result (λ r. Makes gates.old.items gates.new.items r.items (op_made (length gates.old.items) Op.Ult operands.now.a.now operands.now.b.now)) }
+    ensures { IfOk result (λ r. Makes gates.old.items gates.new.items r.items
+        (op_made (length gates.old.items) Op.Ult operands.now.a.now operands.now.b.now)) }
 {
     let difference = subtract(alloc, gates, operands.a, operands.b)?;
     single(alloc, difference.carry.negated())
@@ -87,7 +89,8 @@ fn signed_less(
     operands: &Operands<'_>,
 ) -> Result<Vec<Lit>, AllocError>
     requires { length operands.now.a.now ≡ length operands.now.b.now }
-    ensures { IfOk result (λ r. Makes gates.old.items gates.new.items r.items (op_made (length gates.old.items) Op.Slt operands.now.a.now operands.now.b.now)) }
+    ensures { IfOk result (λ r. Makes gates.old.items gates.new.items r.items
+        (op_made (length gates.old.items) Op.Slt operands.now.a.now operands.now.b.now)) }
 {
     let a = turned(alloc, operands.a)?;
     let b = turned(alloc, operands.b)?;
@@ -108,7 +111,8 @@ pub fn operation(
 ) -> Result<Vec<Lit>, AllocError>
     requires fits { FitsOp op width (length operands.now.a.now) (length operands.now.b.now) }
     requires short { length operands.now.b.now ≤ 64 }
-    ensures { IfOk result (λ r. Makes gates.old.items gates.new.items r.items (op_made (length gates.old.items) op operands.now.a.now operands.now.b.now)) }
+    ensures { IfOk result (λ r. Makes gates.old.items gates.new.items r.items
+        (op_made (length gates.old.items) op operands.now.a.now operands.now.b.now)) }
 {
     let Operands { a, b } = *operands;
     match op {

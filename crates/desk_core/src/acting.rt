@@ -34,9 +34,11 @@ impl<'a, 'k, 'h, 'b, R: Threads + Sync, K: Keeper, H: Helper, G: Gate + Sync> Ch
         ensures step { IfOk result (λ answer. Leads
             (OfBlock name.now block (ChecksBlock self.old.prover.settings.budget self.old.prover.settings.workers name.now) answer)
             (state K.tables H.asked self.old) (state K.tables H.asked self.new)) }
-        ensures left { OnErr result (Told (LeavesOfBlock name.now block) (kept_by K.tables self.old.prover) (kept_by K.tables self.new.prover)) }
+        ensures left { OnErr result (Told (LeavesOfBlock name.now block) (kept_by K.tables self.old.prover)
+            (kept_by K.tables self.new.prover)) }
         ensures book { OnErr result (IsLeft self.old.book.now self.new.book.now) }
-        ensures proceeds { Proceeds (result ≡ Err StoreFault.Keeper) (counts K.faults H.asked self.old.prover) (counts K.faults H.asked self.new.prover) }
+        ensures proceeds { Proceeds (result ≡ Err StoreFault.Keeper) (counts K.faults H.asked self.old.prover)
+            (counts K.faults H.asked self.new.prover) }
         ensures same { IsSame self.old self.new }
     {
         let Some(module) = &block.module else {
@@ -54,11 +56,14 @@ impl<'a, 'k, 'h, 'b, R: Threads + Sync, K: Keeper, H: Helper, G: Gate + Sync> Ch
     // Checks a block.
     #[tactic(auto, using(crate::proofs::Checked::none_falls))]
     fn check_block(&mut self, name: &[u8]) -> Result<Answer, StoreFault>
-        ensures step { IfOk result (λ answer. Leads (ChecksBlock self.old.prover.settings.budget self.old.prover.settings.workers name.now answer)
+        ensures step { IfOk result (λ answer. Leads
+            (ChecksBlock self.old.prover.settings.budget self.old.prover.settings.workers name.now answer)
             (state K.tables H.asked self.old) (state K.tables H.asked self.new)) }
-        ensures left { OnErr result (Told (Leaves (Command.Check name.now)) (kept_by K.tables self.old.prover) (kept_by K.tables self.new.prover)) }
+        ensures left { OnErr result (Told (Leaves (Command.Check name.now)) (kept_by K.tables self.old.prover)
+            (kept_by K.tables self.new.prover)) }
         ensures book { OnErr result (IsLeft self.old.book.now self.new.book.now) }
-        ensures proceeds { Proceeds (result ≡ Err StoreFault.Keeper) (counts K.faults H.asked self.old.prover) (counts K.faults H.asked self.new.prover) }
+        ensures proceeds { Proceeds (result ≡ Err StoreFault.Keeper) (counts K.faults H.asked self.old.prover)
+            (counts K.faults H.asked self.new.prover) }
         ensures same { IsSame self.old self.new }
     {
         let alloc = self.prover.alloc;
@@ -71,10 +76,13 @@ impl<'a, 'k, 'h, 'b, R: Threads + Sync, K: Keeper, H: Helper, G: Gate + Sync> Ch
     // Carries out a command.
     #[tactic(auto, using(crate::proofs::Checked::none_falls))]
     fn carry_out(&mut self, command: &Command) -> Result<Answer, StoreFault>
-        ensures step { IfOk result (λ answer. Does command.now answer (state K.tables H.asked self.old) (state K.tables H.asked self.new)) }
-        ensures left { OnErr result (Told (Leaves command.now) (kept_by K.tables self.old.prover) (kept_by K.tables self.new.prover)) }
+        ensures step { IfOk result (λ answer. Does command.now answer (state K.tables H.asked self.old)
+            (state K.tables H.asked self.new)) }
+        ensures left { OnErr result (Told (Leaves command.now) (kept_by K.tables self.old.prover)
+            (kept_by K.tables self.new.prover)) }
         ensures book { OnErr result (IsLeft self.old.book.now self.new.book.now) }
-        ensures proceeds { Proceeds (result ≡ Err StoreFault.Keeper) (counts K.faults H.asked self.old.prover) (counts K.faults H.asked self.new.prover) }
+        ensures proceeds { Proceeds (result ≡ Err StoreFault.Keeper) (counts K.faults H.asked self.old.prover)
+            (counts K.faults H.asked self.new.prover) }
         ensures same { IsSame self.old self.new }
     {
         let alloc = self.prover.alloc;
@@ -118,11 +126,15 @@ impl<'a, 'k, 'h, 'b, R: Threads + Sync, K: Keeper, H: Helper, G: Gate + Sync> Ch
     /// value, and with `Memory` where memory runs out. Then blocks and sign-offs are as before, proofs that differ are
     /// of obligations of the checked texts, and the book is empty or as before.
     pub fn act(&mut self, command: &Command) -> Result<Answer, DeskFault>
-        ensures step { IfOk result (λ answer. Does command.now answer (state K.tables H.asked self.old) (state K.tables H.asked self.new)) }
-        ensures left { OnErr result (Told (Leaves command.now) (kept_by K.tables self.old.prover) (kept_by K.tables self.new.prover)) }
+        ensures step { IfOk result (λ answer. Does command.now answer (state K.tables H.asked self.old)
+            (state K.tables H.asked self.new)) }
+        ensures left { OnErr result (Told (Leaves command.now) (kept_by K.tables self.old.prover)
+            (kept_by K.tables self.new.prover)) }
         ensures book { OnErr result (IsLeft self.old.book.now self.new.book.now) }
-        ensures desk { IfSome (kept_by K.tables self.old.prover) (λ t. IsDesk t → IfSome (kept_by K.tables self.new.prover) IsDesk) }
-        ensures proceeds { Proceeds (result ≡ Err DeskFault.Keeper) (counts K.faults H.asked self.old.prover) (counts K.faults H.asked self.new.prover) }
+        ensures desk { IfSome (kept_by K.tables self.old.prover) (λ t. IsDesk t →
+            IfSome (kept_by K.tables self.new.prover) IsDesk) }
+        ensures proceeds { Proceeds (result ≡ Err DeskFault.Keeper) (counts K.faults H.asked self.old.prover)
+            (counts K.faults H.asked self.new.prover) }
         ensures same { IsSame self.old self.new }
     {
         match self.carry_out(command) {

@@ -46,14 +46,17 @@ impl<'a, 'k, 'h, 'b, R: Threads + Sync, K: Keeper, H: Helper, G: Gate + Sync> Ch
     pub fn check_bound(&mut self, bound: &Bound, which: &Which) -> Result<Report, CheckFault>
         ensures lines { IfOk result (λ _. AreDecided self.old.prover.settings.budget bound.now which.now self.new.book.now.lines.items) }
         ensures report { IfOk result (IsReportOf which.now self.new.book.now.lines.items) }
-        ensures settled { IfOk result (λ _. AreSettled self.old.prover.settings.workers self.new.book.now (kept_by K.tables self.old.prover)
+        ensures settled { IfOk result (λ _. AreSettled self.old.prover.settings.workers self.new.book.now
+            (kept_by K.tables self.old.prover)
             (kept_by K.tables self.new.prover) (asked_by H.asked self.old.prover) (asked_by H.asked self.new.prover)) }
         ensures least { IfOk result (λ _. HasLeast which.now self.old.prover.settings.budget self.new.book.now) }
         ensures refuses { IfErr result (RefusesAsked bound.now.set which.now) }
         ensures empty { IfErr result (λ _. self.new.book.now.lines.items ≡ []) }
         ensures no_least { IfErr result (λ _. self.new.book.now.least ≡ None) }
-        ensures left { AddsProofsOf (AreObsOf bound.now which.now) (kept_by K.tables self.old.prover) (kept_by K.tables self.new.prover) }
-        ensures proceeds { Proceeds (result ≡ Err CheckFault.Keeper) (counts K.faults H.asked self.old.prover) (counts K.faults H.asked self.new.prover) }
+        ensures left { AddsProofsOf (AreObsOf bound.now which.now) (kept_by K.tables self.old.prover)
+            (kept_by K.tables self.new.prover) }
+        ensures proceeds { Proceeds (result ≡ Err CheckFault.Keeper) (counts K.faults H.asked self.old.prover)
+            (counts K.faults H.asked self.new.prover) }
         ensures same { IsSame self.old self.new }
     {
         *self.book = Book::new(self.prover.alloc);
@@ -78,14 +81,17 @@ impl<'a, 'k, 'h, 'b, R: Threads + Sync, K: Keeper, H: Helper, G: Gate + Sync> Ch
     #[tactic(auto, using(crate::proofs::Checked::none_falls))]
     pub fn check(&mut self, module: &[u8], set: &[u8], which: &Which) -> Result<Report, CheckFault>
         ensures report { IfOk result (IsReport «module».now set.now which.now self.old.prover.settings.budget self.new.book.now.lines.items) }
-        ensures settled { IfOk result (λ _. AreSettled self.old.prover.settings.workers self.new.book.now (kept_by K.tables self.old.prover)
+        ensures settled { IfOk result (λ _. AreSettled self.old.prover.settings.workers self.new.book.now
+            (kept_by K.tables self.old.prover)
             (kept_by K.tables self.new.prover) (asked_by H.asked self.old.prover) (asked_by H.asked self.new.prover)) }
         ensures least { IfOk result (λ _. HasLeast which.now self.old.prover.settings.budget self.new.book.now) }
         ensures refuses { IfErr result (Refuses «module».now set.now which.now) }
         ensures empty { IfErr result (λ _. self.new.book.now.lines.items ≡ []) }
         ensures no_least { IfErr result (λ _. self.new.book.now.least ≡ None) }
-        ensures left { AddsProofsOf (AreObsOfTexts «module».now set.now which.now) (kept_by K.tables self.old.prover) (kept_by K.tables self.new.prover) }
-        ensures proceeds { Proceeds (result ≡ Err CheckFault.Keeper) (counts K.faults H.asked self.old.prover) (counts K.faults H.asked self.new.prover) }
+        ensures left { AddsProofsOf (AreObsOfTexts «module».now set.now which.now) (kept_by K.tables self.old.prover)
+            (kept_by K.tables self.new.prover) }
+        ensures proceeds { Proceeds (result ≡ Err CheckFault.Keeper) (counts K.faults H.asked self.old.prover)
+            (counts K.faults H.asked self.new.prover) }
         ensures same { IsSame self.old self.new }
     {
         *self.book = Book::new(self.prover.alloc);

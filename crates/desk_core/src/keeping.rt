@@ -70,7 +70,8 @@ fn put_reported<K: Keeper>(
     report: &Report,
 ) -> Result<Answer, StoreFault>
     ensures answer { IfOk result (λ answer. answer ≡ Answer.Reported report.now.text) }
-    ensures ok { OnOk result (K.tables keeper.new ≡ option_map (with_block name.now reported.now) (K.tables keeper.old)) }
+    ensures ok { OnOk result (K.tables keeper.new ≡ option_map (with_block name.now reported.now)
+        (K.tables keeper.old)) }
     ensures err { OnErr result (K.tables keeper.new ≡ K.tables keeper.old) }
     ensures faults { Rises (result ≡ Err StoreFault.Keeper) (K.faults keeper.old) (K.faults keeper.new) }
 {
@@ -104,7 +105,8 @@ impl<'a, 'k, 'h, 'b, R: Threads + Sync, K: Keeper, H: Helper, G: Gate + Sync> Ch
         ensures err { OnErr result (kept_by K.tables self.new.prover ≡ kept_by K.tables self.old.prover) }
         ensures book { self.new.book.now ≡ self.old.book.now }
         ensures asked { asked_by H.asked self.new.prover ≡ asked_by H.asked self.old.prover }
-        ensures proceeds { Proceeds (result ≡ Err StoreFault.Keeper) (counts K.faults H.asked self.old.prover) (counts K.faults H.asked self.new.prover) }
+        ensures proceeds { Proceeds (result ≡ Err StoreFault.Keeper) (counts K.faults H.asked self.old.prover)
+            (counts K.faults H.asked self.new.prover) }
         ensures same { IsSame self.old self.new }
     {
         let alloc = self.prover.alloc;
@@ -129,7 +131,8 @@ impl<'a, 'k, 'h, 'b, R: Threads + Sync, K: Keeper, H: Helper, G: Gate + Sync> Ch
         ensures empty { OnErr result (self.new.book.now.lines.items ≡ []) }
         ensures asked { asked_by H.asked self.new.prover ≡ asked_by H.asked self.old.prover }
         ensures err { OnErr result (kept_by K.tables self.new.prover ≡ kept_by K.tables self.old.prover) }
-        ensures proceeds { Proceeds (result ≡ Err StoreFault.Keeper) (counts K.faults H.asked self.old.prover) (counts K.faults H.asked self.new.prover) }
+        ensures proceeds { Proceeds (result ≡ Err StoreFault.Keeper) (counts K.faults H.asked self.old.prover)
+            (counts K.faults H.asked self.new.prover) }
         ensures same { IsSame self.old self.new }
     {
         match self.put_report(name, block, report) {

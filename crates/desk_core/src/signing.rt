@@ -33,7 +33,8 @@ fn number_of<K: Keeper>(
     name: &[u8],
     signed: &Signed<'_>,
 ) -> Result<u64, StoreFault>
-    ensures ok { IfOk result (λ number. Told (IsNumbered name.now signed.now.module.now signed.now.set.now signed.now.report.now number)
+    ensures ok { IfOk result (λ number. Told
+        (IsNumbered name.now signed.now.module.now signed.now.set.now signed.now.report.now number)
         (K.tables keeper.old) (K.tables keeper.new)) }
     ensures err { OnErr result (K.tables keeper.new ≡ K.tables keeper.old) }
     ensures faults { Rises (result ≡ Err StoreFault.Keeper) (K.faults keeper.old) (K.faults keeper.new) }
@@ -56,7 +57,8 @@ fn sign_block<K: Keeper>(
     name: &[u8],
     block: &Block,
 ) -> Result<Answer, StoreFault>
-    ensures step { StepsQuietly (OfBlock name.now block.now (SignsBlock name.now)) result (K.tables keeper.old) (K.tables keeper.new) }
+    ensures step { StepsQuietly (OfBlock name.now block.now (SignsBlock name.now)) result (K.tables keeper.old)
+        (K.tables keeper.new) }
     ensures err { OnErr result (K.tables keeper.new ≡ K.tables keeper.old) }
     ensures faults { Rises (result ≡ Err StoreFault.Keeper) (K.faults keeper.old) (K.faults keeper.new) }
 {

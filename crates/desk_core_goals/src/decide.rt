@@ -72,8 +72,10 @@ pub fn decide_lines<R: Threads + Sync, K: Keeper, H: Helper, G: Gate + Sync>(
         (kept_by K.tables prover.old) (kept_by K.tables prover.new) (asked_by H.asked prover.old) (asked_by H.asked prover.new)) }
     ensures least { IfOk result (HasLeast which.now prover.old.settings.budget) }
     ensures err { IfErr result (RefusesLines bound.now.set which.now) }
-    ensures left { AddsProofsOf (AreObsOf bound.now which.now) (kept_by K.tables prover.old) (kept_by K.tables prover.new) }
-    ensures proceeds { Proceeds (result ≡ Err LineFault.Keeper) (counts K.faults H.asked prover.old) (counts K.faults H.asked prover.new) }
+    ensures left { AddsProofsOf (AreObsOf bound.now which.now) (kept_by K.tables prover.old)
+        (kept_by K.tables prover.new) }
+    ensures proceeds { Proceeds (result ≡ Err LineFault.Keeper) (counts K.faults H.asked prover.old)
+        (counts K.faults H.asked prover.new) }
     ensures same { IsSame prover.old prover.new }
 {
     let budget = prover.settings.budget;

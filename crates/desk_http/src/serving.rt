@@ -24,7 +24,8 @@ pub fn serve_one<R: Threads + Sync, P: Port, K: Keeper, H: Helper, G: Gate + Syn
     ensures serves { ServesOne (limits_of checker.old.prover.settings) (line (P.wire port.old) (P.faults port.old))
         (state_of K.tables K.faults H.asked checker.old)
         result (line (P.wire port.new) (P.faults port.new)) (state_of K.tables K.faults H.asked checker.new) }
-    ensures keeps { Keeps (state_of K.tables K.faults H.asked checker.old) (state_of K.tables K.faults H.asked checker.new) }
+    ensures keeps { Keeps (state_of K.tables K.faults H.asked checker.old)
+        (state_of K.tables K.faults H.asked checker.new) }
     ensures next_ok { OnOk result (P.next_faults port.new ≡ P.next_faults port.old) }
     ensures next_err { OnErr result (Rose (P.next_faults port.old) (P.next_faults port.new)) }
     ensures same { IsSame checker.old checker.new }
@@ -71,11 +72,14 @@ pub fn serve<R: Threads + Sync, P: Port, K: Keeper, H: Helper, G: Gate + Sync>(
     port: &mut P,
     checker: &mut Checker<'_, '_, '_, '_, R, K, H, G>,
 ) -> Result<u32, ServeFault>
-    ensures ok { IfOk result (λ n. ServesQuota (limits_of checker.old.prover.settings) quota (line (P.wire port.old) (P.faults port.old))
+    ensures ok { IfOk result (λ n. ServesQuota (limits_of checker.old.prover.settings) quota
+        (line (P.wire port.old) (P.faults port.old))
         (state_of K.tables K.faults H.asked checker.old) n (line (P.wire port.new) (P.faults port.new)) (state_of K.tables K.faults H.asked checker.new)) }
-    ensures err { IfErr result (λ fault. StopsWithin (limits_of checker.old.prover.settings) quota (line (P.wire port.old) (P.faults port.old))
+    ensures err { IfErr result (λ fault. StopsWithin (limits_of checker.old.prover.settings) quota
+        (line (P.wire port.old) (P.faults port.old))
         (state_of K.tables K.faults H.asked checker.old) fault (line (P.wire port.new) (P.faults port.new)) (state_of K.tables K.faults H.asked checker.new)) }
-    ensures keeps { Keeps (state_of K.tables K.faults H.asked checker.old) (state_of K.tables K.faults H.asked checker.new) }
+    ensures keeps { Keeps (state_of K.tables K.faults H.asked checker.old)
+        (state_of K.tables K.faults H.asked checker.new) }
     ensures next_ok { OnOk result (P.next_faults port.new ≡ P.next_faults port.old) }
     ensures next_err { OnErr result (Rose (P.next_faults port.old) (P.next_faults port.new)) }
     ensures same { IsSame checker.old checker.new }

@@ -17,7 +17,8 @@ pub enum Filled {
 /// Reads until the body has that many bytes, and never past them.
 pub fn fill<P: Port>(port: &mut P, body: &mut Vec<u8>, count: usize) -> Filled
     requires within { length body.old.items ≤ count }
-    ensures fills { Fills (P.wire port.old) (P.wire port.new) (P.faults port.old) (P.faults port.new) count body.old.items body.new.items result }
+    ensures fills { Fills (P.wire port.old) (P.wire port.new) (P.faults port.old)
+        (P.faults port.new) count body.old.items body.new.items result }
     ensures other { P.next_faults port.new ≡ P.next_faults port.old }
 {
     'body: while body.len() < count {

@@ -60,7 +60,8 @@ fn read_rest<P: Port>(
 ) -> Take
     requires within { IsRequestWithin (front_of bytes.now) headers.now spans }
     requires head { IsRequestOf (front_of bytes.now) headers.now spans }
-    ensures rest { TakesRest (P.wire port.old) (P.wire port.new) (P.faults port.old) (P.faults port.new) bytes.now result }
+    ensures rest { TakesRest (P.wire port.old) (P.wire port.new) (P.faults port.old)
+        (P.faults port.new) bytes.now result }
     ensures other { P.next_faults port.new ≡ P.next_faults port.old }
 {
     let (len, _) = front_len(bytes);
@@ -83,7 +84,8 @@ fn read_body<P: Port>(
     place: Place<'_>,
     count: usize,
 ) -> Take
-    ensures body { TakesBody (P.wire port.old) (P.wire port.new) (P.faults port.old) (P.faults port.new) after.now (seen_place place.entry) count result }
+    ensures body { TakesBody (P.wire port.old) (P.wire port.new) (P.faults port.old) (P.faults port.new) after.now
+        (seen_place place.entry) count result }
     ensures other { P.next_faults port.new ≡ P.next_faults port.old }
 {
     let (part, _) = after.split_at(count.min(after.len()));

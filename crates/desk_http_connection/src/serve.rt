@@ -68,7 +68,8 @@ pub fn receive<P: Port>(alloc: Global, port: &mut P) -> Result<Incoming, ServeFa
 }
 
 fn receive_present<P: Port>(alloc: Global, port: &mut P) -> Incoming
-    ensures receives { ReceivesPresent (P.wire port.old) (P.wire port.new) (P.faults port.old) (P.faults port.new) result }
+    ensures receives { ReceivesPresent (P.wire port.old) (P.wire port.new) (P.faults port.old)
+        (P.faults port.new) result }
     ensures other { P.next_faults port.new ≡ P.next_faults port.old }
 {
     match read_request(alloc, port) {
@@ -93,7 +94,8 @@ fn receive_present<P: Port>(alloc: Global, port: &mut P) -> Incoming
 /// Writes the reply to what a command came to, and finishes the connection. Where memory runs out for it, the reply is
 /// the fixed text with the status 507.
 pub fn reply_to<P: Port>(alloc: Global, port: &mut P, outcome: &Result<Answer, DeskFault>) -> Served
-    ensures sends { SendsReplyTo outcome.now (P.wire port.old) (P.wire port.new) (P.faults port.old) (P.faults port.new) result }
+    ensures sends { SendsReplyTo outcome.now (P.wire port.old) (P.wire port.new) (P.faults port.old)
+        (P.faults port.new) result }
     ensures other { P.next_faults port.new ≡ P.next_faults port.old }
 {
     let reply = outcome_reply(alloc, outcome);
@@ -125,7 +127,8 @@ fn send_reply<P: Port>(port: &mut P, reply: &Result<Reply, AllocError>) -> Serve
 
 // Writes the bytes, and closes the connection.
 fn send<P: Port>(port: &mut P, status: u16, bytes: &[u8]) -> Served
-    ensures sends { Sends (P.wire port.old) (P.wire port.new) (P.faults port.old) (P.faults port.new) status bytes.now result }
+    ensures sends { Sends (P.wire port.old) (P.wire port.new) (P.faults port.old)
+        (P.faults port.new) status bytes.now result }
     ensures other { P.next_faults port.new ≡ P.next_faults port.old }
 {
     match port.write(bytes) {

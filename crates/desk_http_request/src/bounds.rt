@@ -26,7 +26,8 @@ pub fn front_len(bytes: &[u8]) -> (usize, bool)
 // How many line breaks stand before the first other byte.
 fn breaks_len(bytes: &[u8]) -> usize
     ensures within { result ≤ length bytes.now }
-    ensures split { (n : ℕ) → lines_after_breaks n bytes.now ≡ take result bytes.now ++ lines_of n (drop result bytes.now) }
+    ensures split { (n : ℕ) → lines_after_breaks n bytes.now ≡ take result bytes.now ++ lines_of n
+        (drop result bytes.now) }
     ensures rest { skip_breaks bytes.now ≡ drop result bytes.now }
 {
     for (i, b) in bytes.iter().enumerate() {

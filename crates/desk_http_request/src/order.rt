@@ -34,7 +34,8 @@ pub fn asked<'a>(
     spans: RequestSpans,
 ) -> Result<Result<Order<'a>, Refusal>, AllocError>
     requires within { IsRequestWithin buf.now headers.now spans }
-    ensures { IfOk result (λ r. seen_order r ≡ asked_by (span_bytes buf.now spans.method) (span_bytes buf.now spans.path)
+    ensures { IfOk result (λ r. seen_order r ≡ asked_by (span_bytes buf.now spans.method)
+        (span_bytes buf.now spans.path)
         (map (header_bytes buf.now) (take spans.headers headers.now))) }
 {
     let (fields, _) = headers.split_at(spans.headers);

@@ -30,7 +30,8 @@ pub enum Reading {
 pub fn read_head<P: Port>(port: &mut P, bytes: &mut Vec<u8>, headers: &mut [HeaderSpan]) -> Reading
     requires room { length headers.old ≡ 65 }
     requires nothing_yet { bytes.old.items ≡ [] }
-    ensures ends { Ends (P.wire port.old) (P.wire port.new) (P.faults port.old) (P.faults port.new) bytes.new.items headers.new result }
+    ensures ends { Ends (P.wire port.old) (P.wire port.new) (P.faults port.old)
+        (P.faults port.new) bytes.new.items headers.new result }
     ensures other { P.next_faults port.new ≡ P.next_faults port.old }
 {
     'head: loop {
@@ -65,7 +66,8 @@ pub enum More {
 /// Reads at least one byte of the present connection, at most that many, and adds them.
 pub fn read_some<P: Port>(port: &mut P, bytes: &mut Vec<u8>, most: usize) -> More
     requires some { 0 < most }
-    ensures reads { Reads (P.wire port.old) (P.wire port.new) (P.faults port.old) (P.faults port.new) most bytes.old.items bytes.new.items result }
+    ensures reads { Reads (P.wire port.old) (P.wire port.new) (P.faults port.old)
+        (P.faults port.new) most bytes.old.items bytes.new.items result }
     ensures other { P.next_faults port.new ≡ P.next_faults port.old }
 {
     let mut chunk = [0u8; 4096];

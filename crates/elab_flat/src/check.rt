@@ -27,7 +27,8 @@ fn check_scope<'a>(
     requires inners { HasSoundInners modules.now (scope_meant scope.now) }
     requires sound { HasSoundParams (scope_meant scope.now) }
     ensures ok { OnOk result (IsChecked modules.now top.now (scope_meant scope.now)) }
-    ensures err { IfErr result (Refuses (StandsAround modules.now (prefix_name top.now scope.now.prefix) (scope_meant scope.now))) }
+    ensures err { IfErr result (Refuses (StandsAround modules.now (prefix_name top.now scope.now.prefix)
+        (scope_meant scope.now))) }
 {
     match check_names(alloc, modules, scope) {
         Ok(()) => {}

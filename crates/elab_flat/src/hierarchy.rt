@@ -40,7 +40,8 @@ fn joined(
     clocks: Clocks,
 ) -> Result<Flat, FlatFault>
     requires { (ms : List Design) × AreFollowed ms (map scope_meant scopes.now) }
-    ensures texts { IfOk result (λ f. (ms : List Design) → AreFollowed ms (map scope_meant scopes.now) → IsJoined ms (map scope_meant scopes.now) top.now f) }
+    ensures texts { IfOk result (λ f. (ms : List Design) → AreFollowed ms (map scope_meant scopes.now) →
+        IsJoined ms (map scope_meant scopes.now) top.now f) }
     ensures clock { IfOk result (λ f. f.clock ≡ clocks.clock) }
     ensures asyncs { IfOk result (λ f. f.asyncs ≡ clocks.asyncs) }
     ensures err { IfErr result (Refuses (StandsAmong (map scope_meant scopes.now))) }

@@ -42,7 +42,8 @@ pub fn left_of(mover: &Mover<'_>, expr: &Expr) -> Result<Lval, AllocError>
 // The parts of a concatenation as left sides.
 #[cycle(left)]
 fn lefts_of(mover: &Mover<'_>, exprs: &[Expr]) -> Result<Items<Lval>, AllocError>
-    ensures { IfOk result (λ r. r ≡ map (λ (a : Form). moved_left mover.now.prefix.now mover.now.params.now (left_of a)) exprs.now) }
+    ensures { IfOk result (λ r. r ≡ map (λ (a : Form). moved_left mover.now.prefix.now mover.now.params.now
+        (left_of a)) exprs.now) }
 {
     let mut all = Items::new(mover.alloc);
     for expr in exprs {

@@ -40,7 +40,8 @@ fn moved_target(mover: &Mover<'_>, target: &Target<'_>) -> Result<Lval, AllocErr
 
 // A continuous assignment of a scope.
 fn own_assign(mover: &Mover<'_>, assigned: &Assigned<'_>) -> Result<Assign, AllocError>
-    ensures { IfOk result (λ a. (gs : List Signal) → a ≡ moved_link (own_link (placed mover.now.prefix.now gs mover.now.params.now) (assigned_meant assigned.now))) }
+    ensures { IfOk result (λ a. (gs : List Signal) →
+        a ≡ moved_link (own_link (placed mover.now.prefix.now gs mover.now.params.now) (assigned_meant assigned.now))) }
 {
     let left = moved_target(mover, &assigned.left)?;
     let right = match mover.expr(assigned.right) {
@@ -96,7 +97,8 @@ fn port_assign(
 
 // Adds the continuous assignments of a scope.
 fn add_own(all: &mut Items<Assign>, alloc: Global, scope: &Scope<'_>) -> Result<(), AllocError>
-    ensures { OnOk result (all.new ≡ all.old ++ map moved_link (map (own_link (place_of (scope_meant scope.now))) (assigns_in scope.now.text.now))) }
+    ensures { OnOk result (all.new ≡ all.old ++ map moved_link
+        (map (own_link (place_of (scope_meant scope.now))) (assigns_in scope.now.text.now))) }
 {
     let mover = mover(alloc, scope);
     let assigns = assigns_in(alloc, scope.text)?;
@@ -113,7 +115,8 @@ fn add_port(
     given: &Given<'_>,
     signals: &Signals<'_>,
 ) -> Result<(), AllocError>
-    ensures { OnOk result ((gs hs : List Signal) → all.new ≡ all.old ++ map moved_link (port_links (placed outer.now.prefix.now gs outer.now.params.now)
+    ensures { OnOk result ((gs hs : List Signal) →
+        all.new ≡ all.old ++ map moved_link (port_links (placed outer.now.prefix.now gs outer.now.params.now)
         (placed inner.now.prefix.now hs inner.now.params.now) (given_meant given.now) (decl_at signals.now given.now.name.now))) }
 {
     if let Some(port) = signals.at(given.name.bytes()) {
@@ -132,7 +135,8 @@ fn add_connections(
     instance: &Inner<'_>,
     inner: &Scope<'_>,
 ) -> Result<(), AllocError>
-    ensures { OnOk result (all.new ≡ all.old ++ map moved_link (connections (place_of (scope_meant outer.now)) (inner_meant instance.now) (Some (scope_meant inner.now)))) }
+    ensures { OnOk result (all.new ≡ all.old ++ map moved_link
+        (connections (place_of (scope_meant outer.now)) (inner_meant instance.now) (Some (scope_meant inner.now)))) }
 {
     let outer_mover = mover(alloc, outer);
     let inner_mover = mover(alloc, inner);
@@ -170,7 +174,8 @@ fn add_inners(
 /// of the instances stand behind the first scope in this order too.
 pub fn assigns_of(alloc: Global, scopes: &[Scope<'_>]) -> Result<Items<Assign>, AllocError>
     requires { (ms : List Design) × AreFollowed ms (map scope_meant scopes.now) }
-    ensures { IfOk result (λ all. (ms : List Design) → AreFollowed ms (map scope_meant scopes.now) → all ≡ flat_map (flat_assigns ms) (map scope_meant scopes.now)) }
+    ensures { IfOk result (λ all. (ms : List Design) → AreFollowed ms (map scope_meant scopes.now) →
+        all ≡ flat_map (flat_assigns ms) (map scope_meant scopes.now)) }
 {
     let mut all = Items::new(alloc);
     let mut next = 1;

@@ -15,7 +15,8 @@ use vlog_tree_runs::TopPort;
 
 // The names of the declarations of outputs.
 fn output_names<'a>(alloc: Global, decls: &[Decl<'a>]) -> Result<Vec<&'a Text>, AllocError>
-    ensures { IfOk result (λ r. map name_meant r.items ≡ map decl_name (filter (λ d. d.output) (map decl_meant decls.now))) }
+    ensures { IfOk result (λ r. map name_meant r.items ≡ map decl_name
+        (filter (λ d. d.output) (map decl_meant decls.now))) }
 {
     let mut names = Vec::new(alloc);
     for decl in decls {

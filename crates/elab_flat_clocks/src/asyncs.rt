@@ -82,7 +82,8 @@ fn add_at(
 
 /// The asynchronous resets that blocks wait for, each once: those that are active high come first.
 pub fn asyncs_of(alloc: Global, timings: &[Timing<'_>]) -> Result<Items<Async>, AllocError>
-    ensures { IfOk result (λ r. r ≡ asyncs_at true (map timed_meant timings.now) ++ asyncs_at false (map timed_meant timings.now)) }
+    ensures { IfOk result (λ r. r ≡ asyncs_at true (map timed_meant timings.now) ++ asyncs_at false
+        (map timed_meant timings.now)) }
 {
     let mut all = Items::new(alloc);
     add_at(&mut all, alloc, timings, true)?;

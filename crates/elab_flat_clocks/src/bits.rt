@@ -35,7 +35,8 @@ fn bits_among<'a>(
     decls: &[Decl<'a>],
 ) -> Result<Vec<&'a Text>, FlatFault>
     requires { AreDeclaredAs scope.now.text.now (map decl_meant decls.now) }
-    ensures ok { IfOk result (λ r. map name_meant r.items ≡ map decl_name (filter (is_bit_input scope.now.params) (map decl_meant decls.now))) }
+    ensures ok { IfOk result (λ r. map name_meant r.items ≡ map decl_name
+        (filter (is_bit_input scope.now.params) (map decl_meant decls.now))) }
     ensures err { IfErr result (Refuses (StandsAlone (scope_meant scope.now))) }
 {
     let mut all = Vec::new(alloc);

@@ -69,8 +69,10 @@ fn check_clock(
 ) -> Result<(), FlatFault>
     requires tables { length ways.now.tables.items ≡ length scopes.now }
     requires kept { length ways.now.kept.items ≡ length scopes.now }
-    ensures ok { OnOk result (IsUnread (map scope_meant scopes.now) ways.now.tables.items (map exprs_meant ways.now.kept.items) (option_copied clock.entry)) }
-    ensures err { IfErr result (Refuses (IsReadBy (map scope_meant scopes.now) ways.now.tables.items (map exprs_meant ways.now.kept.items) (option_copied clock.entry))) }
+    ensures ok { OnOk result (IsUnread (map scope_meant scopes.now) ways.now.tables.items
+        (map exprs_meant ways.now.kept.items) (option_copied clock.entry)) }
+    ensures err { IfErr result (Refuses (IsReadBy (map scope_meant scopes.now) ways.now.tables.items
+        (map exprs_meant ways.now.kept.items) (option_copied clock.entry))) }
 {
     match clock {
         Some(clock) => check_reads(alloc, scopes, &ways.tables, &ways.kept, clock),
@@ -94,7 +96,8 @@ pub fn clocks_of(
 ) -> Result<Clocks, FlatFault>
     requires { AreUnfolded modules.now top.now (map scope_meant scopes.now) }
     ensures clock { IfOk result (λ r. (y : Name) → (r.clock ≡ Some y) ↔ IsClockOf modules.now top.now y) }
-    ensures asyncs { IfOk result (λ r. (y : Name) (high : Bool) → Among r.asyncs (async_at high y) ↔ IsResetOf modules.now top.now y high) }
+    ensures asyncs { IfOk result (λ r. (y : Name) (high : Bool) → Among r.asyncs (async_at high y) ↔
+        IsResetOf modules.now top.now y high) }
     ensures none { OnOk result ((n : Name) → Stands modules.now top.now (f.Clock n) → ⊥) }
     ensures err { IfErr result (Refuses (Stands modules.now top.now)) }
 {

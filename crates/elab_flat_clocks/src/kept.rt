@@ -76,7 +76,8 @@ fn add_given<'a>(
     signals: &Signals<'_>,
 ) -> Result<(), FlatFault>
     requires { signals.now ≡ signals_in scope.now.text.now }
-    ensures ok { OnOk result (map expr_meant all.new.items ≡ map expr_meant all.old.items ++ flat_map (kept_given (scope_meant scope.now)) (map given_meant given.now)) }
+    ensures ok { OnOk result (map expr_meant all.new.items ≡ map expr_meant all.old.items ++ flat_map
+        (kept_given (scope_meant scope.now)) (map given_meant given.now)) }
     ensures err { IfErr result (Refuses (StandsAlone (scope_meant scope.now))) }
 {
     for gift in given {
@@ -96,7 +97,8 @@ fn add_kept<'a>(
     inner: &Inner<'a>,
     scope: &Scope<'a>,
 ) -> Result<(), FlatFault>
-    ensures ok { OnOk result (map expr_meant all.new.items ≡ map expr_meant all.old.items ++ kept_to (inner_meant inner.now) (scope_meant scope.now)) }
+    ensures ok { OnOk result (map expr_meant all.new.items ≡ map expr_meant all.old.items ++ kept_to
+        (inner_meant inner.now) (scope_meant scope.now)) }
     ensures err { IfErr result (Refuses (StandsAlone (scope_meant scope.now))) }
 {
     let ports = port_names(alloc, scope.text)?;
@@ -113,7 +115,8 @@ pub fn kept_into<'a>(
     scopes: &[Scope<'a>],
 ) -> Result<Vec<&'a Expr>, FlatFault>
     requires { length scopes.now ≡ length instances.now }
-    ensures ok { IfOk result (λ r. map expr_meant r.items ≡ kept_into (map inner_meant instances.now) (map scope_meant scopes.now)) }
+    ensures ok { IfOk result (λ r. map expr_meant r.items ≡ kept_into (map inner_meant instances.now)
+        (map scope_meant scopes.now)) }
     ensures err { IfErr result (Refuses (StandsAmong (map scope_meant scopes.now))) }
 {
     let mut all = Vec::new(alloc);

@@ -34,7 +34,8 @@ fn is_clock(table: &Table<'_>, clock: &Text, name: &Text) -> bool
 
 // A name among some that the clock reaches.
 fn clock_among<'a>(names: &[&'a Text], table: &Table<'_>, clock: &Text) -> Option<&'a Text>
-    ensures { Finds (λ x. Among (map name_meant names.now) x × (input_at table.now x ≡ Some clock.now)) (option_copied result) }
+    ensures { Finds (λ x. Among (map name_meant names.now) x ×
+        (input_at table.now x ≡ Some clock.now)) (option_copied result) }
 {
     for name in names {
         if is_clock(table, clock, name) {
@@ -51,7 +52,8 @@ fn clock_in<'a>(
     table: &Table<'_>,
     clock: &Text,
 ) -> Result<Option<&'a Text>, AllocError>
-    ensures { IfOk result (λ r. Finds (λ x. Among (names_in expr.now) x × (input_at table.now x ≡ Some clock.now)) (option_copied r)) }
+    ensures { IfOk result (λ r. Finds (λ x. Among (names_in expr.now) x ×
+        (input_at table.now x ≡ Some clock.now)) (option_copied r)) }
 {
     let names = names_in(alloc, expr)?;
     Ok(clock_among(&names, table, clock))
@@ -82,7 +84,8 @@ fn clock_read<'a>(
     table: &Table<'_>,
     clock: &Text,
 ) -> Result<Option<&'a Text>, AllocError>
-    ensures { IfOk result (λ r. Finds (IsClockRead text.now (map expr_meant kept.now) table.now clock.now) (option_copied r)) }
+    ensures { IfOk result (λ r. Finds (IsClockRead text.now (map expr_meant kept.now) table.now clock.now)
+        (option_copied r)) }
 {
     let own = own_exprs_in(alloc, text)?;
     if let Some(name) = read_among(alloc, &own, table, clock)? {
@@ -103,7 +106,8 @@ pub fn check_reads(
     requires tables { length tables.now ≡ length scopes.now }
     requires kept { length kept.now ≡ length scopes.now }
     ensures ok { OnOk result (NoneReads (map scope_meant scopes.now) tables.now (map exprs_meant kept.now) clock.now) }
-    ensures err { IfErr result (Refuses (SomeReads (map scope_meant scopes.now) tables.now (map exprs_meant kept.now) clock.now)) }
+    ensures err { IfErr result (Refuses (SomeReads (map scope_meant scopes.now) tables.now
+        (map exprs_meant kept.now) clock.now)) }
 {
     let mut at = 0;
     for scope in scopes {

@@ -90,7 +90,8 @@ fn themselves<'a>(alloc: Global, names: &[&'a Text]) -> Result<Vec<Link<'a>>, Al
 
 /// The table of the top. A refusal's fault stands there.
 pub fn top_table<'a>(alloc: Global, scope: &Scope<'a>) -> Result<Table<'a>, FlatFault>
-    ensures ok { IfOk result (λ t. (ms : List Design) (top : Name) → scope_at ms top [] ≡ Some (scope_meant scope.now) → IsTable ms top [] t) }
+    ensures ok { IfOk result (λ t. (ms : List Design) (top : Name) → scope_at ms top [] ≡ Some (scope_meant scope.now) →
+        IsTable ms top [] t) }
     ensures err { IfErr result (Refuses (StandsAlone (scope_meant scope.now))) }
 {
     let names = match bit_inputs(alloc, scope) {
@@ -150,7 +151,8 @@ fn links<'a>(
     given: &[Given<'_>],
     bits: &[&'a Text],
 ) -> Result<Vec<Link<'a>>, AllocError>
-    ensures { IfOk result (λ r. map link_meant r.items ≡ links outer.now (map given_meant given.now) (map name_meant bits.now)) }
+    ensures { IfOk result (λ r. map link_meant r.items ≡ links outer.now (map given_meant given.now)
+        (map name_meant bits.now)) }
 {
     let names = Names::of(alloc, given_names(alloc, given)?)?;
     let mut all = Vec::new(alloc);

@@ -50,7 +50,8 @@ fn one_edge(edge: &Edge) -> Option<Timing<'_>>
 
 // What a block with two edges waits for: one is that of the reset that its body tests, the other the clock's.
 fn two_edges<'a>(one: &'a Edge, other: &'a Edge, reset: Reset<'a>) -> Option<Timing<'a>>
-    ensures { (x : Name) (r : Option Asynchronous) → WaitsForTwo one.now other.now (reset_meant reset.entry) x r ↔ IsTimedBy result x r }
+    ensures { (x : Name) (r : Option Asynchronous) → WaitsForTwo one.now other.now (reset_meant reset.entry) x r ↔
+        IsTimedBy result x r }
 {
     let first = is_reset_edge(one, reset);
     let second = is_reset_edge(other, reset);

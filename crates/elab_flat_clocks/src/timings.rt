@@ -67,7 +67,8 @@ fn block_timing<'a>(
     table: &Table<'a>,
     block: &Block<'_>,
 ) -> Result<Option<Timing<'a>>, FlatFault>
-    ensures ok { IfOk result (λ r. AreTimingsBy table.now (block_meant block.now ∷ []) (option_to_list (option_map timed_meant r))) }
+    ensures ok { IfOk result (λ r. AreTimingsBy table.now (block_meant block.now ∷ [])
+        (option_to_list (option_map timed_meant r))) }
     ensures err { IfErr result (Refuses (BreaksTiming (scope_meant scope.now) table.now (block_meant block.now))) }
 {
     let edges = match block.events {
@@ -88,7 +89,8 @@ fn block_timing<'a>(
 }
 
 fn add_timing<'a>(all: &mut Vec<Timing<'a>>, timing: Option<Timing<'a>>) -> Result<(), AllocError>
-    ensures { OnOk result (map timed_meant all.new.items ≡ map timed_meant all.old.items ++ option_to_list (option_map timed_meant timing.entry)) }
+    ensures { OnOk result (map timed_meant all.new.items ≡ map timed_meant all.old.items ++ option_to_list
+        (option_map timed_meant timing.entry)) }
 {
     if let Some(timing) = timing {
         all.push(timing)?;

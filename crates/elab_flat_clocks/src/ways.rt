@@ -31,7 +31,8 @@ fn tables_below<'a>(
     scopes: &[Scope<'a>],
 ) -> Result<Vec<Table<'a>>, FlatFault>
     requires { length scopes.now ≡ length instances.now }
-    ensures ok { IfOk result (λ r. AreTablesBelow outer.now (map inner_meant instances.now) (map scope_meant scopes.now) r.items) }
+    ensures ok { IfOk result (λ r. AreTablesBelow outer.now (map inner_meant instances.now)
+        (map scope_meant scopes.now) r.items) }
     ensures err { IfErr result (Refuses (StandsAmong (map scope_meant scopes.now))) }
 {
     let mut all = Vec::new(alloc);
@@ -49,7 +50,8 @@ fn tables_below<'a>(
 /// The ways through all scopes, which stand in the order of their paths. A refusal's fault stands at one of them.
 pub fn ways_of<'a>(alloc: Global, scopes: &[Scope<'a>]) -> Result<Ways<'a>, FlatFault>
     requires { AreAllScopes (map scope_meant scopes.now) }
-    ensures ok { IfOk result (λ w. AreWaysOf (map scope_meant scopes.now) w.tables.items (map exprs_meant w.kept.items)) }
+    ensures ok { IfOk result (λ w. AreWaysOf (map scope_meant scopes.now) w.tables.items
+        (map exprs_meant w.kept.items)) }
     ensures err { IfErr result (Refuses (StandsAmong (map scope_meant scopes.now))) }
 {
     let mut tables = Vec::new(alloc);

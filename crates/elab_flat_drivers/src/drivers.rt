@@ -47,7 +47,8 @@ fn add_inputs<'a>(all: &mut Vec<Driver<'a>>, ports: &'a [TopPort]) -> Result<(),
 }
 
 fn add_parts<'a>(all: &mut Vec<Driver<'a>>, alloc: Global, left: &'a Lval) -> Result<(), AllocError>
-    ensures { OnOk result (map driver_meant all.new.items ≡ map driver_meant all.old.items ++ map PartOf (parts_of left.now)) }
+    ensures { OnOk result (map driver_meant all.new.items ≡ map driver_meant all.old.items ++ map PartOf
+        (parts_of left.now)) }
 {
     let parts = parts_of(alloc, left)?;
     for part in &parts {
@@ -61,7 +62,8 @@ fn add_assigns<'a>(
     alloc: Global,
     assigns: &'a [Assign],
 ) -> Result<(), AllocError>
-    ensures { OnOk result (map driver_meant all.new.items ≡ map driver_meant all.old.items ++ flat_map (λ (a : Equation). map PartOf (parts_of a.left)) assigns.now) }
+    ensures { OnOk result (map driver_meant all.new.items ≡ map driver_meant all.old.items ++ flat_map
+        (λ (a : Equation). map PartOf (parts_of a.left)) assigns.now) }
 {
     for assign in assigns {
         add_parts(all, alloc, &assign.left)?;
@@ -70,7 +72,8 @@ fn add_assigns<'a>(
 }
 
 fn add_blocks<'a>(all: &mut Vec<Driver<'a>>, blocks: &'a [Always]) -> Result<(), AllocError>
-    ensures { OnOk result (map driver_meant all.new.items ≡ map driver_meant all.old.items ++ map (λ (k : Process). BlockOf (lefts k.body)) blocks.now) }
+    ensures { OnOk result (map driver_meant all.new.items ≡ map driver_meant all.old.items ++ map
+        (λ (k : Process). BlockOf (lefts k.body)) blocks.now) }
 {
     for block in blocks {
         all.push(Driver::Block(&block.body))?;
@@ -132,7 +135,8 @@ fn add_body_claims(
 ) -> Result<(), AllocError>
     requires narrow { AreNarrow signals.now }
     requires ready { IsDriverReady (BlockOf (lefts body.now)) }
-    ensures { OnOk result (claims.new.items ≡ claims.old.items ++ driver_claims signals.now (BlockOf (lefts body.now))) }
+    ensures { OnOk result (claims.new.items ≡ claims.old.items ++ driver_claims signals.now
+        (BlockOf (lefts body.now))) }
 {
     let pieces = pieces_of(alloc, body)?;
     for piece in &pieces {
@@ -170,8 +174,10 @@ fn twice(
 ) -> Result<Option<Bit>, AllocError>
     requires narrow { AreNarrow signals.now }
     requires ready { AreDriversReady (map driver_meant drivers.now) }
-    ensures some { IfOk result (λ o. IfSome o (λ r. Clashes signals.now (replicate (length signals.now) 0) (map driver_meant drivers.now) r.place r.number)) }
-    ensures none { IfOk result (λ o. IfNone o ((i b : ℕ) → Clashes signals.now (replicate (length signals.now) 0) (map driver_meant drivers.now) i b → ⊥)) }
+    ensures some { IfOk result (λ o. IfSome o
+        (λ r. Clashes signals.now (replicate (length signals.now) 0) (map driver_meant drivers.now) r.place r.number)) }
+    ensures none { IfOk result (λ o. IfNone o ((i b : ℕ) →
+        Clashes signals.now (replicate (length signals.now) 0) (map driver_meant drivers.now) i b → ⊥)) }
 {
     let mut table = no_bits(alloc, signals.list().len())?;
     for driver in drivers {

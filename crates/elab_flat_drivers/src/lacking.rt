@@ -27,7 +27,8 @@ use std::alloc::{AllocError, Global};
 use vlog_tree_runs::Flat;
 
 fn add_whole<'a>(all: &mut Vec<Driver<'a>>, names: &[&'a Text]) -> Result<(), AllocError>
-    ensures { OnOk result (map driver_meant all.new.items ≡ map driver_meant all.old.items ++ map InputOf (map name_meant names.now)) }
+    ensures { OnOk result (map driver_meant all.new.items ≡ map driver_meant all.old.items ++ map InputOf
+        (map name_meant names.now)) }
 {
     for name in names {
         all.push(Driver::Input(name))?;
@@ -54,7 +55,8 @@ pub fn driven(
 ) -> Result<Vec<u64>, AllocError>
     requires narrow { AreNarrow signals.now }
     requires ready { AreDriversReady (map driver_meant drivers.now) }
-    ensures { IfOk result (λ r. r.items ≡ driven_table signals.now (replicate (length signals.now) 0) (map driver_meant drivers.now)) }
+    ensures { IfOk result (λ r. r.items ≡ driven_table signals.now (replicate (length signals.now) 0)
+        (map driver_meant drivers.now)) }
 {
     let mut table = no_bits(alloc, signals.list().len())?;
     for driver in drivers {

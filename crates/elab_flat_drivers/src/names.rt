@@ -73,7 +73,8 @@ fn add_body_names<'a>(
     body: &'a Stmt,
     form: Form,
 ) -> Result<(), AllocError>
-    ensures { OnOk result (map name_meant all.new.items ≡ map name_meant all.old.items ++ flat_map left_names (form_lefts form body.now)) }
+    ensures { OnOk result (map name_meant all.new.items ≡ map name_meant all.old.items ++ flat_map left_names
+        (form_lefts form body.now)) }
 {
     let pieces = pieces_of(alloc, body)?;
     for piece in &pieces {

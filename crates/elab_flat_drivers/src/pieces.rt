@@ -21,7 +21,8 @@ pub enum Piece<'a> {
 }
 
 fn add_labels<'a>(all: &mut Vec<Piece<'a>>, labels: &'a Labels) -> Result<(), AllocError>
-    ensures { OnOk result (map piece_meant all.new.items ≡ map piece_meant all.old.items ++ map Tests (exprs_in labels.now)) }
+    ensures { OnOk result (map piece_meant all.new.items ≡ map piece_meant all.old.items ++ map Tests
+        (exprs_in labels.now)) }
 {
     match labels {
         Labels::Exprs(exprs) => add_tests(all, exprs.as_slice()),

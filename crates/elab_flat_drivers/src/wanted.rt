@@ -15,7 +15,8 @@ use vlog_tree_runs::{Always, Flat, TopPort};
 
 // What the numbers of a part read.
 fn add_part_reads<'a>(all: &mut Vec<Part<'a>>, part: Part<'a>) -> Result<(), AllocError>
-    ensures { OnOk result (map part_meant all.new.items ≡ map part_meant all.old.items ++ part_reads (part_meant part.entry)) }
+    ensures { OnOk result (map part_meant all.new.items ≡ map part_meant all.old.items ++ part_reads
+        (part_meant part.entry)) }
 {
     match part {
         Part::Whole(_) => Ok(()),
@@ -48,7 +49,8 @@ pub fn add_store_reads<'a>(
     left: &'a Lval,
     right: &'a Expr,
 ) -> Result<(), AllocError>
-    ensures { OnOk result (map part_meant all.new.items ≡ map part_meant all.old.items ++ (left_reads left.now ++ reads_of right.now)) }
+    ensures { OnOk result (map part_meant all.new.items ≡ map part_meant all.old.items ++
+        (left_reads left.now ++ reads_of right.now)) }
 {
     add_left_reads(all, alloc, left)?;
     add_reads(all, right)?;
@@ -60,7 +62,8 @@ fn add_piece_reads<'a>(
     alloc: Global,
     piece: Piece<'a>,
 ) -> Result<(), AllocError>
-    ensures { OnOk result (map part_meant all.new.items ≡ map part_meant all.old.items ++ action_reads (piece_meant piece.entry)) }
+    ensures { OnOk result (map part_meant all.new.items ≡ map part_meant all.old.items ++ action_reads
+        (piece_meant piece.entry)) }
 {
     match piece {
         Piece::Test(expr) => add_reads(all, expr),
@@ -75,7 +78,8 @@ fn add_body_reads<'a>(
     alloc: Global,
     body: &'a Stmt,
 ) -> Result<(), AllocError>
-    ensures { OnOk result (map part_meant all.new.items ≡ map part_meant all.old.items ++ flat_map action_reads (actions body.now)) }
+    ensures { OnOk result (map part_meant all.new.items ≡ map part_meant all.old.items ++ flat_map action_reads
+        (actions body.now)) }
 {
     let pieces = pieces_of(alloc, body)?;
     for piece in &pieces {

@@ -43,7 +43,8 @@ fn levels_of(alloc: Global, graph: &[Vec<usize>], order: &[usize]) -> Result<Vec
 fn sort(vertices: &mut Vec<usize>, levels: &[usize], keys: &[usize]) -> Result<(), AllocError>
     ensures same { OnOk result (IsPermutation vertices.old.items vertices.new.items) }
     ensures rises { OnOk result (IsNonDecreasingBy (λ v. slice_index levels.now v) vertices.new.items) }
-    ensures sorted { OnOk result ((k : ℕ) → k + 1 < length vertices.new.items → StandBy levels.now keys.now (slice_index vertices.new.items k) (slice_index vertices.new.items (k + 1))) }
+    ensures sorted { OnOk result ((k : ℕ) → k + 1 < length vertices.new.items →
+        StandBy levels.now keys.now (slice_index vertices.new.items k) (slice_index vertices.new.items (k + 1))) }
 {
     vertices.sort_by_key(|v| number_of(keys, *v))?;
     vertices.sort_by_key(|v| number_of(levels, *v))?;

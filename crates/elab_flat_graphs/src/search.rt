@@ -126,7 +126,8 @@ impl<'a> Search<'a> {
     fn close(&mut self, v: usize) -> Result<(), AllocError>
         requires search { Searches self.old }
         requires last { EndsAt self.old.path.items v }
-        requires successors { (w : ℕ) → Among (successors (searched self.old) v) w → mark_at self.old.marks.items w ≡ Mark.Done }
+        requires successors { (w : ℕ) → Among (successors (searched self.old) v) w →
+            mark_at self.old.marks.items w ≡ Mark.Done }
         ensures graph { searched self.new ≡ searched self.old }
         ensures search { OnOk result (Searches self.new) }
         ensures known { OnOk result (KeepsKnown self.old.marks.items self.new.marks.items) }
@@ -159,7 +160,8 @@ impl<'a> Search<'a> {
         ensures path { self.new.path ≡ self.old.path }
         ensures within { result ≤ length (successors (searched self.new) v) }
         ensures done { IsPassed (searched self.new) self.new.marks.items v result }
-        ensures open { result < length (successors (searched self.new) v) → mark_at self.new.marks.items (slice_index (successors (searched self.new) v) result) ≢ Mark.Done }
+        ensures open { result < length (successors (searched self.new) v) →
+            mark_at self.new.marks.items (slice_index (successors (searched self.new) v) result) ≢ Mark.Done }
     {
         let count = passed(successors_of(self.graph, v), &self.marks, self.passed[v]);
         self.passed[v] = count;
@@ -176,7 +178,8 @@ impl<'a> Search<'a> {
         ensures graph { searched self.new ≡ searched self.old }
         ensures search { IfOk result (λ r. IfNone r (Searches self.new)) }
         ensures known { IfOk result (λ r. IfNone r (KeepsKnown self.old.marks.items self.new.marks.items)) }
-        ensures changes { IfOk result (λ r. IfNone r (all_changes self.new.marks.items + 1 ≡ all_changes self.old.marks.items)) }
+        ensures changes { IfOk result (λ r. IfNone r
+            (all_changes self.new.marks.items + 1 ≡ all_changes self.old.marks.items)) }
         ensures cycle { IfOk result (λ r. IfSome r (λ w. IsCycle (searched self.old) (from self.new.path.items w))) }
     {
         match mark_of(&self.marks, next) {
@@ -198,7 +201,8 @@ impl<'a> Search<'a> {
         ensures graph { searched self.new ≡ searched self.old }
         ensures search { IfOk result (λ r. IfNone r (Searches self.new)) }
         ensures known { IfOk result (λ r. IfNone r (KeepsKnown self.old.marks.items self.new.marks.items)) }
-        ensures changes { IfOk result (λ r. IfNone r (all_changes self.new.marks.items + 1 ≡ all_changes self.old.marks.items)) }
+        ensures changes { IfOk result (λ r. IfNone r
+            (all_changes self.new.marks.items + 1 ≡ all_changes self.old.marks.items)) }
         ensures cycle { IfOk result (λ r. IfSome r (λ w. IsCycle (searched self.old) (from self.new.path.items w))) }
     {
         let count = self.look(v);

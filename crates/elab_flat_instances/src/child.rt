@@ -67,7 +67,8 @@ pub fn param_fault(
     cause: BadParam,
 ) -> Result<FlatFault, AllocError>
     requires { at < length (params_in text.now) }
-    ensures { IfOk result (λ fault. (p : Parameter) → slice_get (params_in text.now) at ≡ Some p → fault ≡ param_fault (prefix.now ++ p.name) cause) }
+    ensures { IfOk result (λ fault. (p : Parameter) → slice_get (params_in text.now) at ≡ Some p →
+        fault ≡ param_fault (prefix.now ++ p.name) cause) }
 {
     let params = params_in(alloc, text)?;
     let name = full_name(alloc, prefix, params[at].name.bytes())?;
@@ -82,7 +83,8 @@ pub fn child_of<'a>(
     inner: &Inner<'a>,
 ) -> Result<Scope<'a>, FlatFault>
     requires { Among (instances_in outer.now.text.now) (inner_meant inner.now) }
-    ensures ok { IfOk result (λ t. IsChild modules.now (scope_meant outer.now) (inner_meant inner.now) (scope_meant t)) }
+    ensures ok { IfOk result (λ t. IsChild modules.now (scope_meant outer.now) (inner_meant inner.now)
+        (scope_meant t)) }
     ensures err { IfErr result (Refuses (StandsNear modules.now (scope_meant outer.now) (inner_meant inner.now))) }
 {
     match modules.at(inner.of_module.bytes()) {

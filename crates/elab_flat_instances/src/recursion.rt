@@ -51,7 +51,9 @@ fn name_at(alloc: Global, text: &Module, at: usize) -> Result<Text, AllocError>
 // own.
 fn prefix_at(alloc: Global, prefix: &[u8], text: &Module, at: usize) -> Result<Text, AllocError>
     requires { at < length (instances_in text.now) }
-    ensures { IfOk result (λ r. (name : Name) × (option_map inner_name (slice_get (instances_in text.now) at) ≡ Some name) × (r ≡ inner_prefix prefix.now name)) }
+    ensures { IfOk result (λ r. (name : Name) ×
+        (option_map inner_name (slice_get (instances_in text.now) at) ≡ Some name) ×
+        (r ≡ inner_prefix prefix.now name)) }
 {
     let name = name_at(alloc, text, at)?;
     inner_prefix(alloc, prefix, name.bytes())

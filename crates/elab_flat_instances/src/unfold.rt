@@ -43,7 +43,8 @@ fn children_of<'a>(
 ) -> Result<Vec<Scope<'a>>, FlatFault>
     requires names { names.now ≡ map inner_name (map inner_meant instances.now) }
     requires instances { map inner_meant instances.now ≡ instances_in outer.now.text.now }
-    ensures ok { IfOk result (λ r. AreChildren modules.now (scope_meant outer.now) 0 (instances_in outer.now.text.now) (map scope_meant r.items)) }
+    ensures ok { IfOk result (λ r. AreChildren modules.now (scope_meant outer.now) 0 (instances_in outer.now.text.now)
+        (map scope_meant r.items)) }
     ensures err { IfErr result (Refuses (StandsBelow modules.now (scope_meant outer.now))) }
 {
     let mut all = Vec::new(alloc);
@@ -69,7 +70,8 @@ pub fn children<'a>(
     modules: &Modules<'a>,
     outer: &Scope<'a>,
 ) -> Result<Vec<Scope<'a>>, FlatFault>
-    ensures ok { IfOk result (λ r. AreChildren modules.now (scope_meant outer.now) 0 (instances_in outer.now.text.now) (map scope_meant r.items)) }
+    ensures ok { IfOk result (λ r. AreChildren modules.now (scope_meant outer.now) 0 (instances_in outer.now.text.now)
+        (map scope_meant r.items)) }
     ensures err { IfErr result (Refuses (StandsBelow modules.now (scope_meant outer.now))) }
 {
     let instances = instances_in(alloc, outer.text)?;

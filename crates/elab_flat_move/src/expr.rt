@@ -74,7 +74,8 @@ impl Mover<'_> {
     }
 
     fn name(&self, name: &Name) -> Result<Expr, AllocError>
-        ensures { IfOk result (λ r. r ≡ moved_name self.now.prefix.now (meaning_of self.now.params.now name.now) name.now) }
+        ensures { IfOk result (λ r. r ≡ moved_name self.now.prefix.now
+            (meaning_of self.now.params.now name.now) name.now) }
     {
         match self.meaning(name) {
             Some(constant) => Ok(number_for(constant)),
@@ -83,7 +84,8 @@ impl Mover<'_> {
     }
 
     fn select(&self, name: &Name, index: Boxed<Expr>) -> Result<Expr, AllocError>
-        ensures { IfOk result (λ r. r ≡ moved_select self.now.prefix.now (meaning_of self.now.params.now name.now) name.now index) }
+        ensures { IfOk result (λ r. r ≡ moved_select self.now.prefix.now
+            (meaning_of self.now.params.now name.now) name.now index) }
     {
         match self.meaning(name) {
             Some(constant) => Ok(Expr::ConstantSelect(constant, index)),
@@ -101,7 +103,8 @@ impl Mover<'_> {
         a: Boxed<Expr>,
         b: Boxed<Expr>,
     ) -> Result<Expr, AllocError>
-        ensures { IfOk result (λ r. r ≡ moved_part self.now.prefix.now (meaning_of self.now.params.now name.now) name.now span a b) }
+        ensures { IfOk result (λ r. r ≡ moved_part self.now.prefix.now
+            (meaning_of self.now.params.now name.now) name.now span a b) }
     {
         match self.meaning(name) {
             Some(constant) => Ok(Expr::ConstantPart(constant, span, a, b)),

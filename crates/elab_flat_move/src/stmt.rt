@@ -53,14 +53,16 @@ impl Mover<'_> {
     }
 
     fn blocking(&self, left: &Lval, right: &Expr) -> Result<Stmt, AllocError>
-        ensures { IfOk result (λ r. r ≡ s.Blocking (moved_left self.now.prefix.now self.now.params.now left.now) (moved self.now.prefix.now self.now.params.now right.now)) }
+        ensures { IfOk result (λ r. r ≡ s.Blocking (moved_left self.now.prefix.now self.now.params.now left.now)
+            (moved self.now.prefix.now self.now.params.now right.now)) }
     {
         let (left, right) = both(self.left(left), self.expr(right))?;
         Ok(Stmt::Blocking(left, right))
     }
 
     fn nonblocking(&self, left: &Lval, right: &Expr) -> Result<Stmt, AllocError>
-        ensures { IfOk result (λ r. r ≡ s.Nonblocking (moved_left self.now.prefix.now self.now.params.now left.now) (moved self.now.prefix.now self.now.params.now right.now)) }
+        ensures { IfOk result (λ r. r ≡ s.Nonblocking (moved_left self.now.prefix.now self.now.params.now left.now)
+            (moved self.now.prefix.now self.now.params.now right.now)) }
     {
         let (left, right) = both(self.left(left), self.expr(right))?;
         Ok(Stmt::Nonblocking(left, right))
@@ -75,7 +77,8 @@ impl Mover<'_> {
 
     #[cycle(stmt)]
     fn block(&self, stmts: &[Stmt], name: &Option<Text>) -> Result<Stmt, AllocError>
-        ensures { IfOk result (λ r. r ≡ s.Block name.now (map (moved_stmt self.now.prefix.now self.now.params.now) stmts.now)) }
+        ensures { IfOk result (λ r. r ≡ s.Block name.now
+            (map (moved_stmt self.now.prefix.now self.now.params.now) stmts.now)) }
     {
         let (name, stmts) = both(copied(self.alloc, name), self.stmts(stmts))?;
         Ok(Stmt::Block(name, stmts))
@@ -83,7 +86,8 @@ impl Mover<'_> {
 
     #[cycle(stmt)]
     fn if_only(&self, body: &Stmt, condition: &Expr) -> Result<Stmt, AllocError>
-        ensures { IfOk result (λ r. r ≡ s.If (moved self.now.prefix.now self.now.params.now condition.now) (moved_stmt self.now.prefix.now self.now.params.now body.now)) }
+        ensures { IfOk result (λ r. r ≡ s.If (moved self.now.prefix.now self.now.params.now condition.now)
+            (moved_stmt self.now.prefix.now self.now.params.now body.now)) }
     {
         let (condition, body) = both(self.expr(condition), self.branch(body))?;
         Ok(Stmt::If(condition, body))
@@ -91,7 +95,8 @@ impl Mover<'_> {
 
     #[cycle(stmt)]
     fn case(&self, items: &[CaseItem], kind: CaseKind, subject: &Expr) -> Result<Stmt, AllocError>
-        ensures { IfOk result (λ r. r ≡ s.Case kind (moved self.now.prefix.now self.now.params.now subject.now) (map (moved_case self.now.prefix.now self.now.params.now) items.now)) }
+        ensures { IfOk result (λ r. r ≡ s.Case kind (moved self.now.prefix.now self.now.params.now subject.now)
+            (map (moved_case self.now.prefix.now self.now.params.now) items.now)) }
     {
         let (subject, items) = both(self.expr(subject), self.cases(items))?;
         Ok(Stmt::Case(kind, subject, items))

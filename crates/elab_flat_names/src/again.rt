@@ -96,7 +96,8 @@ fn same_shape(
 ) -> Result<bool, FlatFault>
     requires first { IsDeclaredAs scope.now.text.now (decl_meant first.now) }
     requires second { IsDeclaredAs scope.now.text.now (decl_meant second.now) }
-    ensures ok { IfOk result (λ b. IsTrue b ↔ SameShape scope.now.params (decl_meant first.now) (decl_meant second.now)) }
+    ensures ok { IfOk result (λ b. IsTrue b ↔ SameShape scope.now.params (decl_meant first.now)
+        (decl_meant second.now)) }
     ensures err { IfErr result (Refuses (StandsAlone (scope_meant scope.now))) }
 {
     let one = match declared_signal(alloc, scope, first) {
@@ -120,7 +121,8 @@ fn goes_with(
     requires headed { headed.now ≡ headed_names scope.now.text.now }
     requires first { IsDeclaredAs scope.now.text.now (decl_meant first.now) }
     requires second { IsDeclaredAs scope.now.text.now (decl_meant second.now) }
-    ensures ok { IfOk result (λ b. IsTrue b ↔ GoesWith scope.now.text.now scope.now.params (decl_meant first.now) (decl_meant second.now)) }
+    ensures ok { IfOk result (λ b. IsTrue b ↔ GoesWith scope.now.text.now scope.now.params (decl_meant first.now)
+        (decl_meant second.now)) }
     ensures err { IfErr result (Refuses (StandsAlone (scope_meant scope.now))) }
 {
     if may_go(headed, first, second) {
@@ -152,7 +154,8 @@ fn misfit<'a>(
     requires headed { headed.now ≡ headed_names scope.now.text.now }
     requires decls { AreDeclaredAs scope.now.text.now (map decl_meant decls.now) }
     requires seconds { AreDeclaredAs scope.now.text.now (map decl_meant seconds.now) }
-    ensures ok { IfOk result (λ r. Finds (IsMisfit scope.now.text.now scope.now.params (map decl_meant decls.now) (map decl_meant seconds.now)) (option_copied r)) }
+    ensures ok { IfOk result (λ r. Finds (IsMisfit scope.now.text.now scope.now.params (map decl_meant decls.now)
+        (map decl_meant seconds.now)) (option_copied r)) }
     ensures err { IfErr result (Refuses (StandsAlone (scope_meant scope.now))) }
 {
     let places = Names::of(alloc, decl_names(alloc, decls)?)?;

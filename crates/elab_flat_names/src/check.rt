@@ -96,7 +96,8 @@ fn check_inners(
 ) -> Result<(), FlatFault>
     requires instances { map inner_meant instances.now ≡ instances_in scope.now.text.now }
     requires signals { signals.now ≡ map decl_name (signals_in scope.now.text.now) }
-    ensures ok { OnOk result ((i : Instance) → Among (instances_in scope.now.text.now) i → FitsInner modules.now (scope_meant scope.now) i) }
+    ensures ok { OnOk result ((i : Instance) → Among (instances_in scope.now.text.now) i →
+        FitsInner modules.now (scope_meant scope.now) i) }
     ensures err { IfErr result (Refuses (StandsIn modules.now (scope_meant scope.now))) }
 {
     for inner in instances {
@@ -115,7 +116,8 @@ pub fn check_instances(
     modules: &Modules<'_>,
     scope: &Scope<'_>,
 ) -> Result<(), FlatFault>
-    ensures ok { OnOk result ((i : Instance) → Among (instances_in scope.now.text.now) i → FitsInner modules.now (scope_meant scope.now) i) }
+    ensures ok { OnOk result ((i : Instance) → Among (instances_in scope.now.text.now) i →
+        FitsInner modules.now (scope_meant scope.now) i) }
     ensures err { IfErr result (Refuses (StandsIn modules.now (scope_meant scope.now))) }
 {
     let instances = instances_in(alloc, scope.text)?;
@@ -127,7 +129,8 @@ pub fn check_instances(
 /// fault stands at the scope; it is `Constant` or `Width` where the range of a signal that is declared again, or of a
 /// memory, declares nothing. Its time is linear in the scope's text and in the modules of its instances.
 pub fn check_names(alloc: Global, modules: &Modules<'_>, scope: &Scope<'_>) -> Result<(), FlatFault>
-    ensures none { OnOk result ((fault : Fault) → IsOfNames fault → (path : Name) → StandsAt modules.now path (scope_meant scope.now) fault → ⊥) }
+    ensures none { OnOk result ((fault : Fault) → IsOfNames fault → (path : Name) →
+        StandsAt modules.now path (scope_meant scope.now) fault → ⊥) }
     ensures err { IfErr result (Refuses (StandsIn modules.now (scope_meant scope.now))) }
 {
     match check_used(alloc, scope) {

@@ -12,7 +12,8 @@ use std::alloc::AllocError;
 use vlog_tree::{Args, Connection, Expr, Range, Shape};
 
 fn add_range<'a>(all: &mut Vec<&'a Expr>, range: Option<&'a Range>) -> Result<(), AllocError>
-    ensures { OnOk result (map expr_meant all.new.items ≡ map expr_meant all.old.items ++ range_exprs (option_copied range.entry)) }
+    ensures { OnOk result (map expr_meant all.new.items ≡ map expr_meant all.old.items ++ range_exprs
+        (option_copied range.entry)) }
 {
     match range {
         Some(range) => {
@@ -38,7 +39,8 @@ fn range_of(shape: Option<&Shape>) -> Option<&Range>
 
 /// Adds the bounds of a declaration's ranges.
 pub fn add_decl<'a>(all: &mut Vec<&'a Expr>, decl: &Decl<'a>) -> Result<(), AllocError>
-    ensures { OnOk result (map expr_meant all.new.items ≡ map expr_meant all.old.items ++ decl_exprs (decl_meant decl.now)) }
+    ensures { OnOk result (map expr_meant all.new.items ≡ map expr_meant all.old.items ++ decl_exprs
+        (decl_meant decl.now)) }
 {
     add_range(all, range_of(decl.shape))?;
     add_range(all, decl.words)?;
@@ -47,7 +49,8 @@ pub fn add_decl<'a>(all: &mut Vec<&'a Expr>, decl: &Decl<'a>) -> Result<(), Allo
 
 /// Adds the bounds of a parameter's range, and its value.
 pub fn add_param<'a>(all: &mut Vec<&'a Expr>, param: &Param<'a>) -> Result<(), AllocError>
-    ensures { OnOk result (map expr_meant all.new.items ≡ map expr_meant all.old.items ++ param_exprs (param_meant param.now)) }
+    ensures { OnOk result (map expr_meant all.new.items ≡ map expr_meant all.old.items ++ param_exprs
+        (param_meant param.now)) }
 {
     add_range(all, range_of(param.shape))?;
     all.push(param.value)?;
@@ -86,7 +89,8 @@ fn add_args<'a>(all: &mut Vec<&'a Expr>, args: &'a Option<Args>) -> Result<(), A
 
 /// Adds the overrides and the connections of an instance.
 pub fn add_inner<'a>(all: &mut Vec<&'a Expr>, inner: &Inner<'a>) -> Result<(), AllocError>
-    ensures { OnOk result (map expr_meant all.new.items ≡ map expr_meant all.old.items ++ inner_exprs (inner_meant inner.now)) }
+    ensures { OnOk result (map expr_meant all.new.items ≡ map expr_meant all.old.items ++ inner_exprs
+        (inner_meant inner.now)) }
 {
     add_args(all, inner.overrides)?;
     add_args(all, inner.args)?;

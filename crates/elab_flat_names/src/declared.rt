@@ -18,7 +18,8 @@ use std::alloc::{AllocError, Global};
 use vlog_tree::{Entry, Module};
 
 fn add_decl_names<'a>(all: &mut Vec<&'a Text>, decls: &[Decl<'a>]) -> Result<(), AllocError>
-    ensures { OnOk result (map name_meant all.new.items ≡ map name_meant all.old.items ++ map decl_name (map decl_meant decls.now)) }
+    ensures { OnOk result (map name_meant all.new.items ≡ map name_meant all.old.items ++ map decl_name
+        (map decl_meant decls.now)) }
 {
     for decl in decls {
         all.push(decl.name)?;
@@ -27,7 +28,8 @@ fn add_decl_names<'a>(all: &mut Vec<&'a Text>, decls: &[Decl<'a>]) -> Result<(),
 }
 
 fn add_param_names<'a>(all: &mut Vec<&'a Text>, params: &[Param<'a>]) -> Result<(), AllocError>
-    ensures { OnOk result (map name_meant all.new.items ≡ map name_meant all.old.items ++ map param_name (map param_meant params.now)) }
+    ensures { OnOk result (map name_meant all.new.items ≡ map name_meant all.old.items ++ map param_name
+        (map param_meant params.now)) }
 {
     for param in params {
         all.push(param.name)?;
@@ -36,7 +38,8 @@ fn add_param_names<'a>(all: &mut Vec<&'a Text>, params: &[Param<'a>]) -> Result<
 }
 
 fn add_inner_names<'a>(all: &mut Vec<&'a Text>, instances: &[Inner<'a>]) -> Result<(), AllocError>
-    ensures { OnOk result (map name_meant all.new.items ≡ map name_meant all.old.items ++ map inner_name (map inner_meant instances.now)) }
+    ensures { OnOk result (map name_meant all.new.items ≡ map name_meant all.old.items ++ map inner_name
+        (map inner_meant instances.now)) }
 {
     for inner in instances {
         all.push(inner.name)?;
@@ -56,7 +59,8 @@ fn add_entry_names<'a>(all: &mut Vec<&'a Text>, entries: &'a [Entry]) -> Result<
 }
 
 fn add_port_names<'a>(all: &mut Vec<&'a Text>, decls: &[Decl<'a>]) -> Result<(), AllocError>
-    ensures { OnOk result (map name_meant all.new.items ≡ map name_meant all.old.items ++ map decl_name (filter is_port (map decl_meant decls.now))) }
+    ensures { OnOk result (map name_meant all.new.items ≡ map name_meant all.old.items ++ map decl_name
+        (filter is_port (map decl_meant decls.now))) }
 {
     for decl in decls {
         if decl.input || decl.output {
@@ -71,7 +75,8 @@ fn add_open_names<'a>(
     text: &Module,
     params: &[Param<'a>],
 ) -> Result<(), AllocError>
-    ensures { OnOk result (map name_meant all.new.items ≡ map name_meant all.old.items ++ map param_name (filter (is_open text.now) (map param_meant params.now))) }
+    ensures { OnOk result (map name_meant all.new.items ≡ map name_meant all.old.items ++ map param_name
+        (filter (is_open text.now) (map param_meant params.now))) }
 {
     for param in params {
         if is_open(text, param) {

@@ -17,7 +17,8 @@ use std::alloc::{AllocError, Global};
 use vlog_tree::{Expr, Module};
 
 fn add_decls<'a>(all: &mut Vec<&'a Expr>, decls: &[Decl<'a>]) -> Result<(), AllocError>
-    ensures { OnOk result (map expr_meant all.new.items ≡ map expr_meant all.old.items ++ flat_map decl_exprs (map decl_meant decls.now)) }
+    ensures { OnOk result (map expr_meant all.new.items ≡ map expr_meant all.old.items ++ flat_map decl_exprs
+        (map decl_meant decls.now)) }
 {
     for decl in decls {
         add_decl(all, decl)?;
@@ -26,7 +27,8 @@ fn add_decls<'a>(all: &mut Vec<&'a Expr>, decls: &[Decl<'a>]) -> Result<(), Allo
 }
 
 fn add_params<'a>(all: &mut Vec<&'a Expr>, params: &[Param<'a>]) -> Result<(), AllocError>
-    ensures { OnOk result (map expr_meant all.new.items ≡ map expr_meant all.old.items ++ flat_map param_exprs (map param_meant params.now)) }
+    ensures { OnOk result (map expr_meant all.new.items ≡ map expr_meant all.old.items ++ flat_map param_exprs
+        (map param_meant params.now)) }
 {
     for param in params {
         add_param(all, param)?;
@@ -39,7 +41,8 @@ fn add_assigns<'a>(
     alloc: Global,
     assigns: &[Assigned<'a>],
 ) -> Result<(), AllocError>
-    ensures { OnOk result (map expr_meant all.new.items ≡ map expr_meant all.old.items ++ flat_map assign_exprs (map assigned_meant assigns.now)) }
+    ensures { OnOk result (map expr_meant all.new.items ≡ map expr_meant all.old.items ++ flat_map assign_exprs
+        (map assigned_meant assigns.now)) }
 {
     for assigned in assigns {
         add_assigned(all, alloc, assigned)?;
@@ -52,7 +55,8 @@ fn add_blocks<'a>(
     alloc: Global,
     blocks: &[Block<'a>],
 ) -> Result<(), AllocError>
-    ensures { OnOk result (map expr_meant all.new.items ≡ map expr_meant all.old.items ++ flat_map body_exprs (map block_meant blocks.now)) }
+    ensures { OnOk result (map expr_meant all.new.items ≡ map expr_meant all.old.items ++ flat_map body_exprs
+        (map block_meant blocks.now)) }
 {
     for block in blocks {
         add_block(all, alloc, block)?;
@@ -61,7 +65,8 @@ fn add_blocks<'a>(
 }
 
 fn add_inners<'a>(all: &mut Vec<&'a Expr>, instances: &[Inner<'a>]) -> Result<(), AllocError>
-    ensures { OnOk result (map expr_meant all.new.items ≡ map expr_meant all.old.items ++ flat_map inner_exprs (map inner_meant instances.now)) }
+    ensures { OnOk result (map expr_meant all.new.items ≡ map expr_meant all.old.items ++ flat_map inner_exprs
+        (map inner_meant instances.now)) }
 {
     for inner in instances {
         add_inner(all, inner)?;

@@ -14,7 +14,8 @@ use std::alloc::{AllocError, Global};
 use vlog_tree::{Expr, Lval};
 
 fn add_part_numbers<'a>(all: &mut Vec<&'a Expr>, part: Part<'a>) -> Result<(), AllocError>
-    ensures { OnOk result (map expr_meant all.new.items ≡ map expr_meant all.old.items ++ numbers_in (part_meant part.entry)) }
+    ensures { OnOk result (map expr_meant all.new.items ≡ map expr_meant all.old.items ++ numbers_in
+        (part_meant part.entry)) }
 {
     match part {
         Part::Whole(_) => Ok(()),

@@ -36,7 +36,8 @@ pub fn unassignable<'a>(
     text: &'a Module,
     signals: &Names<'_>,
 ) -> Result<Option<&'a Text>, AllocError>
-    ensures { IfOk result (λ r. Finds (IsAbsent (assigned_in text.now ++ waited_in text.now) signals.now) (option_copied r)) }
+    ensures { IfOk result (λ r. Finds (IsAbsent (assigned_in text.now ++ waited_in text.now) signals.now)
+        (option_copied r)) }
 {
     let mut names = assigned_in(alloc, text)?;
     let mut waited = waited_in(alloc, text)?;

@@ -52,7 +52,8 @@ fn add_target<'a>(
     alloc: Global,
     target: Target<'a>,
 ) -> Result<(), AllocError>
-    ensures { OnOk result (map name_meant all.new.items ≡ map name_meant all.old.items ++ left_names (target_meant target.entry)) }
+    ensures { OnOk result (map name_meant all.new.items ≡ map name_meant all.old.items ++ left_names
+        (target_meant target.entry)) }
 {
     match target {
         Target::Wire(name) => {
@@ -68,7 +69,8 @@ fn add_targets<'a>(
     alloc: Global,
     assigns: &[Assigned<'a>],
 ) -> Result<(), AllocError>
-    ensures { OnOk result (map name_meant all.new.items ≡ map name_meant all.old.items ++ flat_map equation_names (map assigned_meant assigns.now)) }
+    ensures { OnOk result (map name_meant all.new.items ≡ map name_meant all.old.items ++ flat_map equation_names
+        (map assigned_meant assigns.now)) }
 {
     for assigned in assigns {
         add_target(all, alloc, assigned.left)?;
@@ -77,7 +79,8 @@ fn add_targets<'a>(
 }
 
 fn add_piece<'a>(all: &mut Vec<&'a Text>, alloc: Global, piece: Piece<'a>) -> Result<(), AllocError>
-    ensures { OnOk result (map name_meant all.new.items ≡ map name_meant all.old.items ++ action_names m.Any (piece_meant piece.entry)) }
+    ensures { OnOk result (map name_meant all.new.items ≡ map name_meant all.old.items ++ action_names m.Any
+        (piece_meant piece.entry)) }
 {
     match piece {
         Piece::Test(_) => Ok(()),
@@ -91,7 +94,8 @@ fn add_block<'a>(
     alloc: Global,
     block: &Block<'a>,
 ) -> Result<(), AllocError>
-    ensures { OnOk result (map name_meant all.new.items ≡ map name_meant all.old.items ++ block_names (block_meant block.now)) }
+    ensures { OnOk result (map name_meant all.new.items ≡ map name_meant all.old.items ++ block_names
+        (block_meant block.now)) }
 {
     let pieces = pieces_of(alloc, block.body)?;
     for piece in &pieces {
@@ -105,7 +109,8 @@ fn add_blocks<'a>(
     alloc: Global,
     blocks: &[Block<'a>],
 ) -> Result<(), AllocError>
-    ensures { OnOk result (map name_meant all.new.items ≡ map name_meant all.old.items ++ flat_map block_names (map block_meant blocks.now)) }
+    ensures { OnOk result (map name_meant all.new.items ≡ map name_meant all.old.items ++ flat_map block_names
+        (map block_meant blocks.now)) }
 {
     for block in blocks {
         add_block(all, alloc, block)?;

@@ -19,7 +19,8 @@ fn add_assignment<'a>(
     left: &'a Lval,
     right: &'a Expr,
 ) -> Result<(), AllocError>
-    ensures { OnOk result (map expr_meant all.new.items ≡ map expr_meant all.old.items ++ (numbers_in left.now ++ right.now ∷ [])) }
+    ensures { OnOk result (map expr_meant all.new.items ≡ map expr_meant all.old.items ++
+        (numbers_in left.now ++ right.now ∷ [])) }
 {
     add_numbers(all, alloc, left)?;
     all.push(right)?;
@@ -32,7 +33,8 @@ pub fn add_assigned<'a>(
     alloc: Global,
     assigned: &Assigned<'a>,
 ) -> Result<(), AllocError>
-    ensures { OnOk result (map expr_meant all.new.items ≡ map expr_meant all.old.items ++ assign_exprs (assigned_meant assigned.now)) }
+    ensures { OnOk result (map expr_meant all.new.items ≡ map expr_meant all.old.items ++ assign_exprs
+        (assigned_meant assigned.now)) }
 {
     match assigned.left {
         Target::Wire(_) => {
@@ -44,7 +46,8 @@ pub fn add_assigned<'a>(
 }
 
 fn add_piece<'a>(all: &mut Vec<&'a Expr>, alloc: Global, piece: Piece<'a>) -> Result<(), AllocError>
-    ensures { OnOk result (map expr_meant all.new.items ≡ map expr_meant all.old.items ++ action_exprs (piece_meant piece.entry)) }
+    ensures { OnOk result (map expr_meant all.new.items ≡ map expr_meant all.old.items ++ action_exprs
+        (piece_meant piece.entry)) }
 {
     match piece {
         Piece::Test(expr) => {
@@ -62,7 +65,8 @@ pub fn add_block<'a>(
     alloc: Global,
     block: &Block<'a>,
 ) -> Result<(), AllocError>
-    ensures { OnOk result (map expr_meant all.new.items ≡ map expr_meant all.old.items ++ body_exprs (block_meant block.now)) }
+    ensures { OnOk result (map expr_meant all.new.items ≡ map expr_meant all.old.items ++ body_exprs
+        (block_meant block.now)) }
 {
     let pieces = pieces_of(alloc, block.body)?;
     for piece in &pieces {

@@ -50,7 +50,8 @@ fn words_among(
     signals: &[Decl<'_>],
 ) -> Result<Option<Text>, FlatFault>
     requires { AreDeclaredAs scope.now.text.now (map decl_meant signals.now) }
-    ensures ok { IfOk result (Finds (λ x. Among names.now x × Among (flat_map words_of (map (signal_of scope.now.params) (map decl_meant signals.now))) x)) }
+    ensures ok { IfOk result (Finds (λ x. Among names.now x ×
+        Among (flat_map words_of (map (signal_of scope.now.params) (map decl_meant signals.now))) x)) }
     ensures err { IfErr result (Refuses (StandsAlone (scope_meant scope.now))) }
 {
     for decl in signals {

@@ -17,7 +17,8 @@ fn both(a: bool, b: bool) -> bool
 
 // Whether no divisor is 0 in an expression by itself, where it is well formed.
 fn own_defined(alloc: Global, expr: &Expr, valuation: &Valuation) -> Result<bool, AllocError>
-    ensures { IfOk result (λ r. MatchBool r (IsOwnDefined valuation.now expr.now) (IsOwnDefined valuation.now expr.now → ⊥)) }
+    ensures { IfOk result (λ r. MatchBool r (IsOwnDefined valuation.now expr.now) (IsOwnDefined valuation.now expr.now →
+        ⊥)) }
 {
     let shape = measured(alloc, expr, valuation)?;
     match shape {
@@ -40,7 +41,8 @@ fn bound_defined(
     b: &Expr,
     valuation: &Valuation,
 ) -> Result<bool, AllocError>
-    ensures { IfOk result (λ r. MatchBool r (IsBoundDefined valuation.now span a.now b.now) (IsBoundDefined valuation.now span a.now b.now → ⊥)) }
+    ensures { IfOk result (λ r. MatchBool r (IsBoundDefined valuation.now span a.now b.now)
+        (IsBoundDefined valuation.now span a.now b.now → ⊥)) }
 {
     match span {
         Span::Fixed => {
@@ -56,7 +58,8 @@ fn bound_defined(
 /// Whether no divisor is 0 in the bounds, widths and counts of an expression that are well formed.
 #[cycle(bounds)]
 pub fn bounds_defined(alloc: Global, expr: &Expr, valuation: &Valuation) -> Result<bool, AllocError>
-    ensures { IfOk result (λ r. MatchBool r (BoundsDefined valuation.now expr.now) (BoundsDefined valuation.now expr.now → ⊥)) }
+    ensures { IfOk result (λ r. MatchBool r (BoundsDefined valuation.now expr.now)
+        (BoundsDefined valuation.now expr.now → ⊥)) }
 {
     match expr {
         Expr::Number(_) => Ok(true),
@@ -101,7 +104,8 @@ pub fn bounds_defined(alloc: Global, expr: &Expr, valuation: &Valuation) -> Resu
 
 #[cycle(bounds)]
 fn all_defined(alloc: Global, exprs: &[Expr], valuation: &Valuation) -> Result<bool, AllocError>
-    ensures { IfOk result (λ r. MatchBool r (EachBoundsDefined valuation.now exprs.now) (EachBoundsDefined valuation.now exprs.now → ⊥)) }
+    ensures { IfOk result (λ r. MatchBool r (EachBoundsDefined valuation.now exprs.now)
+        (EachBoundsDefined valuation.now exprs.now → ⊥)) }
 {
     for expr in exprs {
         if !bounds_defined(alloc, expr, valuation)? {

@@ -84,7 +84,8 @@ fn given_at<'a>(names: &Names<'_>, given: &[Given<'a>], name: &Text) -> Option<&
 
 // What overrides a parameter, if it can be overridden.
 fn override_of<'a>(text: &Module, param: &Param<'_>, given: Option<&'a Expr>) -> Option<&'a Expr>
-    ensures { option_copied result ≡ override_of (is_open text.now (param_meant param.now)) (option_copied given.entry) }
+    ensures { option_copied result ≡ override_of (is_open text.now (param_meant param.now))
+        (option_copied given.entry) }
 {
     if is_open(text, param) { given } else { None }
 }

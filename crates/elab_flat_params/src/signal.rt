@@ -25,7 +25,8 @@ fn depth_of(
     params: &Valuation,
 ) -> Result<Result<u8, BadWords>, AllocError>
     ensures ok { IfOk result (λ r. IfOk r (HasWords params.now (option_copied range.entry))) }
-    ensures err { IfOk result (λ r. IfErr r (λ cause. (x : Words) × (option_copied range.entry ≡ Some x) × IsBadWords params.now x cause)) }
+    ensures err { IfOk result (λ r. IfErr r (λ cause. (x : Words) × (option_copied range.entry ≡ Some x) ×
+        IsBadWords params.now x cause)) }
 {
     match range {
         Some(range) => {

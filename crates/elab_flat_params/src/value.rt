@@ -36,7 +36,8 @@ pub fn bits_of(
     done: &Valuation,
 ) -> Result<Result<Option<Vector>, BadRange>, AllocError>
     ensures ok { IfOk result (λ r. IfOk r (HasBits done.now (option_copied range.entry))) }
-    ensures err { IfOk result (λ r. IfErr r (λ cause. (x : Bits) × (option_copied range.entry ≡ Some x) × IsBadRange done.now x cause)) }
+    ensures err { IfOk result (λ r. IfErr r (λ cause. (x : Bits) × (option_copied range.entry ≡ Some x) ×
+        IsBadRange done.now x cause)) }
 {
     match range {
         Some(range) => {
@@ -60,7 +61,8 @@ fn in_vector(
 ) -> Result<Result<Constant, Unfit>, AllocError>
     requires { IsLength vector.width }
     ensures ok { IfOk result (λ r. IfOk r (Converts over.now expr.now signed (Some vector))) }
-    ensures err { IfOk result (λ r. IfErr r (IsUnfit over.now expr.now (max (width_of over.now expr.now) vector.width))) }
+    ensures err { IfOk result (λ r. IfErr r (IsUnfit over.now expr.now
+        (max (width_of over.now expr.now) vector.width))) }
 {
     let found = number_at(alloc, expr, vector.width, over)?;
     match found {
@@ -105,7 +107,8 @@ fn converted(
 ) -> Result<Result<Constant, Unfit>, AllocError>
     requires { IfSome vector (λ d. IsLength d.width) }
     ensures ok { IfOk result (λ r. IfOk r (Converts over.now expr.now signed vector)) }
-    ensures err { IfOk result (λ r. IfErr r (IsUnfit over.now expr.now (max (width_of over.now expr.now) (width_with vector 0)))) }
+    ensures err { IfOk result (λ r. IfErr r (IsUnfit over.now expr.now
+        (max (width_of over.now expr.now) (width_with vector 0)))) }
 {
     match vector {
         Some(vector) => in_vector(alloc, expr, over, signed, vector),
@@ -131,9 +134,12 @@ pub fn value_of(
     outer: &Valuation,
     done: &Valuation,
 ) -> Result<Result<Constant, BadParam>, AllocError>
-    ensures ok { IfOk result (λ r. IfOk r (λ k. StandsFor (entry_with (param_meant param.now) (option_copied given.entry) outer.now done.now) k)) }
-    ensures sound { IfOk result (λ r. IfOk r (λ _. IsSound (param_meant param.now) (option_copied given.entry) outer.now done.now)) }
-    ensures err { IfOk result (λ r. IfErr r (IsBad (param_meant param.now) (option_copied given.entry) outer.now done.now)) }
+    ensures ok { IfOk result (λ r. IfOk r (λ k. StandsFor
+        (entry_with (param_meant param.now) (option_copied given.entry) outer.now done.now) k)) }
+    ensures sound { IfOk result (λ r. IfOk r
+        (λ _. IsSound (param_meant param.now) (option_copied given.entry) outer.now done.now)) }
+    ensures err { IfOk result (λ r. IfErr r (IsBad (param_meant param.now)
+        (option_copied given.entry) outer.now done.now)) }
 {
     let signed = is_signed(param.shape);
     let bits = bits_of(alloc, range_of(param.shape), done)?;

@@ -124,7 +124,8 @@ fn add_ports<'a>(
     shape: &'a Shape,
     names: &'a [Text],
 ) -> Result<(), AllocError>
-    ensures { OnOk result (map decl_meant all.new.items ≡ map decl_meant all.old.items ++ map (port_decl kind shape.now) names.now) }
+    ensures { OnOk result (map decl_meant all.new.items ≡ map decl_meant all.old.items ++ map
+        (port_decl kind shape.now) names.now) }
 {
     for name in names {
         let group = Group {
@@ -141,7 +142,8 @@ fn add_wires<'a>(
     shape: &'a Shape,
     wires: &'a [Wire],
 ) -> Result<(), AllocError>
-    ensures { OnOk result (map decl_meant all.new.items ≡ map decl_meant all.old.items ++ map (wire_decl shape.now) wires.now) }
+    ensures { OnOk result (map decl_meant all.new.items ≡ map decl_meant all.old.items ++ map
+        (wire_decl shape.now) wires.now) }
 {
     for wire in wires {
         all.push(Decl {
@@ -161,7 +163,8 @@ fn add_registers<'a>(
     shape: &'a Shape,
     registers: &'a [Register],
 ) -> Result<(), AllocError>
-    ensures { OnOk result (map decl_meant all.new.items ≡ map decl_meant all.old.items ++ map (reg_decl shape.now) registers.now) }
+    ensures { OnOk result (map decl_meant all.new.items ≡ map decl_meant all.old.items ++ map
+        (reg_decl shape.now) registers.now) }
 {
     for register in registers {
         all.push(register_decl(shape, register))?;

@@ -76,7 +76,8 @@ fn open_names<'a>(
     text: &Module,
     params: &[Param<'a>],
 ) -> Result<Vec<&'a Text>, AllocError>
-    ensures { IfOk result (λ r. map name_meant r.items ≡ map param_name (filter (is_open text.now) (map param_meant params.now))) }
+    ensures { IfOk result (λ r. map name_meant r.items ≡ map param_name
+        (filter (is_open text.now) (map param_meant params.now))) }
 {
     let mut all = Vec::new(alloc);
     for param in params {

@@ -26,7 +26,8 @@ fn add_instances<'a>(
     overrides: &'a Option<Args>,
     instances: &'a [Instance],
 ) -> Result<(), AllocError>
-    ensures { OnOk result (map inner_meant all.new.items ≡ map inner_meant all.old.items ++ map (inner_of of_module.now overrides.now) instances.now) }
+    ensures { OnOk result (map inner_meant all.new.items ≡ map inner_meant all.old.items ++ map
+        (inner_of of_module.now overrides.now) instances.now) }
 {
     for instance in instances {
         all.push(Inner {

@@ -41,7 +41,8 @@ fn first_places<'a>(
     alloc: Global,
     names: &[&'a Text],
 ) -> Result<HashMap<&'a [u8], usize>, AllocError>
-    ensures { IfOk result (λ m. (q : Bor Name) → get (λ a b. bytes_eq a.now b.now) m q ≡ place_in (map name_meant names.now) q.now) }
+    ensures { IfOk result (λ m. (q : Bor Name) → get (λ a b. bytes_eq a.now b.now) m q ≡ place_in
+        (map name_meant names.now) q.now) }
 {
     let mut first = HashMap::new(alloc);
     let mut at = 0;

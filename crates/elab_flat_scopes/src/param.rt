@@ -77,7 +77,8 @@ fn add_params<'a>(
     shape: &'a Shape,
     params: &'a [Parameter],
 ) -> Result<(), AllocError>
-    ensures { OnOk result (map param_meant all.new.items ≡ map param_meant all.old.items ++ map (param false is_local shape.now) params.now) }
+    ensures { OnOk result (map param_meant all.new.items ≡ map param_meant all.old.items ++ map
+        (param false is_local shape.now) params.now) }
 {
     for param in params {
         all.push(Param {

@@ -85,7 +85,8 @@ fn once<'a>(
     sides: &Sides<'_>,
 ) -> Result<Vec<Decl<'a>>, AllocError>
     requires { AreSides (map decl_meant decls.now) sides.now }
-    ensures { IfOk result (λ r. map decl_meant r.items ≡ once (map decl_meant decls.now) [] (map decl_meant decls.now)) }
+    ensures { IfOk result (λ r. map decl_meant r.items ≡ once (map decl_meant decls.now) []
+        (map decl_meant decls.now)) }
 {
     let mut done = HashSet::new(alloc);
     let mut all = Vec::new(alloc);

@@ -45,8 +45,10 @@ fn check_assigned(
 ) -> Result<(), Violation>
     requires rest { rest.now ≡ at_rest (place_of (scope_meant scope.now)) }
     requires signals { NamesSignals (place_of (scope_meant scope.now)) (target_meant assigned.now.left) }
-    ensures ok { OnOk result (IsSoundStore d.Continuous (place_of (scope_meant scope.now)) (assigned_meant assigned.now)) }
-    ensures err { IfErr result (Fails (BreaksStore d.Continuous (place_of (scope_meant scope.now)) (assigned_meant assigned.now))) }
+    ensures ok { OnOk result (IsSoundStore d.Continuous (place_of (scope_meant scope.now))
+        (assigned_meant assigned.now)) }
+    ensures err { IfErr result (Fails (BreaksStore d.Continuous (place_of (scope_meant scope.now))
+        (assigned_meant assigned.now))) }
 {
     let parts = target_parts(alloc, assigned.left)?;
     let store = Store {
@@ -64,9 +66,12 @@ fn check_each(
     assigns: &[Assigned<'_>],
 ) -> Result<(), Violation>
     requires rest { rest.now ≡ at_rest (place_of (scope_meant scope.now)) }
-    requires signals { (a : Assignment) → Among (map assigned_meant assigns.now) a → NamesSignals (place_of (scope_meant scope.now)) a.left }
-    ensures ok { OnOk result ((a : Assignment) → Among (map assigned_meant assigns.now) a → IsSoundStore d.Continuous (place_of (scope_meant scope.now)) a) }
-    ensures err { IfErr result (Fails (λ w. (a : Assignment) × Among (map assigned_meant assigns.now) a × BreaksStore d.Continuous (place_of (scope_meant scope.now)) a w)) }
+    requires signals { (a : Assignment) → Among (map assigned_meant assigns.now) a →
+        NamesSignals (place_of (scope_meant scope.now)) a.left }
+    ensures ok { OnOk result ((a : Assignment) → Among (map assigned_meant assigns.now) a →
+        IsSoundStore d.Continuous (place_of (scope_meant scope.now)) a) }
+    ensures err { IfErr result (Fails (λ w. (a : Assignment) × Among (map assigned_meant assigns.now) a ×
+        BreaksStore d.Continuous (place_of (scope_meant scope.now)) a w)) }
 {
     for assigned in assigns {
         match check_assigned(alloc, scope, rest, assigned) {
@@ -84,9 +89,12 @@ pub fn check_assignments(
     rest: &Valuation,
 ) -> Result<(), Violation>
     requires rest { rest.now ≡ at_rest (place_of (scope_meant scope.now)) }
-    requires signals { (a : Assignment) → Among (assigns_in scope.now.text.now) a → NamesSignals (place_of (scope_meant scope.now)) a.left }
-    ensures ok { OnOk result ((a : Assignment) → Among (assigns_in scope.now.text.now) a → IsSoundStore d.Continuous (place_of (scope_meant scope.now)) a) }
-    ensures err { IfErr result (Fails (λ w. (a : Assignment) × Among (assigns_in scope.now.text.now) a × BreaksStore d.Continuous (place_of (scope_meant scope.now)) a w)) }
+    requires signals { (a : Assignment) → Among (assigns_in scope.now.text.now) a →
+        NamesSignals (place_of (scope_meant scope.now)) a.left }
+    ensures ok { OnOk result ((a : Assignment) → Among (assigns_in scope.now.text.now) a →
+        IsSoundStore d.Continuous (place_of (scope_meant scope.now)) a) }
+    ensures err { IfErr result (Fails (λ w. (a : Assignment) × Among (assigns_in scope.now.text.now) a ×
+        BreaksStore d.Continuous (place_of (scope_meant scope.now)) a w)) }
 {
     let assigns = assigns_in(alloc, scope.text)?;
     check_each(alloc, scope, rest, &assigns)

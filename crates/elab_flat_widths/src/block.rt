@@ -79,9 +79,12 @@ fn check_each(
     blocks: &[Block<'_>],
 ) -> Result<(), Violation>
     requires rest { rest.now ≡ at_rest (place_of (scope_meant scope.now)) }
-    requires signals { (k : Process) → Among (map block_meant blocks.now) k → BodyUsesSignals (place_of (scope_meant scope.now)) k.body }
-    ensures ok { OnOk result ((k : Process) → Among (map block_meant blocks.now) k → IsSoundBody (place_of (scope_meant scope.now)) k.body) }
-    ensures err { IfErr result (Fails (λ w. (k : Process) × Among (map block_meant blocks.now) k × BreaksBody (place_of (scope_meant scope.now)) k.body w)) }
+    requires signals { (k : Process) → Among (map block_meant blocks.now) k →
+        BodyUsesSignals (place_of (scope_meant scope.now)) k.body }
+    ensures ok { OnOk result ((k : Process) → Among (map block_meant blocks.now) k →
+        IsSoundBody (place_of (scope_meant scope.now)) k.body) }
+    ensures err { IfErr result (Fails (λ w. (k : Process) × Among (map block_meant blocks.now) k ×
+        BreaksBody (place_of (scope_meant scope.now)) k.body w)) }
 {
     for block in blocks {
         match check_body(alloc, scope, rest, block.body) {
@@ -95,9 +98,12 @@ fn check_each(
 /// The blocks of a scope's text keep the rules.
 pub fn check_blocks(alloc: Global, scope: &Scope<'_>, rest: &Valuation) -> Result<(), Violation>
     requires rest { rest.now ≡ at_rest (place_of (scope_meant scope.now)) }
-    requires signals { (k : Process) → Among (blocks_in scope.now.text.now) k → BodyUsesSignals (place_of (scope_meant scope.now)) k.body }
-    ensures ok { OnOk result ((k : Process) → Among (blocks_in scope.now.text.now) k → IsSoundBody (place_of (scope_meant scope.now)) k.body) }
-    ensures err { IfErr result (Fails (λ w. (k : Process) × Among (blocks_in scope.now.text.now) k × BreaksBody (place_of (scope_meant scope.now)) k.body w)) }
+    requires signals { (k : Process) → Among (blocks_in scope.now.text.now) k →
+        BodyUsesSignals (place_of (scope_meant scope.now)) k.body }
+    ensures ok { OnOk result ((k : Process) → Among (blocks_in scope.now.text.now) k →
+        IsSoundBody (place_of (scope_meant scope.now)) k.body) }
+    ensures err { IfErr result (Fails (λ w. (k : Process) × Among (blocks_in scope.now.text.now) k ×
+        BreaksBody (place_of (scope_meant scope.now)) k.body w)) }
 {
     let blocks = blocks_in(alloc, scope.text)?;
     check_each(alloc, scope, rest, &blocks)

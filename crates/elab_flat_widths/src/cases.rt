@@ -68,7 +68,9 @@ fn common_shape(
     rest: &Valuation,
 ) -> Result<(u8, bool), Violation>
     ensures ok { IfOk result (λ s. HasCommonShape (is_known params.now) rest.now (map expr_meant exprs.now) s.0 s.1) }
-    ensures err { (n : ℕ) (s : Bool) → IfErr result (Fails (λ w. (a : Form) × Among (map expr_meant exprs.now) a × Breaks (is_known params.now) rest.now (taken_at a n s) w)) }
+    ensures err { (n : ℕ) (s : Bool) → IfErr result
+        (Fails (λ w. (a : Form) × Among (map expr_meant exprs.now) a ×
+        Breaks (is_known params.now) rest.now (taken_at a n s) w)) }
 {
     let mut longest = 0;
     let mut all_signed = true;
@@ -92,10 +94,13 @@ fn check_all_at(
     params: &Valuation,
     rest: &Valuation,
 ) -> Result<(), Violation>
-    requires ready { (a : Form) → Among (map expr_meant exprs.now) a → CanTake (is_known params.now) rest.now a shape.0 }
+    requires ready { (a : Form) → Among (map expr_meant exprs.now) a →
+        CanTake (is_known params.now) rest.now a shape.0 }
     requires most { shape.0 ≤ 64 }
-    ensures ok { OnOk result ((a : Form) → Among (map expr_meant exprs.now) a → IsSound (is_known params.now) rest.now (taken_at a shape.0 shape.1)) }
-    ensures err { IfErr result (Fails (λ w. (a : Form) × Among (map expr_meant exprs.now) a × Breaks (is_known params.now) rest.now (taken_at a shape.0 shape.1) w)) }
+    ensures ok { OnOk result ((a : Form) → Among (map expr_meant exprs.now) a →
+        IsSound (is_known params.now) rest.now (taken_at a shape.0 shape.1)) }
+    ensures err { IfErr result (Fails (λ w. (a : Form) × Among (map expr_meant exprs.now) a ×
+        Breaks (is_known params.now) rest.now (taken_at a shape.0 shape.1) w)) }
 {
     for expr in exprs {
         match check_at(alloc, expr, shape, params, rest) {
@@ -114,8 +119,10 @@ pub fn check_cases(
     params: &Valuation,
     rest: &Valuation,
 ) -> Result<(), Violation>
-    ensures ok { OnOk result (AllSound (is_known params.now) rest.now (compared rest.now (record { value = subject.now; labels = flat_map item_labels items.now }))) }
-    ensures err { IfErr result (Fails (SomeBreaks (is_known params.now) rest.now (compared rest.now (record { value = subject.now; labels = flat_map item_labels items.now })))) }
+    ensures ok { OnOk result (AllSound (is_known params.now) rest.now
+        (compared rest.now (record { value = subject.now; labels = flat_map item_labels items.now }))) }
+    ensures err { IfErr result (Fails (SomeBreaks (is_known params.now) rest.now
+        (compared rest.now (record { value = subject.now; labels = flat_map item_labels items.now })))) }
 {
     let exprs = exprs_of(alloc, subject, items)?;
     match common_shape(alloc, &exprs, params, rest) {

@@ -30,7 +30,8 @@ pub fn check_texts<'a>(
     requires names { (somewhere n : Name) → StandsAt modules.now somewhere (scope_meant scope.now) (Unknown n) → ⊥ }
     requires inners { HasSoundInners modules.now (scope_meant scope.now) }
     requires sound { HasSoundParams (scope_meant scope.now) }
-    ensures none { OnOk result ((n : Name) → BreaksConstant modules.now path.now (scope_meant scope.now) n ⊎ BreaksWidth modules.now path.now (scope_meant scope.now) n → ⊥) }
+    ensures none { OnOk result ((n : Name) → BreaksConstant modules.now path.now (scope_meant scope.now) n ⊎
+        BreaksWidth modules.now path.now (scope_meant scope.now) n → ⊥) }
     ensures err { IfErr result (Refuses (StandsAround modules.now path.now (scope_meant scope.now))) }
 {
     match check_ranges(alloc, scope) {

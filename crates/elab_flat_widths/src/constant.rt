@@ -25,7 +25,8 @@ fn all_three(a: bool, b: bool, c: bool) -> bool
 
 /// Whether an expression names parameters alone.
 pub fn is_constant(expr: &Expr, params: &Valuation) -> bool
-    ensures { MatchBool result (NamesOnly (is_known params.now) expr.now) (NamesOnly (is_known params.now) expr.now → ⊥) }
+    ensures { MatchBool result (NamesOnly (is_known params.now) expr.now) (NamesOnly (is_known params.now) expr.now →
+        ⊥) }
 {
     match stranger_in(expr, params) {
         Some(_) => false,
@@ -35,7 +36,8 @@ pub fn is_constant(expr: &Expr, params: &Valuation) -> bool
 
 /// Whether the bounds of `[a:b]`, and the width of `+:` and `-:`, name parameters alone.
 pub fn is_part_constant(span: Span, a: &Expr, b: &Expr, params: &Valuation) -> bool
-    ensures { MatchBool result (IsPartConstant (is_known params.now) span a.now b.now) (IsPartConstant (is_known params.now) span a.now b.now → ⊥) }
+    ensures { MatchBool result (IsPartConstant (is_known params.now) span a.now b.now)
+        (IsPartConstant (is_known params.now) span a.now b.now → ⊥) }
 {
     match span {
         Span::Fixed => both(is_constant(a, params), is_constant(b, params)),
@@ -45,7 +47,8 @@ pub fn is_part_constant(span: Span, a: &Expr, b: &Expr, params: &Valuation) -> b
 }
 
 fn is_division_constant(op: Binary, a: &Expr, b: &Expr, params: &Valuation) -> bool
-    ensures { MatchBool result (IsDivisionConstant (is_known params.now) op a.now b.now) (IsDivisionConstant (is_known params.now) op a.now b.now → ⊥) }
+    ensures { MatchBool result (IsDivisionConstant (is_known params.now) op a.now b.now)
+        (IsDivisionConstant (is_known params.now) op a.now b.now → ⊥) }
 {
     match op {
         Binary::Div | Binary::Rem => both(is_constant(a, params), is_constant(b, params)),
@@ -56,7 +59,8 @@ fn is_division_constant(op: Binary, a: &Expr, b: &Expr, params: &Valuation) -> b
 /// Whether the parts of an expression that must be constant are so.
 #[cycle(constant)]
 pub fn has_constant_parts(expr: &Expr, params: &Valuation) -> bool
-    ensures { MatchBool result (HasConstantParts (is_known params.now) expr.now) (HasConstantParts (is_known params.now) expr.now → ⊥) }
+    ensures { MatchBool result (HasConstantParts (is_known params.now) expr.now)
+        (HasConstantParts (is_known params.now) expr.now → ⊥) }
 {
     match expr {
         Expr::Number(_) => true,
@@ -97,7 +101,8 @@ pub fn has_constant_parts(expr: &Expr, params: &Valuation) -> bool
 
 #[cycle(constant)]
 fn all_have_constant_parts(exprs: &[Expr], params: &Valuation) -> bool
-    ensures { MatchBool result (EachHasConstantParts (is_known params.now) exprs.now) (EachHasConstantParts (is_known params.now) exprs.now → ⊥) }
+    ensures { MatchBool result (EachHasConstantParts (is_known params.now) exprs.now)
+        (EachHasConstantParts (is_known params.now) exprs.now → ⊥) }
 {
     for expr in exprs {
         if !has_constant_parts(expr, params) {

@@ -89,7 +89,8 @@ impl<'a> Parent<'a, '_> {
     // The scope of an instance.
     fn inner_scope(&self, inner: &Inner<'a>) -> Result<Scope<'a>, Violation>
         requires { IsSoundInner self.now.modules.now (scope_meant self.now.scope.now) (inner_meant inner.now) }
-        ensures ok { IfOk result (λ t. child self.now.modules.now (scope_meant self.now.scope.now) (inner_meant inner.now) ≡ Some (scope_meant t)) }
+        ensures ok { IfOk result (λ t. child self.now.modules.now (scope_meant self.now.scope.now)
+            (inner_meant inner.now) ≡ Some (scope_meant t)) }
         ensures err { IfErr result (λ w. w ≡ Memory) }
     {
         match self.modules.at(inner.of_module.bytes()) {
@@ -138,8 +139,11 @@ impl<'a> Parent<'a, '_> {
         requires rest { self.now.rest.now ≡ at_rest (place_of (scope_meant self.now.scope.now)) }
         requires signals { self.now.signals.now ≡ map decl_name (signals_in self.now.scope.now.text.now) }
         requires ports { ports.now ≡ signals_in child.now.text.now }
-        ensures ok { OnOk result (IsSoundConnection (place_of (scope_meant self.now.scope.now)) (scope_meant child.now) (given_meant connection.now) (decl_at (signals_in child.now.text.now) connection.now.name.now)) }
-        ensures err { IfErr result (Refuses (IsConnectionFault self.now.path.now (scope_meant child.now) (BreaksConnection (place_of (scope_meant self.now.scope.now)) (scope_meant child.now) (given_meant connection.now) (decl_at (signals_in child.now.text.now) connection.now.name.now)))) }
+        ensures ok { OnOk result (IsSoundConnection (place_of (scope_meant self.now.scope.now)) (scope_meant child.now)
+            (given_meant connection.now) (decl_at (signals_in child.now.text.now) connection.now.name.now)) }
+        ensures err { IfErr result (Refuses (IsConnectionFault self.now.path.now (scope_meant child.now)
+            (BreaksConnection (place_of (scope_meant self.now.scope.now)) (scope_meant child.now)
+            (given_meant connection.now) (decl_at (signals_in child.now.text.now) connection.now.name.now)))) }
     {
         let port = match ports.at(connection.name.bytes()) {
             Some(port) => port,
@@ -159,8 +163,11 @@ impl<'a> Parent<'a, '_> {
     fn check_connections(&self, child: &Scope<'a>, inner: &Inner<'a>) -> Result<(), FlatFault>
         requires rest { self.now.rest.now ≡ at_rest (place_of (scope_meant self.now.scope.now)) }
         requires signals { self.now.signals.now ≡ map decl_name (signals_in self.now.scope.now.text.now) }
-        ensures ok { OnOk result (AreSoundConnections (place_of (scope_meant self.now.scope.now)) (scope_meant child.now) (inner_meant inner.now)) }
-        ensures err { IfErr result (Refuses (IsConnectionFault self.now.path.now (scope_meant child.now) (SomeConnectionBreaks (place_of (scope_meant self.now.scope.now)) (scope_meant child.now) (inner_meant inner.now)))) }
+        ensures ok { OnOk result (AreSoundConnections (place_of (scope_meant self.now.scope.now))
+            (scope_meant child.now) (inner_meant inner.now)) }
+        ensures err { IfErr result (Refuses (IsConnectionFault self.now.path.now (scope_meant child.now)
+            (SomeConnectionBreaks (place_of (scope_meant self.now.scope.now)) (scope_meant child.now)
+            (inner_meant inner.now)))) }
     {
         let ports = Signals::of(self.alloc, child.text)?;
         let given = connections_of(self.alloc, child, inner)?;
@@ -178,8 +185,10 @@ impl<'a> Parent<'a, '_> {
         requires sound { IsSoundInner self.now.modules.now (scope_meant self.now.scope.now) (inner_meant inner.now) }
         requires rest { self.now.rest.now ≡ at_rest (place_of (scope_meant self.now.scope.now)) }
         requires signals { self.now.signals.now ≡ map decl_name (signals_in self.now.scope.now.text.now) }
-        ensures ok { OnOk result (HasSoundConnections self.now.modules.now (scope_meant self.now.scope.now) (inner_meant inner.now)) }
-        ensures err { IfErr result (Refuses (IsInnerFault self.now.modules.now self.now.path.now (scope_meant self.now.scope.now) (inner_meant inner.now))) }
+        ensures ok { OnOk result (HasSoundConnections self.now.modules.now (scope_meant self.now.scope.now)
+            (inner_meant inner.now)) }
+        ensures err { IfErr result (Refuses (IsInnerFault self.now.modules.now self.now.path.now
+            (scope_meant self.now.scope.now) (inner_meant inner.now))) }
     {
         let child = match self.inner_scope(inner) {
             Ok(child) => child,
@@ -196,8 +205,10 @@ impl<'a> Parent<'a, '_> {
         requires rest { self.now.rest.now ≡ at_rest (place_of (scope_meant self.now.scope.now)) }
         requires signals { self.now.signals.now ≡ map decl_name (signals_in self.now.scope.now.text.now) }
         requires instances { map inner_meant instances.now ≡ instances_in self.now.scope.now.text.now }
-        ensures ok { OnOk result ((i : Instance) → Among (map inner_meant instances.now) i → HasSoundConnections self.now.modules.now (scope_meant self.now.scope.now) i) }
-        ensures err { IfErr result (Refuses (IsSomeInnerFault self.now.modules.now self.now.path.now (scope_meant self.now.scope.now))) }
+        ensures ok { OnOk result ((i : Instance) → Among (map inner_meant instances.now) i →
+            HasSoundConnections self.now.modules.now (scope_meant self.now.scope.now) i) }
+        ensures err { IfErr result (Refuses (IsSomeInnerFault self.now.modules.now self.now.path.now
+            (scope_meant self.now.scope.now))) }
     {
         for inner in instances {
             match self.check_inner(inner) {
@@ -211,7 +222,8 @@ impl<'a> Parent<'a, '_> {
 
 // The names of declarations.
 fn add_names<'a>(all: &mut Vec<&'a Text>, decls: &[Decl<'a>]) -> Result<(), AllocError>
-    ensures { OnOk result (map name_meant all.new.items ≡ map name_meant all.old.items ++ map decl_name (map decl_meant decls.now)) }
+    ensures { OnOk result (map name_meant all.new.items ≡ map name_meant all.old.items ++ map decl_name
+        (map decl_meant decls.now)) }
 {
     for decl in decls {
         all.push(decl.name)?;
@@ -240,7 +252,8 @@ pub fn check_inners<'a>(
 ) -> Result<(), FlatFault>
     requires sound { HasSoundInners modules.now (scope_meant scope.now) }
     requires rest { rest.now ≡ at_rest (place_of (scope_meant scope.now)) }
-    ensures ok { OnOk result ((i : Instance) → Among (instances_in scope.now.text.now) i → HasSoundConnections modules.now (scope_meant scope.now) i) }
+    ensures ok { OnOk result ((i : Instance) → Among (instances_in scope.now.text.now) i →
+        HasSoundConnections modules.now (scope_meant scope.now) i) }
     ensures err { IfErr result (Refuses (IsSomeInnerFault modules.now path.now (scope_meant scope.now))) }
 {
     let signals = Names::of(alloc, signal_names(alloc, scope.text)?)?;

@@ -29,7 +29,8 @@ fn check_two(
     rest: &Valuation,
 ) -> Result<(), Violation>
     ensures ok { OnOk result (AllSound (is_known params.now) rest.now (map (alone rest.now) (a.now ∷ b.now ∷ []))) }
-    ensures err { IfErr result (Fails (SomeBreaks (is_known params.now) rest.now (map (alone rest.now) (a.now ∷ b.now ∷ [])))) }
+    ensures err { IfErr result (Fails (SomeBreaks (is_known params.now) rest.now
+        (map (alone rest.now) (a.now ∷ b.now ∷ [])))) }
 {
     match check_alone(alloc, a, params, rest) {
         Ok(()) => check_alone(alloc, b, params, rest),
@@ -44,8 +45,10 @@ fn check_each(
     params: &Valuation,
     rest: &Valuation,
 ) -> Result<(), Violation>
-    ensures ok { OnOk result (AllSound (is_known params.now) rest.now (map (alone rest.now) (numbers_in (part_meant part.entry)))) }
-    ensures err { IfErr result (Fails (SomeBreaks (is_known params.now) rest.now (map (alone rest.now) (numbers_in (part_meant part.entry))))) }
+    ensures ok { OnOk result (AllSound (is_known params.now) rest.now
+        (map (alone rest.now) (numbers_in (part_meant part.entry)))) }
+    ensures err { IfErr result (Fails (SomeBreaks (is_known params.now) rest.now
+        (map (alone rest.now) (numbers_in (part_meant part.entry))))) }
 {
     match part {
         Part::Whole(_) => Ok(()),
@@ -56,7 +59,8 @@ fn check_each(
 
 // Whether the numbers of a part are as constant as its place asks.
 fn is_constant_as(side: Side, part: Part<'_>, params: &Valuation) -> bool
-    ensures { MatchBool result (IsConstantAs side (is_known params.now) (part_meant part.entry)) (IsConstantAs side (is_known params.now) (part_meant part.entry) → ⊥) }
+    ensures { MatchBool result (IsConstantAs side (is_known params.now) (part_meant part.entry))
+        (IsConstantAs side (is_known params.now) (part_meant part.entry) → ⊥) }
 {
     match side {
         Side::Continuous => match part {
@@ -97,8 +101,10 @@ pub fn check_numbers(
     params: &Valuation,
     rest: &Valuation,
 ) -> Result<(), Violation>
-    ensures ok { OnOk result ((q : Left) → Among (map part_meant parts.now) q → PartHasLegalNumbers side (is_known params.now) rest.now q) }
-    ensures err { IfErr result (Fails (λ w. (q : Left) × Among (map part_meant parts.now) q × BreaksNumbers side (is_known params.now) rest.now q w)) }
+    ensures ok { OnOk result ((q : Left) → Among (map part_meant parts.now) q →
+        PartHasLegalNumbers side (is_known params.now) rest.now q) }
+    ensures err { IfErr result (Fails (λ w. (q : Left) × Among (map part_meant parts.now) q ×
+        BreaksNumbers side (is_known params.now) rest.now q w)) }
 {
     for part in parts {
         match check_part(alloc, side, *part, params, rest) {

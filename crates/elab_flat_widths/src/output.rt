@@ -85,7 +85,8 @@ fn is_of(part: Part<'_>, names: &Names<'_>) -> bool
 
 // Whether all parts are of these names.
 fn are_of(parts: &[Part<'_>], names: &Names<'_>) -> bool
-    ensures { MatchBool result (AreOf names.now (map part_meant parts.now)) (AreOf names.now (map part_meant parts.now) → ⊥) }
+    ensures { MatchBool result (AreOf names.now (map part_meant parts.now))
+        (AreOf names.now (map part_meant parts.now) → ⊥) }
 {
     for part in parts {
         if !is_of(*part, names) {
@@ -106,7 +107,8 @@ pub fn check_output(
     requires rest { rest.now ≡ at_rest (place_of (scope_meant scope.now)) }
     requires signals { signals.now ≡ map decl_name (signals_in scope.now.text.now) }
     ensures ok { OnOk result (IsSoundLeft d.Continuous (place_of (scope_meant scope.now)) (left_of value.now)) }
-    ensures err { IfErr result (Fails (BreaksLeft d.Continuous (place_of (scope_meant scope.now)) (left_of value.now))) }
+    ensures err { IfErr result (Fails (BreaksLeft d.Continuous (place_of (scope_meant scope.now))
+        (left_of value.now))) }
 {
     let parts = left_parts(alloc, value)?;
     match check_numbers(alloc, Side::Continuous, &parts, &scope.params, rest) {

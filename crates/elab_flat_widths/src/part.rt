@@ -98,7 +98,8 @@ fn depth_of(name: &[u8], rest: &Valuation) -> u8
 /// How many bits a part of a left side has; none where it isn't well formed.
 pub fn part_bits(alloc: Global, part: Part<'_>, rest: &Valuation) -> Result<Option<u8>, AllocError>
     requires { HasDefinedNumbers rest.now (part_meant part) }
-    ensures some { IfOk result (λ o. IfSome o (λ n. IsLeftFormed rest.now (part_meant part.entry) × (n ≡ part_count rest.now (part_meant part.entry)) × (n ≤ 64))) }
+    ensures some { IfOk result (λ o. IfSome o (λ n. IsLeftFormed rest.now (part_meant part.entry) ×
+        (n ≡ part_count rest.now (part_meant part.entry)) × (n ≤ 64))) }
     ensures none { IfOk result (λ o. IfNone o (IsLeftFormed rest.now (part_meant part.entry) → ⊥)) }
 {
     match part {

@@ -30,8 +30,10 @@ impl Store<'_> {
         params: &Valuation,
         rest: &Valuation,
     ) -> Result<(), Violation>
-        ensures ok { OnOk result (IsSoundTo self.now.side (is_known params.now) rest.now (map part_meant self.now.parts.now) self.now.right.now) }
-        ensures err { IfErr result (Fails (BreaksTo self.now.side (is_known params.now) rest.now (map part_meant self.now.parts.now) self.now.right.now)) }
+        ensures ok { OnOk result (IsSoundTo self.now.side (is_known params.now) rest.now
+            (map part_meant self.now.parts.now) self.now.right.now) }
+        ensures err { IfErr result (Fails (BreaksTo self.now.side (is_known params.now) rest.now
+            (map part_meant self.now.parts.now) self.now.right.now)) }
     {
         match check_numbers(alloc, self.side, self.parts, params, rest) {
             Ok(()) => {}

@@ -21,7 +21,8 @@ pub fn sound_shape(
     rest: &Valuation,
 ) -> Result<(u8, bool), Violation>
     ensures ok { IfOk result (λ s. HasSoundShape (is_known params.now) rest.now expr.now s.0 s.1) }
-    ensures err { (n : ℕ) (s : Bool) → IfErr result (Fails (Breaks (is_known params.now) rest.now (taken_at expr.now n s))) }
+    ensures err { (n : ℕ) (s : Bool) → IfErr result
+        (Fails (Breaks (is_known params.now) rest.now (taken_at expr.now n s))) }
 {
     if !has_constant_parts(expr, params) {
         return Err(Violation::Constant);

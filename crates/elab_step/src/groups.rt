@@ -17,7 +17,8 @@ struct Grouping {
 // Whether none of some signals has this number.
 fn none_has(numbers: &[usize], signals: &[usize], number: usize) -> bool
     requires { (k : ℕ) → k < length signals.now → slice_index signals.now k < length numbers.now }
-    ensures { result ≡ true → (k : ℕ) → k < length signals.now → slice_index numbers.now (slice_index signals.now k) ≢ number }
+    ensures { result ≡ true → (k : ℕ) → k < length signals.now →
+        slice_index numbers.now (slice_index signals.now k) ≢ number }
 {
     for signal in signals {
         if numbers[*signal] == number {
@@ -40,7 +41,8 @@ fn list_of(lists: &[Vec<usize>], signal: usize) -> &[usize]
 fn shares(places: &[Vec<usize>], group: &[usize], net: usize) -> bool
     requires net { net < length places.now }
     requires group { (i : ℕ) → Among group.now i → i < length places.now }
-    ensures { result ≡ true → (group.now ≡ []) ⊎ (successors (graph_of places.now) net ≡ first_list (graph_of places.now) group.now) }
+    ensures { result ≡ true → (group.now ≡ []) ⊎
+        (successors (graph_of places.now) net ≡ first_list (graph_of places.now) group.now) }
 {
     match group {
         [first, ..] => list_of(places, net) == list_of(places, *first),
@@ -79,7 +81,8 @@ impl Grouping {
         requires { net < length self.old.numbers.items }
         ensures done { OnOk result (self.new.done.items ≡ self.old.done.items) }
         ensures last { OnOk result (self.new.last.items ≡ self.old.last.items ++ net ∷ []) }
-        ensures numbers { OnOk result (self.new.numbers.items ≡ slice_set self.old.numbers.items net (length self.old.done.items)) }
+        ensures numbers { OnOk result (self.new.numbers.items ≡ slice_set self.old.numbers.items net
+            (length self.old.done.items)) }
     {
         self.numbers[net] = self.done.len();
         self.last.push(net)?;

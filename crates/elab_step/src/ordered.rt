@@ -38,7 +38,8 @@ pub fn design_in_order(
     requires within { (i : ℕ) → Among order.now i → i < length flat.now.signals }
     requires order { IsNetOrder flat.now (DependsOn flat.now) (names_of flat.now.signals order.now) }
     requires apart { (x : Name) → IsInput flat.now x → IsRegister flat.now x → ⊥ }
-    ensures solved { IfOk result (λ d. (xss : List (List Name)) × (joined xss ≡ names_of flat.now.signals order.now) × IsSolved flat.now xss d) }
+    ensures solved { IfOk result (λ d. (xss : List (List Name)) × (joined xss ≡ names_of flat.now.signals order.now) ×
+        IsSolved flat.now xss d) }
     ensures runs { IsFaultless flat.now → IfOk result (λ d. HasRunsOf flat.now d) }
     ensures signals { IfOk result (λ d. HasSignals flat.now d) }
 {

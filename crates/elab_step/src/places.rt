@@ -61,7 +61,8 @@ fn add_place(
 ) -> Result<(), AllocError>
     requires { length lists.old.items ≡ length names.now }
     ensures same { OnOk result (length lists.new.items ≡ length lists.old.items) }
-    ensures placed { OnOk result (graph_of lists.new.items ≡ placed_at (place_in names.now name.now) place (graph_of lists.old.items)) }
+    ensures placed { OnOk result (graph_of lists.new.items ≡ placed_at (place_in names.now name.now) place
+        (graph_of lists.old.items)) }
 {
     if let Some(at) = names.place(name.bytes()) {
         end_in(&mut lists[at], place)?;
@@ -78,7 +79,8 @@ fn add_places(
 ) -> Result<(), AllocError>
     requires { length lists.old.items ≡ length names.now }
     ensures same { OnOk result (length lists.new.items ≡ length lists.old.items) }
-    ensures placed { OnOk result (graph_of lists.new.items ≡ all_placed names.now place (map name_meant assigned.now) (graph_of lists.old.items)) }
+    ensures placed { OnOk result (graph_of lists.new.items ≡ all_placed names.now place (map name_meant assigned.now)
+        (graph_of lists.old.items)) }
 {
     for name in assigned {
         add_place(lists, names, name, place)?;
@@ -94,7 +96,8 @@ fn add_assigns(
 ) -> Result<(), AllocError>
     requires { length lists.old.items ≡ length names.now }
     ensures same { OnOk result (length lists.new.items ≡ length lists.old.items) }
-    ensures placed { OnOk result (graph_of lists.new.items ≡ assigns_placed names.now 0 assigns.now (graph_of lists.old.items)) }
+    ensures placed { OnOk result (graph_of lists.new.items ≡ assigns_placed names.now 0 assigns.now
+        (graph_of lists.old.items)) }
 {
     for i in 0..assigns.len() {
         let assigned = left_names(alloc, &assigns[i].left)?;
@@ -113,7 +116,8 @@ fn add_blocks(
     requires same { length lists.old.items ≡ length names.now }
     requires room { first + length blocks.now < 2 ^ 64 }
     ensures same { OnOk result (length lists.new.items ≡ length lists.old.items) }
-    ensures placed { OnOk result (graph_of lists.new.items ≡ blocks_placed names.now first blocks.now (graph_of lists.old.items)) }
+    ensures placed { OnOk result (graph_of lists.new.items ≡ blocks_placed names.now first blocks.now
+        (graph_of lists.old.items)) }
 {
     for i in 0..blocks.len() {
         let assigned = block_names(alloc, &blocks[i..i + 1], false, Form::Any)?;

@@ -16,7 +16,8 @@ fn above_low(dag: &mut Dag, old: Wire, bits: Wire, lo: u8) -> Result<u64, AllocE
     requires bits { IsWire dag.old bits }
     requires within { lo + bits.width ≤ old.width }
     ensures keeps { Keeps dag.old dag.new }
-    ensures makes { IfOk result (λ r. Makes dag.new r (bits.width + lo) (λ e. number_at e dag.old bits.node * 2 ^ lo + number_at e dag.old old.node % 2 ^ lo)) }
+    ensures makes { IfOk result (λ r. Makes dag.new r (bits.width + lo)
+        (λ e. number_at e dag.old bits.node * 2 ^ lo + number_at e dag.old old.node % 2 ^ lo)) }
 {
     // a node has from 1 to 64 bits
     let _lengths = (length_of(dag, old), length_of(dag, bits));
@@ -44,7 +45,8 @@ fn below_high(dag: &mut Dag, old: Wire, bits: Wire) -> Result<u64, AllocError>
     requires bits { IsWire dag.old bits }
     requires within { bits.width ≤ old.width }
     ensures keeps { Keeps dag.old dag.new }
-    ensures makes { IfOk result (λ r. Makes dag.new r old.width (λ e. number_at e dag.old old.node / 2 ^ bits.width * 2 ^ bits.width + number_at e dag.old bits.node)) }
+    ensures makes { IfOk result (λ r. Makes dag.new r old.width
+        (λ e. number_at e dag.old old.node / 2 ^ bits.width * 2 ^ bits.width + number_at e dag.old bits.node)) }
 {
     // a node has from 1 to 64 bits
     let _lengths = (length_of(dag, old), length_of(dag, bits));
@@ -72,7 +74,9 @@ fn overlaid(dag: &mut Dag, old: Wire, bits: Wire, lo: u8) -> Result<u64, AllocEr
     requires bits { IsWire dag.old bits }
     requires within { lo + bits.width ≤ old.width }
     ensures keeps { Keeps dag.old dag.new }
-    ensures makes { IfOk result (λ r. Makes dag.new r old.width (λ e. write_bits old.width (pos lo) bits.width (number_at e dag.old bits.node) (number_at e dag.old old.node))) }
+    ensures makes { IfOk result (λ r. Makes dag.new r old.width
+        (λ e. write_bits old.width (pos lo) bits.width (number_at e dag.old bits.node)
+        (number_at e dag.old old.node))) }
 {
     bits_are_written();
     // a node has from 1 to 64 bits
@@ -96,7 +100,9 @@ fn clipped(dag: &mut Dag, old: Wire, bits: Wire, lo: u8) -> Result<u64, AllocErr
     requires bits { IsWire dag.old bits }
     requires within { lo < old.width }
     ensures keeps { Keeps dag.old dag.new }
-    ensures makes { IfOk result (λ r. Makes dag.new r old.width (λ e. write_bits old.width (pos lo) bits.width (number_at e dag.old bits.node) (number_at e dag.old old.node))) }
+    ensures makes { IfOk result (λ r. Makes dag.new r old.width
+        (λ e. write_bits old.width (pos lo) bits.width (number_at e dag.old bits.node)
+        (number_at e dag.old old.node))) }
 {
     bits_are_written();
     // a node has from 1 to 64 bits
@@ -123,7 +129,9 @@ fn from_below(dag: &mut Dag, old: Wire, bits: Wire, skipped: u8) -> Result<u64, 
     requires some { 1 ≤ skipped }
     requires within { skipped < bits.width }
     ensures keeps { Keeps dag.old dag.new }
-    ensures makes { IfOk result (λ r. Makes dag.new r old.width (λ e. write_bits old.width (negsuc (skipped - 1)) bits.width (number_at e dag.old bits.node) (number_at e dag.old old.node))) }
+    ensures makes { IfOk result (λ r. Makes dag.new r old.width
+        (λ e. write_bits old.width (negsuc (skipped - 1)) bits.width (number_at e dag.old bits.node)
+        (number_at e dag.old old.node))) }
 {
     bits_are_written();
     // a node has from 1 to 64 bits
@@ -142,7 +150,8 @@ pub fn written(dag: &mut Dag, old: Wire, bits: Wire, at: i128) -> Result<u64, Al
     requires low { negsuc (2 ^ 100) ≤ℤ at }
     requires high { at <ℤ pos (2 ^ 100) }
     ensures keeps { Keeps dag.old dag.new }
-    ensures makes { IfOk result (λ r. Makes dag.new r old.width (λ e. write_bits old.width at bits.width (number_at e dag.old bits.node) (number_at e dag.old old.node))) }
+    ensures makes { IfOk result (λ r. Makes dag.new r old.width
+        (λ e. write_bits old.width at bits.width (number_at e dag.old bits.node) (number_at e dag.old old.node))) }
 {
     bits_are_written();
     let size = i128::from(length_of(dag, old));

@@ -77,7 +77,8 @@ pub fn run(
     ensures keeps { Keeps dag.old dag.new }
     ensures same { declared state.new ≡ declared state.old }
     ensures set { IfOk result (λ u. AreSet (option_copied reads.entry) state.new dag.new) }
-    ensures runs { IfOk result (λ u. Runs (option_copied reads.entry) (λ gs. run (is_at_once (option_copied reads.entry)) (flat gs) stmt.now) state.old dag.old state.new dag.new) }
+    ensures runs { IfOk result (λ u. Runs (option_copied reads.entry)
+        (λ gs. run (is_at_once (option_copied reads.entry)) (flat gs) stmt.now) state.old dag.old state.new dag.new) }
 {
     match stmt {
         Stmt::Empty => Ok(()),
@@ -140,7 +141,8 @@ fn branch(
     ensures keeps { Keeps dag.old dag.new }
     ensures same { declared state.new ≡ declared state.old }
     ensures set { IfOk result (λ u. AreSet (option_copied reads.entry) state.new dag.new) }
-    ensures branches { IfOk result (λ u. Branches (option_copied reads.entry) body.now fork.entry.test fork.entry.before.now state.old dag.old state.new dag.new) }
+    ensures branches { IfOk result (λ u. Branches
+        (option_copied reads.entry) body.now fork.entry.test fork.entry.before.now state.old dag.old state.new dag.new) }
 {
     let others = replaced(state.allocator(), state, fork.before)?;
     run(state.allocator(), dag, body, reads, state)?;
@@ -164,7 +166,8 @@ fn run_where(
     ensures keeps { Keeps dag.old dag.new }
     ensures same { declared state.new ≡ declared state.old }
     ensures set { IfOk result (λ u. AreSet (option_copied reads.entry) state.new dag.new) }
-    ensures guards { IfOk result (λ u. Guards (option_copied reads.entry) body.now test state.old dag.old state.new dag.new) }
+    ensures guards { IfOk result (λ u. Guards
+        (option_copied reads.entry) body.now test state.old dag.old state.new dag.new) }
 {
     let before = before_one(state.allocator(), body, state)?;
     let fork = Fork {
@@ -189,7 +192,9 @@ fn run_row(
     ensures keeps { Keeps dag.old dag.new }
     ensures same { declared state.new ≡ declared state.old }
     ensures set { IfOk result (λ u. AreSet (option_copied reads.entry) state.new dag.new) }
-    ensures runs { IfOk result (λ u. Runs (option_copied reads.entry) (λ gs. each_runs (is_at_once (option_copied reads.entry)) (flat gs) stmts.now) state.old dag.old state.new dag.new) }
+    ensures runs { IfOk result (λ u. Runs (option_copied reads.entry)
+        (λ gs. each_runs (is_at_once (option_copied reads.entry))
+        (flat gs) stmts.now) state.old dag.old state.new dag.new) }
 {
     for stmt in stmts {
         run(state.allocator(), dag, one(stmt, state), reads, state)?;
@@ -211,7 +216,9 @@ fn run_default(
     ensures keeps { Keeps dag.old dag.new }
     ensures same { declared state.new ≡ declared state.old }
     ensures set { IfOk result (λ u. AreSet (option_copied reads.entry) state.new dag.new) }
-    ensures runs { IfOk result (λ u. Runs (option_copied reads.entry) (λ gs. each_default (is_at_once (option_copied reads.entry)) (flat gs) items.now) state.old dag.old state.new dag.new) }
+    ensures runs { IfOk result (λ u. Runs (option_copied reads.entry)
+        (λ gs. each_default (is_at_once (option_copied reads.entry))
+        (flat gs) items.now) state.old dag.old state.new dag.new) }
 {
     let at = default_at(items);
     if at < items.len() {
@@ -280,7 +287,8 @@ fn run_joined(
     ensures keeps { Keeps dag.old dag.new }
     ensures same { declared state.new ≡ declared state.old }
     ensures set { IfOk result (λ u. AreSet (option_copied reads.entry) state.new dag.new) }
-    ensures chooses { IfOk result (λ u. Chooses (option_copied reads.entry) items.now tests.now state.old dag.old state.new dag.new) }
+    ensures chooses { IfOk result (λ u. Chooses
+        (option_copied reads.entry) items.now tests.now state.old dag.old state.new dag.new) }
 {
     let before = before_items(state.allocator(), items, state)?;
     run_default(dag, items, reads, state)?;
@@ -345,7 +353,8 @@ fn run_apart(
     ensures keeps { Keeps dag.old dag.new }
     ensures same { declared state.new ≡ declared state.old }
     ensures set { IfOk result (λ u. AreSet (option_copied reads.entry) state.new dag.new) }
-    ensures chooses { IfOk result (λ u. Chooses (option_copied reads.entry) items.now tests.now state.old dag.old state.new dag.new) }
+    ensures chooses { IfOk result (λ u. Chooses
+        (option_copied reads.entry) items.now tests.now state.old dag.old state.new dag.new) }
 {
     let matched = run_each(dag, items, tests, reads, state)?;
     let at = default_at(items);
@@ -373,7 +382,8 @@ fn run_chosen(
     ensures keeps { Keeps dag.old dag.new }
     ensures same { declared state.new ≡ declared state.old }
     ensures set { IfOk result (λ u. AreSet (option_copied reads.entry) state.new dag.new) }
-    ensures chooses { IfOk result (λ u. Chooses (option_copied reads.entry) items.now tests.now state.old dag.old state.new dag.new) }
+    ensures chooses { IfOk result (λ u. Chooses
+        (option_copied reads.entry) items.now tests.now state.old dag.old state.new dag.new) }
 {
     if are_alike(state.allocator(), items, state)? {
         run_joined(dag, items, tests, reads, state)?;

@@ -86,7 +86,8 @@ fn joined_node(dag: &mut Dag, condition: u64, one: Wire, other: u64) -> Result<u
     requires other { IsNode dag.old other one.width }
     ensures keeps { Keeps dag.old dag.new }
     ensures node { IfOk result (λ r. IsNode dag.new r one.width) }
-    ensures number { IfOk result (λ r. (e : _) → number_at e dag.new r ≡ (if nat_eq (number_at e dag.old condition) 1 then number_at e dag.old one.node else number_at e dag.old other)) }
+    ensures number { IfOk result (λ r. (e : _) → number_at e dag.new r ≡
+        (if nat_eq (number_at e dag.old condition) 1 then number_at e dag.old one.node else number_at e dag.old other)) }
 {
     if one.node == other {
         return Ok(other);

@@ -43,7 +43,8 @@ fn ignored(kind: CaseKind, label: &Expr) -> u64
 fn with_bits(dag: &mut Dag, a: Wire, bits: u64) -> Result<u64, AllocError>
     requires { IsWire dag.old a }
     ensures keeps { Keeps dag.old dag.new }
-    ensures makes { IfOk result (λ r. Makes dag.new r a.width (λ e. bit_or (number_at e dag.old a.node) (bits % 2 ^ a.width))) }
+    ensures makes { IfOk result (λ r. Makes dag.new r a.width
+        (λ e. bit_or (number_at e dag.old a.node) (bits % 2 ^ a.width))) }
 {
     let width = length_of(dag, a);
     let node = constant(dag, width, low_bits(bits, width).value())?;
@@ -58,7 +59,8 @@ fn same_but(dag: &mut Dag, a: Wire, b: Wire, bits: u64) -> Result<u64, AllocErro
     requires right { IsWire dag.old b }
     requires same { a.width ≡ b.width }
     ensures keeps { Keeps dag.old dag.new }
-    ensures makes { IfOk result (λ r. Makes dag.new r 1 (λ e. bit (is_same_but bits (number_at e dag.old a.node) (number_at e dag.old b.node)))) }
+    ensures makes { IfOk result (λ r. Makes dag.new r 1
+        (λ e. bit (is_same_but bits (number_at e dag.old a.node) (number_at e dag.old b.node)))) }
 {
     // a node has from 1 to 64 bits
     let _length = length_of(dag, a);
@@ -92,7 +94,9 @@ fn label_node(
     requires subject { IsWire dag.old subject.wire }
     requires label { IsPlaced (declared leaves.now) label.now subject.wire.width subject.signed }
     ensures keeps { Keeps dag.old dag.new }
-    ensures makes { IfOk result (λ r. Makes dag.new r 1 (λ e. bit (is_match subject.kind (valued leaves.now (words e dag.old)) subject.wire.width subject.signed (number_at e dag.old subject.wire.node) label.now))) }
+    ensures makes { IfOk result (λ r. Makes dag.new r 1
+        (λ e. bit (is_match subject.kind (valued leaves.now (words e dag.old)) subject.wire.width subject.signed
+        (number_at e dag.old subject.wire.node) label.now))) }
 {
     let width = subject.wire.width;
     let node = node_of(dag, label, width, subject.signed, leaves)?;
@@ -131,7 +135,10 @@ pub fn any_node(
     requires subject { IsWire dag.old subject.wire }
     requires labels { ArePlaced (declared leaves.now) labels.now subject.wire.width subject.signed }
     ensures keeps { Keeps dag.old dag.new }
-    ensures makes { IfOk result (λ r. Makes dag.new r 1 (λ e. bit (list_any (is_match subject.kind (valued leaves.now (words e dag.old)) subject.wire.width subject.signed (number_at e dag.old subject.wire.node)) labels.now))) }
+    ensures makes { IfOk result (λ r. Makes dag.new r 1
+        (λ e. bit (list_any (is_match subject.kind
+        (valued leaves.now (words e dag.old)) subject.wire.width subject.signed
+        (number_at e dag.old subject.wire.node)) labels.now))) }
 {
     let mut any = constant(dag, 1, 0)?;
     for label in labels {

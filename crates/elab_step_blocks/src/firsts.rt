@@ -25,7 +25,8 @@ pub fn first_of(
     ensures keeps { Keeps dag.old dag.new }
     ensures set { AreSet (option_copied reads.entry) state.now dag.new }
     ensures node { IfOk result (λ r. IsNode dag.new r 1) }
-    ensures number { IfOk result (λ r. (e : Naming) → number_at e dag.new r ≡ (if nat_eq (number_at e dag.old matched) 1 then 0 else number_at e dag.old test)) }
+    ensures number { IfOk result (λ r. (e : Naming) →
+        number_at e dag.new r ≡ (if nat_eq (number_at e dag.old matched) 1 then 0 else number_at e dag.old test)) }
 {
     let _reads = reads;
     let _state = state;
@@ -52,7 +53,8 @@ pub fn or_matched(dag: &mut Dag, matched: u64, test: u64) -> Result<u64, AllocEr
     requires test { IsNode dag.old test 1 }
     ensures keeps { Keeps dag.old dag.new }
     ensures node { IfOk result (λ r. IsNode dag.new r 1) }
-    ensures number { IfOk result (λ r. (e : Naming) → number_at e dag.new r ≡ (if nat_eq (number_at e dag.old test) 1 then 1 else number_at e dag.old matched)) }
+    ensures number { IfOk result (λ r. (e : Naming) →
+        number_at e dag.new r ≡ (if nat_eq (number_at e dag.old test) 1 then 1 else number_at e dag.old matched)) }
 {
     let one = constant(dag, 1, 1)?;
     let number = choice(
@@ -83,7 +85,8 @@ pub fn unmatched(
     ensures keeps { Keeps dag.old dag.new }
     ensures set { AreSet (option_copied reads.entry) state.now dag.new }
     ensures node { IfOk result (λ r. IsNode dag.new r 1) }
-    ensures number { IfOk result (λ r. (e : Naming) → number_at e dag.new r ≡ (if nat_eq (number_at e dag.old matched) 1 then 0 else 1)) }
+    ensures number { IfOk result (λ r. (e : Naming) →
+        number_at e dag.new r ≡ (if nat_eq (number_at e dag.old matched) 1 then 0 else 1)) }
 {
     let one = constant(dag, 1, 1)?;
     let number = first_of(dag, matched, one, reads, state)?;

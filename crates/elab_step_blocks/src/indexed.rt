@@ -43,7 +43,8 @@ fn with_code(
     requires low { negsuc (2 ^ 100) ≤ℤ at }
     requires high { at <ℤ pos (2 ^ 100) }
     ensures keeps { Keeps dag.old dag.new }
-    ensures makes { IfOk result (λ r. Makes dag.new r write.change.old.width (λ e. if nat_eq (number_at e dag.old write.index.wire.node) code then write_bits write.change.old.width at write.change.bits.width (number_at e dag.old write.change.bits.node) (number_at e dag.old write.change.old.node) else number_at e dag.old other)) }
+    ensures makes { IfOk result (λ r. Makes dag.new r write.change.old.width
+        (λ e. if nat_eq (number_at e dag.old write.index.wire.node) code then write_bits write.change.old.width at write.change.bits.width (number_at e dag.old write.change.bits.node) (number_at e dag.old write.change.old.node) else number_at e dag.old other)) }
 {
     let change = write.change;
     let width = change.old.width;
@@ -68,7 +69,12 @@ fn with_position(
     requires low { negsuc (2 ^ 80) ≤ℤ from }
     requires high { from <ℤ pos (2 ^ 80) }
     ensures keeps { Keeps dag.old dag.new }
-    ensures makes { IfOk result (λ r. Makes dag.new r write.change.old.width (λ e. if is_same (integer write.index.signed write.index.wire.width (number_at e dag.old write.index.wire.node)) (from +ℤ (pos step -ℤ pos (write.change.bits.width - 1))) then write_bits write.change.old.width (pos step -ℤ pos (write.change.bits.width - 1)) write.change.bits.width (number_at e dag.old write.change.bits.node) (number_at e dag.old write.change.old.node) else number_at e dag.old other)) }
+    ensures makes { IfOk result (λ r. Makes dag.new r write.change.old.width
+        (λ e. if is_same (integer write.index.signed write.index.wire.width (number_at e dag.old write.index.wire.node))
+        (from +ℤ (pos step -ℤ pos (write.change.bits.width - 1))) then write_bits write.change.old.width
+        (pos step -ℤ pos (write.change.bits.width - 1)) write.change.bits.width
+        (number_at e dag.old write.change.bits.node)
+        (number_at e dag.old write.change.old.node) else number_at e dag.old other)) }
 {
     let index = write.index;
     let bits = write.change.bits;
@@ -93,7 +99,10 @@ pub fn indexed(dag: &mut Dag, write: Write, from: i128) -> Result<u64, AllocErro
     requires low { negsuc (2 ^ 80) ≤ℤ from }
     requires high { from <ℤ pos (2 ^ 80) }
     ensures keeps { Keeps dag.old dag.new }
-    ensures makes { IfOk result (λ r. Makes dag.new r write.change.old.width (λ e. write_bits write.change.old.width (integer write.index.signed write.index.wire.width (number_at e dag.old write.index.wire.node) -ℤ from) write.change.bits.width (number_at e dag.old write.change.bits.node) (number_at e dag.old write.change.old.node))) }
+    ensures makes { IfOk result (λ r. Makes dag.new r write.change.old.width
+        (λ e. write_bits write.change.old.width (integer write.index.signed write.index.wire.width
+        (number_at e dag.old write.index.wire.node) -ℤ from) write.change.bits.width
+        (number_at e dag.old write.change.bits.node) (number_at e dag.old write.change.old.node))) }
 {
     bits_are_written();
     let size = length_of(dag, write.change.old);

@@ -41,8 +41,10 @@ fn with_labels(here: (u8, bool), labels: &[Expr], leaves: &Leaves) -> Result<(u8
 fn compared_at(case: Case<'_>, leaves: &Leaves) -> Result<(u8, bool), AllocError>
     requires subject { IsFormed (declared leaves.now) case.subject.now }
     requires labels { each_formed (declared leaves.now) (each_labels case.items.now) }
-    ensures width { IfOk result (λ s. s.0 ≡ case_width (declared leaves.now) case.entry.subject.now (each_labels case.entry.items.now)) }
-    ensures sign { IfOk result (λ s. s.1 ≡ case_sign (declared leaves.now) case.entry.subject.now (each_labels case.entry.items.now)) }
+    ensures width { IfOk result (λ s. s.0 ≡ case_width (declared leaves.now) case.entry.subject.now
+        (each_labels case.entry.items.now)) }
+    ensures sign { IfOk result (λ s. s.1 ≡ case_sign (declared leaves.now) case.entry.subject.now
+        (each_labels case.entry.items.now)) }
 {
     let mut longest = shape(case.subject, leaves)?;
     for item in case.items {
@@ -73,7 +75,9 @@ fn item_node(
     requires subject { IsWire dag.old subject.wire }
     requires labels { ArePlaced (declared leaves.now) (exprs_in labels.now) subject.wire.width subject.signed }
     ensures keeps { Keeps dag.old dag.new }
-    ensures makes { IfOk result (λ r. Makes dag.new r 1 (λ e. bit (is_chosen subject.kind (valued leaves.now (words e dag.old)) subject.wire.width subject.signed (number_at e dag.old subject.wire.node) labels.now))) }
+    ensures makes { IfOk result (λ r. Makes dag.new r 1
+        (λ e. bit (is_chosen subject.kind (valued leaves.now (words e dag.old)) subject.wire.width subject.signed
+        (number_at e dag.old subject.wire.node) labels.now))) }
 {
     match labels {
         Labels::Exprs(labels) => {
@@ -91,9 +95,14 @@ fn item_node(
 /// leaves.
 pub fn item_tests(dag: &mut Dag, case: Case<'_>, leaves: &Leaves) -> Result<Vec<u64>, AllocError>
     requires ready { AreReady leaves.now dag.old }
-    requires placed { ArePlaced (declared leaves.now) (case.subject.now ∷ each_labels case.items.now) (case_width (declared leaves.now) case.subject.now (each_labels case.items.now)) (case_sign (declared leaves.now) case.subject.now (each_labels case.items.now)) }
+    requires placed { ArePlaced (declared leaves.now) (case.subject.now ∷ each_labels case.items.now)
+        (case_width (declared leaves.now) case.subject.now (each_labels case.items.now))
+        (case_sign (declared leaves.now) case.subject.now (each_labels case.items.now)) }
     ensures keeps { Keeps dag.old dag.new }
-    ensures matches { IfOk result (λ r. AreMatches case.entry.kind leaves.now case.entry.subject.now (case_width (declared leaves.now) case.entry.subject.now (each_labels case.entry.items.now)) (case_sign (declared leaves.now) case.entry.subject.now (each_labels case.entry.items.now)) dag.old case.entry.items.now r.items dag.new) }
+    ensures matches { IfOk result (λ r. AreMatches case.entry.kind leaves.now case.entry.subject.now
+        (case_width (declared leaves.now) case.entry.subject.now (each_labels case.entry.items.now))
+        (case_sign (declared leaves.now) case.entry.subject.now
+        (each_labels case.entry.items.now)) dag.old case.entry.items.now r.items dag.new) }
 {
     let place = compared_at(case, leaves)?;
     let node = node_of(dag, case.subject, place.0, place.1, leaves)?;

@@ -149,8 +149,10 @@ fn fixed(name: &Text, bounds: Bounds<'_>, leaves: &Leaves) -> Result<Target, All
     requires high { IsSingle (declared leaves.now) bounds.a.now }
     requires low { IsSingle (declared leaves.now) bounds.b.now }
     requires constant { IsPartConstant nothing w.Fixed bounds.a.now bounds.b.now }
-    requires count { IsLength (part_width w.Fixed (own_integer (operand_of (declared leaves.now) bounds.a.now)) (own_integer (operand_of (declared leaves.now) bounds.b.now))) }
-    ensures { IfOk result (λ t. (ns : List Node) → IsPart leaves.now ns t (l.Part name.now w.Fixed bounds.entry.a.now bounds.entry.b.now)) }
+    requires count { IsLength (part_width w.Fixed (own_integer (operand_of (declared leaves.now) bounds.a.now))
+        (own_integer (operand_of (declared leaves.now) bounds.b.now))) }
+    ensures { IfOk result (λ t. (ns : List Node) →
+        IsPart leaves.now ns t (l.Part name.now w.Fixed bounds.entry.a.now bounds.entry.b.now)) }
 {
     let leaf = leaf_number(name, leaves);
     let high = constant_of(bounds.a, leaves)?;
@@ -174,10 +176,12 @@ fn upward(
     requires base { IsSingle (declared leaves.now) bounds.a.now }
     requires width { IsSingle (declared leaves.now) bounds.b.now }
     requires constant { IsPartConstant nothing w.Up bounds.a.now bounds.b.now }
-    requires count { IsLength (part_width w.Up (own_integer (operand_of (declared leaves.now) bounds.a.now)) (own_integer (operand_of (declared leaves.now) bounds.b.now))) }
+    requires count { IsLength (part_width w.Up (own_integer (operand_of (declared leaves.now) bounds.a.now))
+        (own_integer (operand_of (declared leaves.now) bounds.b.now))) }
     ensures keeps { Keeps dag.old dag.new }
     ensures ready { AreReady leaves.now dag.new }
-    ensures part { IfOk result (λ t. IsPart leaves.now dag.new t (l.Part name.now w.Up bounds.entry.a.now bounds.entry.b.now)) }
+    ensures part { IfOk result (λ t. IsPart leaves.now dag.new t
+        (l.Part name.now w.Up bounds.entry.a.now bounds.entry.b.now)) }
 {
     let leaf = leaf_number(name, leaves);
     let number = constant_of(bounds.b, leaves)?;
@@ -203,10 +207,12 @@ fn downward(
     requires base { IsSingle (declared leaves.now) bounds.a.now }
     requires width { IsSingle (declared leaves.now) bounds.b.now }
     requires constant { IsPartConstant nothing w.Down bounds.a.now bounds.b.now }
-    requires count { IsLength (part_width w.Down (own_integer (operand_of (declared leaves.now) bounds.a.now)) (own_integer (operand_of (declared leaves.now) bounds.b.now))) }
+    requires count { IsLength (part_width w.Down (own_integer (operand_of (declared leaves.now) bounds.a.now))
+        (own_integer (operand_of (declared leaves.now) bounds.b.now))) }
     ensures keeps { Keeps dag.old dag.new }
     ensures ready { AreReady leaves.now dag.new }
-    ensures part { IfOk result (λ t. IsPart leaves.now dag.new t (l.Part name.now w.Down bounds.entry.a.now bounds.entry.b.now)) }
+    ensures part { IfOk result (λ t. IsPart leaves.now dag.new t
+        (l.Part name.now w.Down bounds.entry.a.now bounds.entry.b.now)) }
 {
     let leaf = leaf_number(name, leaves);
     let number = constant_of(bounds.b, leaves)?;
@@ -232,7 +238,8 @@ fn part(
     requires part { IsReadyLeft (declared leaves.now) (l.Part name.now span bounds.a.now bounds.b.now) }
     ensures keeps { Keeps dag.old dag.new }
     ensures ready { AreReady leaves.now dag.new }
-    ensures part { IfOk result (λ t. IsPart leaves.now dag.new t (l.Part name.now span bounds.entry.a.now bounds.entry.b.now)) }
+    ensures part { IfOk result (λ t. IsPart leaves.now dag.new t
+        (l.Part name.now span bounds.entry.a.now bounds.entry.b.now)) }
 {
     match span {
         Span::Fixed => {

@@ -49,7 +49,8 @@ fn add_left(left: &Lval, leaves: &Leaves, places: &mut Vec<usize>) -> Result<(),
 fn add_lefts(lefts: &[Lval], leaves: &Leaves, places: &mut Vec<usize>) -> Result<(), AllocError>
     requires apart { AreApart leaves.now }
     requires lefts { EachReadyLeft (declared leaves.now) lefts.now }
-    ensures { IfOk result (λ u. Gathers leaves.now places.old.items places.new.items (EachSparesLeft leaves.now lefts.now)) }
+    ensures { IfOk result (λ u. Gathers leaves.now places.old.items places.new.items
+        (EachSparesLeft leaves.now lefts.now)) }
 {
     for left in lefts {
         add_left(left::one(left, leaves), leaves, places)?;
@@ -83,7 +84,8 @@ fn add_stmt(stmt: &Stmt, leaves: &Leaves, places: &mut Vec<usize>) -> Result<(),
 fn add_stmts(stmts: &[Stmt], leaves: &Leaves, places: &mut Vec<usize>) -> Result<(), AllocError>
     requires apart { AreApart leaves.now }
     requires stmts { EachReadyStmt (declared leaves.now) stmts.now }
-    ensures { IfOk result (λ u. Gathers leaves.now places.old.items places.new.items (EachSpares leaves.now stmts.now)) }
+    ensures { IfOk result (λ u. Gathers leaves.now places.old.items places.new.items
+        (EachSpares leaves.now stmts.now)) }
 {
     for stmt in stmts {
         add_stmt(one(stmt, leaves), leaves, places)?;
@@ -96,7 +98,8 @@ fn add_stmts(stmts: &[Stmt], leaves: &Leaves, places: &mut Vec<usize>) -> Result
 fn add_items(items: &[CaseItem], leaves: &Leaves, places: &mut Vec<usize>) -> Result<(), AllocError>
     requires apart { AreApart leaves.now }
     requires items { EachReadyItem (declared leaves.now) items.now }
-    ensures { IfOk result (λ u. Gathers leaves.now places.old.items places.new.items (ItemsSpare leaves.now items.now)) }
+    ensures { IfOk result (λ u. Gathers leaves.now places.old.items places.new.items
+        (ItemsSpare leaves.now items.now)) }
 {
     for item in items {
         add_stmt(body(item, leaves), leaves, places)?;

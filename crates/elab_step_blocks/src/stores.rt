@@ -62,7 +62,9 @@ pub fn assign(
     ensures keeps { Keeps dag.old dag.new }
     ensures same { declared state.new ≡ declared state.old }
     ensures set { IfOk result (λ u. AreSet (option_copied reads.entry) state.new dag.new) }
-    ensures runs { IfOk result (λ u. Runs (option_copied reads.entry) (λ gs c d. store (flat gs) (seen (is_at_once (option_copied reads.entry)) c d) left.now right.now d) state.old dag.old state.new dag.new) }
+    ensures runs { IfOk result (λ u. Runs (option_copied reads.entry)
+        (λ gs c d. store (flat gs) (seen (is_at_once
+        (option_copied reads.entry)) c d) left.now right.now d) state.old dag.old state.new dag.new) }
 {
     let targets = targets_of(alloc, dag, left, seen(dag, reads, state))?;
     let width = bits(&targets);
@@ -84,7 +86,9 @@ pub fn condition_node(
     ensures keeps { Keeps dag.old dag.new }
     ensures set { AreSet (option_copied reads.entry) state.now dag.new }
     ensures node { IfOk result (λ i. IsNode dag.new i 1) }
-    ensures tests { IfOk result (λ i. Tests (option_copied reads.entry) (λ gs p q. not (is_false (flat gs) (seen (is_at_once (option_copied reads.entry)) p q) condition.now)) state.now dag.old dag.new i) }
+    ensures tests { IfOk result (λ i. Tests (option_copied reads.entry)
+        (λ gs p q. not (is_false (flat gs) (seen
+        (is_at_once (option_copied reads.entry)) p q) condition.now)) state.now dag.old dag.new i) }
 {
     let leaves = seen(dag, reads, state);
     let number = holds_node(dag, condition, leaves)?;
@@ -100,11 +104,15 @@ pub fn case_tests(
     state: &Leaves,
 ) -> Result<Vec<u64>, AllocError>
     requires set { AreSet (option_copied reads) state.now dag.old }
-    requires placed { ArePlaced (declared state.now) (case.subject.now ∷ each_labels case.items.now) (case_width (declared state.now) case.subject.now (each_labels case.items.now)) (case_sign (declared state.now) case.subject.now (each_labels case.items.now)) }
+    requires placed { ArePlaced (declared state.now) (case.subject.now ∷ each_labels case.items.now)
+        (case_width (declared state.now) case.subject.now (each_labels case.items.now))
+        (case_sign (declared state.now) case.subject.now (each_labels case.items.now)) }
     ensures keeps { Keeps dag.old dag.new }
     ensures set { AreSet (option_copied reads.entry) state.now dag.new }
     ensures bits { IfOk result (λ r. AreBits case.entry.items.now r.items dag.new) }
-    ensures tests { IfOk result (λ r. AreTests (option_copied reads.entry) (λ gs. case_test (is_at_once (option_copied reads.entry)) (flat gs) case.entry.kind case.entry.subject.now case.entry.items.now) state.now dag.old dag.new case.entry.items.now r.items) }
+    ensures tests { IfOk result (λ r. AreTests (option_copied reads.entry)
+        (λ gs. case_test (is_at_once (option_copied reads.entry))
+        (flat gs) case.entry.kind case.entry.subject.now case.entry.items.now) state.now dag.old dag.new case.entry.items.now r.items) }
 {
     let leaves = seen(dag, reads, state);
     let tests = item_tests(dag, case, leaves)?;

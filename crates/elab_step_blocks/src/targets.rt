@@ -54,7 +54,10 @@ fn changed_at(dag: &mut Dag, write: Write, from: i128) -> Result<u64, AllocError
     requires low { negsuc (2 ^ 80) ≤ℤ from }
     requires high { from <ℤ pos (2 ^ 80) }
     ensures keeps { Keeps dag.old dag.new }
-    ensures makes { IfOk result (λ r. Makes dag.new r write.change.old.width (λ e. write_bits write.change.old.width (integer write.index.signed write.index.wire.width (number_at e dag.old write.index.wire.node) -ℤ from) write.change.bits.width (number_at e dag.old write.change.bits.node) (number_at e dag.old write.change.old.node))) }
+    ensures makes { IfOk result (λ r. Makes dag.new r write.change.old.width
+        (λ e. write_bits write.change.old.width (integer write.index.signed write.index.wire.width
+        (number_at e dag.old write.index.wire.node) -ℤ from) write.change.bits.width
+        (number_at e dag.old write.change.bits.node) (number_at e dag.old write.change.old.node))) }
 {
     match constant_word(dag, write.index.wire) {
         Some(word) => {
@@ -75,7 +78,9 @@ fn changed(dag: &mut Dag, change: Change, spot: Spot) -> Result<u64, AllocError>
     requires bits { IsWire dag.old change.bits }
     requires spot { IsSpot dag.old spot }
     ensures keeps { Keeps dag.old dag.new }
-    ensures makes { IfOk result (λ r. Makes dag.new r change.old.width (λ e. write_bits change.old.width (bit_at e dag.old spot) change.bits.width (number_at e dag.old change.bits.node) (number_at e dag.old change.old.node))) }
+    ensures makes { IfOk result (λ r. Makes dag.new r change.old.width
+        (λ e. write_bits change.old.width (bit_at e dag.old spot) change.bits.width
+        (number_at e dag.old change.bits.node) (number_at e dag.old change.old.node))) }
 {
     match spot {
         Spot::Fixed(at) => {

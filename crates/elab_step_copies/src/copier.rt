@@ -63,7 +63,8 @@ impl Copier {
     /// A copier that has made nothing yet, for so many leaves.
     pub fn new(alloc: Global, source: Dag, leaves: usize) -> Result<Copier, AllocError>
         ensures source { IfOk result (λ k. k.source ≡ source) }
-        ensures copies { IfOk result (λ k. (ls : List Leaf) (ns : List OneNode) → length ls ≡ leaves → AreOfLeaves source ls → AreCopies k ls ns) }
+        ensures copies { IfOk result (λ k. (ls : List Leaf) (ns : List OneNode) → length ls ≡ leaves →
+            AreOfLeaves source ls → AreCopies k ls ns) }
     {
         let count = source.nodes().len();
         let copies = vec![in alloc; None; count]?;
@@ -88,7 +89,8 @@ impl Copier {
         requires sound { IsSound self.old (length leaves.now) }
         requires places { AreWithin leaves.now places.now }
         ensures source { IfOk result (λ u. self.new.source ≡ self.old.source) }
-        ensures copies { IfOk result (λ u. (ls : List Leaf) (a b : List OneNode) → AreCopies self.old ls a → AreMoved places.now ls a leaves.now b → AreCopies self.new leaves.now b) }
+        ensures copies { IfOk result (λ u. (ls : List Leaf) (a b : List OneNode) → AreCopies self.old ls a →
+            AreMoved places.now ls a leaves.now b → AreCopies self.new leaves.now b) }
     {
         for place in places {
             self.renew_leaf(alloc, leaves, *place)?;
@@ -211,7 +213,8 @@ impl Copier {
     fn unmade(&self, number: u64) -> Option<u64>
         requires number { number < length self.now.source }
         requires long { length self.now.copies.items ≡ length self.now.source }
-        ensures { MatchOption result (HaveCopies self.now.copies.items (operands_of self.now.source number)) (λ a. (a < number) × (made_at self.now.copies.items a ≡ None)) }
+        ensures { MatchOption result (HaveCopies self.now.copies.items (operands_of self.now.source number))
+            (λ a. (a < number) × (made_at self.now.copies.items a ≡ None)) }
     {
         unmade_operand(&self.source.nodes()[number as usize], &self.copies)
     }
@@ -236,7 +239,9 @@ impl Copier {
         requires fits { FitsNode (map width_of dag.old) copied }
         requires bound { is_free copied ≡ false }
         ensures keeps { Keeps dag.old dag.new }
-        ensures one { OnOk result ((ls : List Leaf) (z : OneNode) → CanMake self.old ls dag.old number → IsAt self.old.source number z → is_free z ≡ false → copied ≡ renumbered (copy_at self.old.copies.items) z → MakesOne self.old self.new ls dag.new number) }
+        ensures one { OnOk result ((ls : List Leaf) (z : OneNode) → CanMake self.old ls dag.old number →
+            IsAt self.old.source number z → is_free z ≡ false → copied ≡ renumbered (copy_at self.old.copies.items) z →
+            MakesOne self.old self.new ls dag.new number) }
     {
         note(
             &mut self.readers,
@@ -254,7 +259,8 @@ impl Copier {
         requires sound { IsSound self.old (length leaves.now) }
         requires words { AreOfLeaves self.old.source leaves.now }
         requires free { (z : OneNode) → IsAt self.old.source number z → is_free z ≡ true }
-        ensures { OnOk result ((ns : List OneNode) → CanMake self.old leaves.now ns number → MakesOne self.old self.new leaves.now ns number) }
+        ensures { OnOk result ((ns : List OneNode) → CanMake self.old leaves.now ns number →
+            MakesOne self.old self.new leaves.now ns number) }
     {
         let place = word_leaf(&self.source.nodes()[number as usize], leaves);
         note_at(&mut self.words, place, number)?;

@@ -80,7 +80,8 @@ pub fn unmade_operand(node: &Node, copies: &[Option<u64>]) -> Option<u64>
 /// The node over the copies of its operands. A free word has none.
 pub fn over_copies(node: &Node, copies: &[Option<u64>]) -> Option<Node>
     requires { HaveCopies copies.now (operands node.now) }
-    ensures { MatchOption result (is_free node.now ≡ true) (λ n. (is_free node.now ≡ false) × (n ≡ renumbered (copy_at copies.now) node.now)) }
+    ensures { MatchOption result (is_free node.now ≡ true) (λ n. (is_free node.now ≡ false) ×
+        (n ≡ renumbered (copy_at copies.now) node.now)) }
 {
     match node {
         Node::Free { .. } => None,

@@ -41,7 +41,8 @@ fn above(dag: &mut Dag, a: Wire, zeros: u8) -> Result<u64, AllocError>
     requires some { 1 ≤ zeros }
     requires most { a.width + zeros ≤ 64 }
     ensures keeps { Keeps dag.old dag.new }
-    ensures makes { IfOk result (λ r. Makes dag.new r (a.width + zeros) (λ e. number_at e dag.old a.node * 2 ^ zeros + 0)) }
+    ensures makes { IfOk result (λ r. Makes dag.new r (a.width + zeros)
+        (λ e. number_at e dag.old a.node * 2 ^ zeros + 0)) }
 {
     let zero = constant(dag, zeros, 0)?;
     let number = two(
@@ -97,7 +98,8 @@ pub fn moved(dag: &mut Dag, a: Wire, distance: i128, width: u8) -> Result<u64, A
     requires most { width ≤ 64 }
     requires low { negsuc (2 ^ 100) ≤ℤ distance }
     ensures keeps { Keeps dag.old dag.new }
-    ensures makes { IfOk result (λ r. Makes dag.new r width (λ e. moved_down distance (number_at e dag.old a.node) % 2 ^ width)) }
+    ensures makes { IfOk result (λ r. Makes dag.new r width
+        (λ e. moved_down distance (number_at e dag.old a.node) % 2 ^ width)) }
 {
     let length = length_of(dag, a);
     let top = i128::from(length);

@@ -51,7 +51,9 @@ pub fn joined(
     requires fits { PlacesFit (family_of op) here.0 a.width b.width }
     requires divides { family_of op ≡ family.Division → ⊥ }
     ensures keeps { Keeps dag.old dag.new }
-    ensures makes { IfOk result (λ r. Makes dag.new r here.0 (λ e. joined_number (family_of op) op here.0 here.1 a.width sign (number_at e dag.old a.node) (number_at e dag.old b.node))) }
+    ensures makes { IfOk result (λ r. Makes dag.new r here.0
+        (λ e. joined_number (family_of op) op here.0 here.1 a.width sign (number_at e dag.old a.node)
+        (number_at e dag.old b.node))) }
 {
     match family_of(op) {
         Family::Arithmetic => {
@@ -89,7 +91,8 @@ pub fn made(dag: &mut Dag, op: Unary, length: u8, inner: Wire) -> Result<u64, Al
     requires most { length ≤ 64 }
     requires fits { is_reduction op ≡ false → inner.width ≡ length }
     ensures keeps { Keeps dag.old dag.new }
-    ensures makes { IfOk result (λ r. Makes dag.new r length (λ e. made_number op inner.width (number_at e dag.old inner.node))) }
+    ensures makes { IfOk result (λ r. Makes dag.new r length
+        (λ e. made_number op inner.width (number_at e dag.old inner.node))) }
 {
     if is_reduction(op) {
         let bit = reduction(dag, op, inner)?;
@@ -108,7 +111,8 @@ pub fn chosen(dag: &mut Dag, condition: Wire, a: Wire, b: Wire) -> Result<u64, A
     requires right { IsWire dag.old b }
     requires same { a.width ≡ b.width }
     ensures keeps { Keeps dag.old dag.new }
-    ensures makes { IfOk result (λ r. Makes dag.new r b.width (λ e. if nat_eq (number_at e dag.old condition.node) 0 then number_at e dag.old b.node else number_at e dag.old a.node)) }
+    ensures makes { IfOk result (λ r. Makes dag.new r b.width
+        (λ e. if nat_eq (number_at e dag.old condition.node) 0 then number_at e dag.old b.node else number_at e dag.old a.node)) }
 {
     let zero = is_zero(dag, condition)?;
     let number = choice(dag, zero, b, a)?;

@@ -17,7 +17,8 @@ use word_dag::{Dag, Op};
 pub fn code_of(number: i128, width: u8, signed: bool) -> Option<u64>
     requires some { 1 ≤ width }
     requires most { width ≤ 64 }
-    ensures some { IfSome result (λ k. (k < 2 ^ width) × ((x : ℕ) → x < 2 ^ width → nat_eq x k ≡ is_same (integer signed width x) number)) }
+    ensures some { IfSome result (λ k. (k < 2 ^ width) ×
+        ((x : ℕ) → x < 2 ^ width → nat_eq x k ≡ is_same (integer signed width x) number)) }
     ensures none { IfNone result ((x : ℕ) → x < 2 ^ width → is_same (integer signed width x) number ≡ false) }
 {
     if number < -0x1_0000_0000_0000_0000 || 0x1_0000_0000_0000_0000 <= number {
@@ -69,7 +70,9 @@ fn with_code(
     requires fits { code < 2 ^ word.width }
     requires low { negsuc (2 ^ 100) ≤ℤ distance }
     ensures keeps { Keeps dag.old dag.new }
-    ensures makes { IfOk result (λ r. Makes dag.new r other.width (λ e. if nat_eq (number_at e dag.old word.node) code then moved_down distance (number_at e dag.old a.node) % 2 ^ other.width else number_at e dag.old other.node)) }
+    ensures makes { IfOk result (λ r. Makes dag.new r other.width
+        (λ e. if nat_eq (number_at e dag.old word.node) code then moved_down distance
+        (number_at e dag.old a.node) % 2 ^ other.width else number_at e dag.old other.node)) }
 {
     // a node has from 1 to 64 bits
     let _width = length_of(dag, other);
@@ -109,7 +112,10 @@ fn with_position(
     requires low { negsuc (2 ^ 80) ≤ℤ from }
     requires high { from <ℤ pos (2 ^ 80) }
     ensures keeps { Keeps dag.old dag.new }
-    ensures makes { IfOk result (λ r. Makes dag.new r other.width (λ e. if is_same (integer index.signed index.wire.width (number_at e dag.old index.wire.node)) (from +ℤ (pos step -ℤ pos (other.width - 1))) then moved_down (pos step -ℤ pos (other.width - 1)) (number_at e dag.old a.node) % 2 ^ other.width else number_at e dag.old other.node)) }
+    ensures makes { IfOk result (λ r. Makes dag.new r other.width
+        (λ e. if is_same (integer index.signed index.wire.width (number_at e dag.old index.wire.node))
+        (from +ℤ (pos step -ℤ pos (other.width - 1))) then moved_down (pos step -ℤ pos (other.width - 1))
+        (number_at e dag.old a.node) % 2 ^ other.width else number_at e dag.old other.node)) }
 {
     // a node has from 1 to 64 bits
     let _lengths = (length_of(dag, index.wire), length_of(dag, other));
@@ -134,7 +140,9 @@ pub fn indexed(dag: &mut Dag, a: Wire, index: Own, from: i128, width: u8) -> Res
     requires low { negsuc (2 ^ 80) ≤ℤ from }
     requires high { from <ℤ pos (2 ^ 80) }
     ensures keeps { Keeps dag.old dag.new }
-    ensures makes { IfOk result (λ r. Makes dag.new r width (λ e. moved_down (integer index.signed index.wire.width (number_at e dag.old index.wire.node) -ℤ from) (number_at e dag.old a.node) % 2 ^ width)) }
+    ensures makes { IfOk result (λ r. Makes dag.new r width
+        (λ e. moved_down (integer index.signed index.wire.width (number_at e dag.old index.wire.node) -ℤ from)
+        (number_at e dag.old a.node) % 2 ^ width)) }
 {
     let length = length_of(dag, a);
     let mut bits = constant(dag, width, 0)?;

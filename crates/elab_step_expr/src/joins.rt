@@ -17,7 +17,8 @@ pub fn above(dag: &mut Dag, high: Wire, low: Wire) -> Result<Wire, AllocError>
     requires most { high.width + low.width ≤ 64 }
     ensures keeps { Keeps dag.old dag.new }
     ensures width { IfOk result (λ w. w.width ≡ high.width + low.width) }
-    ensures makes { IfOk result (λ w. Makes dag.new w.node w.width (λ e. number_at e dag.old high.node * 2 ^ low.width + number_at e dag.old low.node)) }
+    ensures makes { IfOk result (λ w. Makes dag.new w.node w.width
+        (λ e. number_at e dag.old high.node * 2 ^ low.width + number_at e dag.old low.node)) }
 {
     let width = high.width + low.width;
     let node = two(dag, Op::Concat, width, high, low)?;
@@ -32,7 +33,8 @@ pub fn appended(dag: &mut Dag, row: Wire, low: Wire) -> Result<Wire, AllocError>
     ensures keeps { Keeps dag.old dag.new }
     ensures width { IfOk result (λ w. w.width ≡ row.width + low.width) }
     ensures some { IfOk result (λ w. 1 ≤ w.width) }
-    ensures makes { IfOk result (λ w. Makes dag.new w.node w.width (λ e. so_far e dag.old row * 2 ^ low.width + number_at e dag.old low.node)) }
+    ensures makes { IfOk result (λ w. Makes dag.new w.node w.width
+        (λ e. so_far e dag.old row * 2 ^ low.width + number_at e dag.old low.node)) }
 {
     // a node has at least one bit
     let _width = length_of(dag, low);
@@ -51,7 +53,8 @@ pub fn copies(dag: &mut Dag, row: Wire, count: u8) -> Result<Wire, AllocError>
     requires most { count * row.width ≤ 64 }
     ensures keeps { Keeps dag.old dag.new }
     ensures width { IfOk result (λ w. w.width ≡ count * row.width) }
-    ensures makes { IfOk result (λ w. Makes dag.new w.node w.width (λ e. copy_number count row.width (number_at e dag.old row.node))) }
+    ensures makes { IfOk result (λ w. Makes dag.new w.node w.width
+        (λ e. copy_number count row.width (number_at e dag.old row.node))) }
 {
     // the nodes of a dag fit
     let _width = length_of(dag, row);

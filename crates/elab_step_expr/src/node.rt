@@ -225,12 +225,14 @@ pub fn assigned_node(
     requires ready { AreReady leaves.now dag.old }
     requires formed { IsFormed (declared leaves.now) expr.now }
     requires constant { HasConstantParts nothing expr.now }
-    requires defined { IsDefined (declared leaves.now) expr.now (max (width_of (declared leaves.now) expr.now) width) (sign_of (declared leaves.now) expr.now) }
+    requires defined { IsDefined (declared leaves.now) expr.now (max (width_of (declared leaves.now) expr.now) width)
+        (sign_of (declared leaves.now) expr.now) }
     requires some { 1 ≤ width }
     requires most { width ≤ 64 }
     ensures keeps { Keeps dag.old dag.new }
     ensures ready { AreReady leaves.now dag.new }
-    ensures node { IfOk result (λ i. Makes dag.new i width (λ e. assigned (valued leaves.now (words e dag.old)) expr.now width)) }
+    ensures node { IfOk result (λ i. Makes dag.new i width
+        (λ e. assigned (valued leaves.now (words e dag.old)) expr.now width)) }
 {
     let own = shape(expr, leaves)?;
     let length = own.0.max(width);
@@ -251,7 +253,8 @@ pub fn value_node(dag: &mut Dag, expr: &Expr, leaves: &Leaves) -> Result<u64, Al
     ensures keeps { Keeps dag.old dag.new }
     ensures ready { AreReady leaves.now dag.new }
     ensures length { IfOk result (λ i. IsLength (width_of (declared leaves.now) expr.now)) }
-    ensures node { IfOk result (λ i. Makes dag.new i (width_of (declared leaves.now) expr.now) (λ e. own_value (valued leaves.now (words e dag.old)) expr.now)) }
+    ensures node { IfOk result (λ i. Makes dag.new i (width_of (declared leaves.now) expr.now)
+        (λ e. own_value (valued leaves.now (words e dag.old)) expr.now)) }
 {
     let own = own_node(dag, expr, leaves)?;
     Ok(own.wire.node)
@@ -265,7 +268,8 @@ pub fn holds_node(dag: &mut Dag, expr: &Expr, leaves: &Leaves) -> Result<u64, Al
     requires alone { IsAlone leaves.now expr.now }
     ensures keeps { Keeps dag.old dag.new }
     ensures ready { AreReady leaves.now dag.new }
-    ensures node { IfOk result (λ i. Makes dag.new i 1 (λ e. bit (not (nat_eq (own_value (valued leaves.now (words e dag.old)) expr.now) 0)))) }
+    ensures node { IfOk result (λ i. Makes dag.new i 1
+        (λ e. bit (not (nat_eq (own_value (valued leaves.now (words e dag.old)) expr.now) 0)))) }
 {
     let own = own_node(dag, expr, leaves)?;
     let number = truth(dag, own.wire)?;

@@ -51,7 +51,8 @@ pub fn two(dag: &mut Dag, op: Op, width: u8, a: Wire, b: Wire) -> Result<u64, Al
     requires fits { FitsOp op width a.width b.width }
     ensures fit { FitFrom [] dag.old }
     ensures keeps { Keeps dag.old dag.new }
-    ensures makes { IfOk result (λ r. Makes dag.new r width (λ e. (op_value op (wire_word e dag.old a) (wire_word e dag.old b)).value)) }
+    ensures makes { IfOk result (λ r. Makes dag.new r width
+        (λ e. (op_value op (wire_word e dag.old a) (wire_word e dag.old b)).value)) }
 {
     let number = put(
         dag,
@@ -106,7 +107,8 @@ pub fn extended(dag: &mut Dag, a: Wire, length: u8, signed: bool) -> Result<u64,
     requires wider { a.width ≤ length }
     requires most { length ≤ 64 }
     ensures keeps { Keeps dag.old dag.new }
-    ensures makes { IfOk result (λ r. Makes dag.new r length (λ e. extend signed a.width length (number_at e dag.old a.node))) }
+    ensures makes { IfOk result (λ r. Makes dag.new r length
+        (λ e. extend signed a.width length (number_at e dag.old a.node))) }
 {
     if signed {
         let number = put(
@@ -135,7 +137,8 @@ pub fn choice(dag: &mut Dag, bit: u64, a: Wire, b: Wire) -> Result<u64, AllocErr
     requires right { IsWire dag.old b }
     requires same { a.width ≡ b.width }
     ensures keeps { Keeps dag.old dag.new }
-    ensures makes { IfOk result (λ r. Makes dag.new r a.width (λ e. if nat_eq (number_at e dag.old bit) 1 then number_at e dag.old a.node else number_at e dag.old b.node)) }
+    ensures makes { IfOk result (λ r. Makes dag.new r a.width
+        (λ e. if nat_eq (number_at e dag.old bit) 1 then number_at e dag.old a.node else number_at e dag.old b.node)) }
 {
     let number = put(
         dag,

@@ -136,7 +136,8 @@ pub fn binary_places(
 ) -> Result<Places, AllocError>
     requires is { expr.now ≡ Expr.Binary op a.now b.now }
     requires taken { IsTaken leaves.now expr.now here.0 here.1 }
-    ensures places { IfOk result (λ p. AreOperands leaves.now (family_of op) a.now b.now here.0 here.1 p.left.0 p.left.1 p.right.0 p.right.1) }
+    ensures places { IfOk result (λ p. AreOperands leaves.now
+        (family_of op) a.now b.now here.0 here.1 p.left.0 p.left.1 p.right.0 p.right.1) }
     ensures left { IfOk result (λ p. IsTaken leaves.now a.now p.left.0 p.left.1) }
     ensures right { IfOk result (λ p. IsTaken leaves.now b.now p.right.0 p.right.1) }
 {

@@ -62,7 +62,8 @@ fn difference(dag: &mut Dag, a: Wire, b: Wire) -> Result<u64, AllocError>
     requires right { IsWire dag.old b }
     requires same { a.width ≡ b.width }
     ensures keeps { Keeps dag.old dag.new }
-    ensures makes { IfOk result (λ r. Makes dag.new r a.width (λ e. (number_at e dag.old a.node + 2 ^ a.width - number_at e dag.old b.node) % 2 ^ a.width)) }
+    ensures makes { IfOk result (λ r. Makes dag.new r a.width
+        (λ e. (number_at e dag.old a.node + 2 ^ a.width - number_at e dag.old b.node) % 2 ^ a.width)) }
 {
     let number = two(dag, Op::Sub, a.width, a, b)?;
     Ok(number)
@@ -75,7 +76,8 @@ fn same_bits(dag: &mut Dag, a: Wire, b: Wire) -> Result<u64, AllocError>
     requires right { IsWire dag.old b }
     requires same { a.width ≡ b.width }
     ensures keeps { Keeps dag.old dag.new }
-    ensures makes { IfOk result (λ r. Makes dag.new r a.width (λ e. arithmetic_of Binary.BitXnor a.width (number_at e dag.old a.node) (number_at e dag.old b.node))) }
+    ensures makes { IfOk result (λ r. Makes dag.new r a.width
+        (λ e. arithmetic_of Binary.BitXnor a.width (number_at e dag.old a.node) (number_at e dag.old b.node))) }
 {
     let other = two(dag, Op::Xor, a.width, a, b)?;
     let number = turned(
@@ -95,7 +97,8 @@ pub fn arithmetic(dag: &mut Dag, op: Binary, a: Wire, b: Wire) -> Result<u64, Al
     requires family { family_of op ≡ family.Arithmetic }
     requires same { a.width ≡ b.width }
     ensures keeps { Keeps dag.old dag.new }
-    ensures makes { IfOk result (λ r. Makes dag.new r a.width (λ e. arithmetic_of op a.width (number_at e dag.old a.node) (number_at e dag.old b.node))) }
+    ensures makes { IfOk result (λ r. Makes dag.new r a.width
+        (λ e. arithmetic_of op a.width (number_at e dag.old a.node) (number_at e dag.old b.node))) }
 {
     match op {
         Binary::Mul => two(dag, Op::Mul, a.width, a, b),
@@ -114,7 +117,9 @@ fn moved_down(dag: &mut Dag, a: Wire, b: Wire, signed: bool) -> Result<u64, Allo
     requires left { IsWire dag.old a }
     requires right { IsWire dag.old b }
     ensures keeps { Keeps dag.old dag.new }
-    ensures makes { IfOk result (λ r. Makes dag.new r a.width (λ e. shift_of Binary.ArithmeticShr a.width signed (number_at e dag.old a.node) (min (number_at e dag.old b.node) a.width))) }
+    ensures makes { IfOk result (λ r. Makes dag.new r a.width
+        (λ e. shift_of Binary.ArithmeticShr a.width signed (number_at e dag.old a.node)
+        (min (number_at e dag.old b.node) a.width))) }
 {
     if signed {
         let number = two(dag, Op::Sar, a.width, a, b)?;
@@ -130,7 +135,8 @@ pub fn shifted(dag: &mut Dag, op: Binary, a: Wire, b: Wire, signed: bool) -> Res
     requires right { IsWire dag.old b }
     requires family { family_of op ≡ family.Shift }
     ensures keeps { Keeps dag.old dag.new }
-    ensures makes { IfOk result (λ r. Makes dag.new r a.width (λ e. shift_of op a.width signed (number_at e dag.old a.node) (min (number_at e dag.old b.node) a.width))) }
+    ensures makes { IfOk result (λ r. Makes dag.new r a.width
+        (λ e. shift_of op a.width signed (number_at e dag.old a.node) (min (number_at e dag.old b.node) a.width))) }
 {
     match op {
         Binary::Shl => two(dag, Op::Shl, a.width, a, b),
@@ -147,7 +153,9 @@ fn less(dag: &mut Dag, a: Wire, b: Wire, signed: bool) -> Result<u64, AllocError
     requires right { IsWire dag.old b }
     requires same { a.width ≡ b.width }
     ensures keeps { Keeps dag.old dag.new }
-    ensures makes { IfOk result (λ r. Makes dag.new r 1 (λ e. bit (int_lt (integer signed a.width (number_at e dag.old a.node)) (integer signed b.width (number_at e dag.old b.node))))) }
+    ensures makes { IfOk result (λ r. Makes dag.new r 1
+        (λ e. bit (int_lt (integer signed a.width (number_at e dag.old a.node))
+        (integer signed b.width (number_at e dag.old b.node))))) }
 {
     if signed {
         let number = two(dag, Op::Slt, 1, a, b)?;
@@ -164,7 +172,9 @@ fn not_less(dag: &mut Dag, a: Wire, b: Wire, signed: bool) -> Result<u64, AllocE
     requires right { IsWire dag.old b }
     requires same { a.width ≡ b.width }
     ensures keeps { Keeps dag.old dag.new }
-    ensures makes { IfOk result (λ r. Makes dag.new r 1 (λ e. bit (not (int_lt (integer signed a.width (number_at e dag.old a.node)) (integer signed b.width (number_at e dag.old b.node)))))) }
+    ensures makes { IfOk result (λ r. Makes dag.new r 1
+        (λ e. bit (not (int_lt (integer signed a.width (number_at e dag.old a.node))
+        (integer signed b.width (number_at e dag.old b.node)))))) }
 {
     let below = less(dag, a, b, signed)?;
     let number = inverse(dag, below)?;
@@ -178,7 +188,9 @@ pub fn ordered(dag: &mut Dag, op: Binary, a: Wire, b: Wire, signed: bool) -> Res
     requires family { family_of op ≡ family.Order }
     requires same { a.width ≡ b.width }
     ensures keeps { Keeps dag.old dag.new }
-    ensures makes { IfOk result (λ r. Makes dag.new r 1 (λ e. bit (order_of op (integer signed a.width (number_at e dag.old a.node)) (integer signed a.width (number_at e dag.old b.node))))) }
+    ensures makes { IfOk result (λ r. Makes dag.new r 1
+        (λ e. bit (order_of op (integer signed a.width (number_at e dag.old a.node))
+        (integer signed a.width (number_at e dag.old b.node))))) }
 {
     match op {
         Binary::Less => less(dag, a, b, signed),
@@ -196,7 +208,8 @@ pub fn equal(dag: &mut Dag, op: Binary, a: Wire, b: Wire) -> Result<u64, AllocEr
     requires family { family_of op ≡ family.Equality }
     requires same { a.width ≡ b.width }
     ensures keeps { Keeps dag.old dag.new }
-    ensures makes { IfOk result (λ r. Makes dag.new r 1 (λ e. bit (equality_of op (number_at e dag.old a.node) (number_at e dag.old b.node)))) }
+    ensures makes { IfOk result (λ r. Makes dag.new r 1
+        (λ e. bit (equality_of op (number_at e dag.old a.node) (number_at e dag.old b.node)))) }
 {
     match op {
         Binary::Equal => two(dag, Op::Eq, 1, a, b),
@@ -212,7 +225,8 @@ fn different(dag: &mut Dag, a: Wire, b: Wire) -> Result<u64, AllocError>
     requires right { IsWire dag.old b }
     requires same { a.width ≡ b.width }
     ensures keeps { Keeps dag.old dag.new }
-    ensures makes { IfOk result (λ r. Makes dag.new r 1 (λ e. bit (not (nat_eq (number_at e dag.old a.node) (number_at e dag.old b.node))))) }
+    ensures makes { IfOk result (λ r. Makes dag.new r 1
+        (λ e. bit (not (nat_eq (number_at e dag.old a.node) (number_at e dag.old b.node))))) }
 {
     let same = two(dag, Op::Eq, 1, a, b)?;
     let number = inverse(dag, same)?;
@@ -237,7 +251,9 @@ fn both(dag: &mut Dag, op: Op, a: u64, b: u64) -> Result<u64, AllocError>
     requires right { IsNode dag.old b 1 }
     requires fits { FitsOp op 1 1 1 }
     ensures keeps { Keeps dag.old dag.new }
-    ensures makes { IfOk result (λ r. Makes dag.new r 1 (λ e. (op_value op (wire_word e dag.old (record { node = a; width = 1 })) (wire_word e dag.old (record { node = b; width = 1 }))).value)) }
+    ensures makes { IfOk result (λ r. Makes dag.new r 1
+        (λ e. (op_value op (wire_word e dag.old (record { node = a; width = 1 }))
+        (wire_word e dag.old (record { node = b; width = 1 }))).value)) }
 {
     let number = two(
         dag,
@@ -269,7 +285,9 @@ pub fn logic(dag: &mut Dag, op: Binary, a: Wire, b: Wire) -> Result<u64, AllocEr
     requires right { IsWire dag.old b }
     requires family { family_of op ≡ family.Logic }
     ensures keeps { Keeps dag.old dag.new }
-    ensures makes { IfOk result (λ r. Makes dag.new r 1 (λ e. bit (logic_of op (not (nat_eq (number_at e dag.old a.node) 0)) (not (nat_eq (number_at e dag.old b.node) 0))))) }
+    ensures makes { IfOk result (λ r. Makes dag.new r 1
+        (λ e. bit (logic_of op (not (nat_eq (number_at e dag.old a.node) 0))
+        (not (nat_eq (number_at e dag.old b.node) 0))))) }
 {
     let left = truth(dag, a)?;
     let right = truth(dag, b)?;

@@ -27,7 +27,9 @@ pub fn number_node(dag: &mut Dag, number: &Number, here: (u8, bool)) -> Result<u
     requires long { number_width number.now.size ≤ here.0 }
     requires most { here.0 ≤ 64 }
     ensures keeps { Keeps dag.old dag.new }
-    ensures makes { IfOk result (λ r. Makes dag.new r here.0 (λ e. extend here.1 (number_width number.now.size) here.0 (number.now.value % 2 ^ number_width number.now.size))) }
+    ensures makes { IfOk result (λ r. Makes dag.new r here.0
+        (λ e. extend here.1 (number_width number.now.size) here.0
+        (number.now.value % 2 ^ number_width number.now.size))) }
 {
     let width = number_width(number);
     let value = low_bits(number.value, width).value();
@@ -60,7 +62,9 @@ pub fn name_node(
     requires long { (named (declared leaves.now) name.now).width ≤ here.0 }
     requires most { here.0 ≤ 64 }
     ensures keeps { Keeps dag.old dag.new }
-    ensures makes { IfOk result (λ r. Makes dag.new r here.0 (λ e. extend here.1 (named (valued leaves.now (words e dag.old)) name.now).width here.0 (named (valued leaves.now (words e dag.old)) name.now).value)) }
+    ensures makes { IfOk result (λ r. Makes dag.new r here.0
+        (λ e. extend here.1 (named (valued leaves.now (words e dag.old)) name.now).width here.0
+        (named (valued leaves.now (words e dag.old)) name.now).value)) }
 {
     let leaf = leaf_of(name, leaves);
     let wire = Wire {
@@ -89,7 +93,9 @@ fn indexed_at(
     requires low { negsuc (2 ^ 80) ≤ℤ from }
     requires high { from <ℤ pos (2 ^ 80) }
     ensures keeps { Keeps dag.old dag.new }
-    ensures makes { IfOk result (λ r. Makes dag.new r length (λ e. moved_down (integer index.signed index.wire.width (number_at e dag.old index.wire.node) -ℤ from) (number_at e dag.old a.node) % 2 ^ width)) }
+    ensures makes { IfOk result (λ r. Makes dag.new r length
+        (λ e. moved_down (integer index.signed index.wire.width (number_at e dag.old index.wire.node) -ℤ from)
+        (number_at e dag.old a.node) % 2 ^ width)) }
 {
     let bits = indexed(dag, a, index, from, width)?;
     let number = extended(dag, Wire { node: bits, width }, length, false)?;
@@ -147,7 +153,8 @@ pub fn fixed_bits(
     requires low { negsuc (2 ^ 64) ≤ℤ low }
     requires high { low <ℤ pos (2 ^ 64) }
     ensures keeps { Keeps dag.old dag.new }
-    ensures makes { IfOk result (λ r. Makes dag.new r length (λ e. moved_down (low -ℤ pos vector.low) (number_at e dag.old vector.wire.node) % 2 ^ width)) }
+    ensures makes { IfOk result (λ r. Makes dag.new r length
+        (λ e. moved_down (low -ℤ pos vector.low) (number_at e dag.old vector.wire.node) % 2 ^ width)) }
 {
     let bits = moved(dag, vector.wire, low - i128::from(vector.low), width)?;
     let number = extended(dag, Wire { node: bits, width }, length, false)?;
@@ -186,7 +193,9 @@ pub fn based_bits(
     requires long { width ≤ length }
     requires most { length ≤ 64 }
     ensures keeps { Keeps dag.old dag.new }
-    ensures makes { IfOk result (λ r. Makes dag.new r length (λ e. moved_down (part_low span (integer base.signed base.wire.width (number_at e dag.old base.wire.node)) (pos width) -ℤ pos vector.low) (number_at e dag.old vector.wire.node) % 2 ^ width)) }
+    ensures makes { IfOk result (λ r. Makes dag.new r length
+        (λ e. moved_down (part_low span (integer base.signed base.wire.width (number_at e dag.old base.wire.node))
+        (pos width) -ℤ pos vector.low) (number_at e dag.old vector.wire.node) % 2 ^ width)) }
 {
     let start = start_of(span, vector.low, width);
     let number = indexed_at(dag, vector.wire, base, start, width, length)?;
@@ -196,7 +205,11 @@ pub fn based_bits(
 // The value of an expression at the length and the sign at which it is taken, each name having the value 0.
 fn constant_word(expr: &Expr, here: (u8, bool), leaves: &Leaves) -> Result<Word, AllocError>
     requires { IsTaken leaves.now expr.now here.0 here.1 }
-    ensures { IfOk result (λ w. w ≡ record { width = here.0; value = value_of (declared leaves.now) expr.now here.0 here.1 }) }
+    ensures { IfOk result (λ w. w ≡ record {
+      width = here.0;
+      value = value_of
+          (declared leaves.now) expr.now here.0 here.1;
+    }) }
 {
     match evaluated_at(leaves.allocator(), expr, here.0, here.1, leaves.declared())? {
         Some(word) => Ok(word),
@@ -213,7 +226,8 @@ pub fn constant_node(
 ) -> Result<u64, AllocError>
     requires { IsTaken leaves.now expr.now here.0 here.1 }
     ensures keeps { Keeps dag.old dag.new }
-    ensures makes { IfOk result (λ r. Makes dag.new r here.0 (λ e. value_of (declared leaves.now) expr.now here.0 here.1)) }
+    ensures makes { IfOk result (λ r. Makes dag.new r here.0
+        (λ e. value_of (declared leaves.now) expr.now here.0 here.1)) }
 {
     let word = constant_word(expr, here, leaves)?;
     let number = constant(dag, here.0, word.value())?;

@@ -16,7 +16,8 @@ use word_dag::{Dag, Op};
 fn is_ones(dag: &mut Dag, a: Wire) -> Result<u64, AllocError>
     requires { IsWire dag.old a }
     ensures keeps { Keeps dag.old dag.new }
-    ensures makes { IfOk result (λ r. Makes dag.new r 1 (λ e. bit (nat_eq (number_at e dag.old a.node) (2 ^ a.width - 1)))) }
+    ensures makes { IfOk result (λ r. Makes dag.new r 1
+        (λ e. bit (nat_eq (number_at e dag.old a.node) (2 ^ a.width - 1)))) }
 {
     let width = length_of(dag, a);
     let zeros = turned(dag, a)?;
@@ -31,7 +32,8 @@ fn with_bit(dag: &mut Dag, a: Wire, odd: u64, i: u8) -> Result<u64, AllocError>
     requires odd { IsNode dag.old odd 1 }
     requires within { i < a.width }
     ensures keeps { Keeps dag.old dag.new }
-    ensures makes { IfOk result (λ r. Makes dag.new r 1 (λ e. bit_xor (number_at e dag.old odd) (number_at e dag.old a.node / 2 ^ i % 2 ^ 1))) }
+    ensures makes { IfOk result (λ r. Makes dag.new r 1
+        (λ e. bit_xor (number_at e dag.old odd) (number_at e dag.old a.node / 2 ^ i % 2 ^ 1))) }
 {
     let bit = slice(dag, a, i, 1)?;
     let number = two(
@@ -81,7 +83,8 @@ fn even(dag: &mut Dag, a: Wire) -> Result<u64, AllocError>
 fn not_ones(dag: &mut Dag, a: Wire) -> Result<u64, AllocError>
     requires { IsWire dag.old a }
     ensures keeps { Keeps dag.old dag.new }
-    ensures makes { IfOk result (λ r. Makes dag.new r 1 (λ e. bit (not (nat_eq (number_at e dag.old a.node) (2 ^ a.width - 1))))) }
+    ensures makes { IfOk result (λ r. Makes dag.new r 1
+        (λ e. bit (not (nat_eq (number_at e dag.old a.node) (2 ^ a.width - 1))))) }
 {
     let ones = is_ones(dag, a)?;
     let number = inverse(dag, ones)?;
@@ -94,7 +97,8 @@ pub fn reduction(dag: &mut Dag, op: Unary, a: Wire) -> Result<u64, AllocError>
     requires node { IsWire dag.old a }
     requires reduction { is_reduction op ≡ true }
     ensures keeps { Keeps dag.old dag.new }
-    ensures makes { IfOk result (λ r. Makes dag.new r 1 (λ e. bit (reduction_of op a.width (number_at e dag.old a.node)))) }
+    ensures makes { IfOk result (λ r. Makes dag.new r 1
+        (λ e. bit (reduction_of op a.width (number_at e dag.old a.node)))) }
 {
     match op {
         Unary::LogicalNot => is_zero(dag, a),
@@ -113,7 +117,8 @@ pub fn reduction(dag: &mut Dag, op: Unary, a: Wire) -> Result<u64, AllocError>
 fn negated(dag: &mut Dag, a: Wire) -> Result<u64, AllocError>
     requires { IsWire dag.old a }
     ensures keeps { Keeps dag.old dag.new }
-    ensures makes { IfOk result (λ r. Makes dag.new r a.width (λ e. (2 ^ a.width - number_at e dag.old a.node) % 2 ^ a.width)) }
+    ensures makes { IfOk result (λ r. Makes dag.new r a.width
+        (λ e. (2 ^ a.width - number_at e dag.old a.node) % 2 ^ a.width)) }
 {
     let width = length_of(dag, a);
     let zero = constant(dag, width, 0)?;
@@ -137,7 +142,8 @@ pub fn sign_change(dag: &mut Dag, op: Unary, a: Wire) -> Result<u64, AllocError>
     requires node { IsWire dag.old a }
     requires change { is_reduction op ≡ false }
     ensures keeps { Keeps dag.old dag.new }
-    ensures makes { IfOk result (λ r. Makes dag.new r a.width (λ e. sign_change_of op a.width (number_at e dag.old a.node))) }
+    ensures makes { IfOk result (λ r. Makes dag.new r a.width
+        (λ e. sign_change_of op a.width (number_at e dag.old a.node))) }
 {
     match op {
         Unary::Plus => same(dag, a),

@@ -75,8 +75,10 @@ fn part_length(
     requires first { NeedsBound (declared leaves.now) a.now span }
     requires formed { IsFormed (declared leaves.now) b.now }
     requires defined { IsTrue (own_defined (operand_of (declared leaves.now) b.now)) }
-    requires length { IsLength (part_width span (own_integer (operand_of (declared leaves.now) a.now)) (own_integer (operand_of (declared leaves.now) b.now))) }
-    ensures { IfOk result (λ n. n ≡ part_width span (own_integer (operand_of (declared leaves.now) a.now)) (own_integer (operand_of (declared leaves.now) b.now))) }
+    requires length { IsLength (part_width span (own_integer (operand_of (declared leaves.now) a.now))
+        (own_integer (operand_of (declared leaves.now) b.now))) }
+    ensures { IfOk result (λ n. n ≡ part_width span (own_integer (operand_of (declared leaves.now) a.now))
+        (own_integer (operand_of (declared leaves.now) b.now))) }
 {
     let second = own_number(b, leaves)?;
     if is_fixed(span) {

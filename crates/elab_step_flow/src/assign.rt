@@ -28,7 +28,8 @@ fn assign_part(
     requires narrow { AreNarrow scope.now }
     requires ready { IsPartReady (part_meant part) }
     requires sized { IsSized (length scope.now) flow.old }
-    ensures set { OnOk result (PartsSet scope.now (part_meant part.entry ∷ []) sources.now (tables flow.old) (tables flow.new)) }
+    ensures set { OnOk result (PartsSet scope.now (part_meant part.entry ∷ []) sources.now (tables flow.old)
+        (tables flow.new)) }
     ensures sized { OnOk result (IsSized (length scope.now) flow.new) }
 {
     if let Some(place) = place_of(scope.list(), scope.names(), part) {
@@ -49,7 +50,8 @@ fn assign_parts(
     requires narrow { AreNarrow scope.now }
     requires ready { (q : Left) → Among (map part_meant parts.now) q → IsPartReady q }
     requires sized { IsSized (length scope.now) flow.old }
-    ensures set { OnOk result (PartsSet scope.now (map part_meant parts.now) sources.now (tables flow.old) (tables flow.new)) }
+    ensures set { OnOk result (PartsSet scope.now (map part_meant parts.now) sources.now (tables flow.old)
+        (tables flow.new)) }
     ensures sized { OnOk result (IsSized (length scope.now) flow.new) }
 {
     for part in parts {

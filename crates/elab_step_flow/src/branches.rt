@@ -99,8 +99,10 @@ impl Branches {
         requires sized { IsSized (length flow.now.unset.items) flow.now }
         requires within { (i : ℕ) → Among places.now i → i < length flow.now.unset.items }
         requires reads { reads ≤ length flow.now.outside.items }
-        ensures spots { OnOk result (SpotsAdded places.now (tables flow.now) self.old.spots.items self.new.spots.items) }
-        ensures common { OnOk result ((i : ℕ) → Among self.new.common.items i ↔ (Among self.old.common.items i × Among places.now i)) }
+        ensures spots { OnOk result (SpotsAdded places.now
+            (tables flow.now) self.old.spots.items self.new.spots.items) }
+        ensures common { OnOk result ((i : ℕ) → Among self.new.common.items i ↔
+            (Among self.old.common.items i × Among places.now i)) }
         ensures outside { OnOk result (self.new.outside.items ≡ self.old.outside.items ++ drop reads flow.now.outside.items) }
     {
         add_spots(&mut self.spots, alloc, flow, places)?;

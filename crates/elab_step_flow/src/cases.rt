@@ -80,7 +80,8 @@ fn is_constant(alloc: Global, expr: &Expr) -> Result<bool, AllocError>
 }
 
 fn are_constant(alloc: Global, labels: &[&Expr]) -> Result<bool, AllocError>
-    ensures { IfOk result (λ r. MatchBool r (AreConstant (map expr_meant labels.now)) (AreConstant (map expr_meant labels.now) → ⊥)) }
+    ensures { IfOk result (λ r. MatchBool r (AreConstant (map expr_meant labels.now))
+        (AreConstant (map expr_meant labels.now) → ⊥)) }
 {
     for label in labels {
         if !is_constant(alloc, label)? {
@@ -167,7 +168,8 @@ fn values_of(
     requires long { (b : Text) → Among (map expr_meant labels.now) b → width_of valuation.now b ≤ length }
     requires defined { (b : Text) → Among (map expr_meant labels.now) b → IsDefined valuation.now b length signed }
     requires most { length ≤ 64 }
-    ensures { IfOk result (λ r. AreValues valuation.now length signed (map expr_meant labels.now) (λ x. contains nat_eq r x)) }
+    ensures { IfOk result (λ r. AreValues valuation.now length signed (map expr_meant labels.now)
+        (λ x. contains nat_eq r x)) }
 {
     let mut values = HashSet::new(alloc);
     for label in labels {
@@ -200,7 +202,8 @@ fn has_all(values: &HashSet<u64>, width: u8, length: u8, signed: bool) -> bool
     requires some { 1 ≤ width }
     requires long { width ≤ length }
     requires most { length ≤ 64 }
-    ensures { MatchBool result (HasAll width length signed (λ x. contains nat_eq values.now x)) (HasAll width length signed (λ x. contains nat_eq values.now x) → ⊥) }
+    ensures { MatchBool result (HasAll width length signed (λ x. contains nat_eq values.now x))
+        (HasAll width length signed (λ x. contains nat_eq values.now x) → ⊥) }
 {
     for number in 0..count_of(width) {
         if !values.contains(&extended(number as u64, width, length, signed)) {
@@ -237,7 +240,8 @@ fn covers_all(
     valuation: &Valuation,
 ) -> Result<bool, AllocError>
     requires { IsComparable valuation.now subject.now (map expr_meant labels.now) }
-    ensures { IfOk result (λ r. MatchBool r (CoversAll valuation.now subject.now (map expr_meant labels.now)) (CoversAll valuation.now subject.now (map expr_meant labels.now) → ⊥)) }
+    ensures { IfOk result (λ r. MatchBool r (CoversAll valuation.now subject.now (map expr_meant labels.now))
+        (CoversAll valuation.now subject.now (map expr_meant labels.now) → ⊥)) }
 {
     let own = shape(alloc, subject, valuation)?;
     let common = compared_at(alloc, own, labels, valuation)?;
@@ -261,7 +265,8 @@ pub fn is_full(
     scope: &Scope<'_>,
 ) -> Result<bool, AllocError>
     requires { IsComparable (at_rest scope.now) subject.now (map expr_meant labels.now) }
-    ensures { IfOk result (λ r. MatchBool r (IsFull (place_over scope.now) kind subject.now (map expr_meant labels.now)) (IsFull (place_over scope.now) kind subject.now (map expr_meant labels.now) → ⊥)) }
+    ensures { IfOk result (λ r. MatchBool r (IsFull (place_over scope.now) kind subject.now (map expr_meant labels.now))
+        (IsFull (place_over scope.now) kind subject.now (map expr_meant labels.now) → ⊥)) }
 {
     match kind {
         CaseKind::Case => {

@@ -80,7 +80,8 @@ pub fn assigns_edges(
 // ---- combinational blocks
 
 fn add_rows(all: &mut Vec<Edge>, rows: &[Vec<usize>]) -> Result<(), AllocError>
-    ensures { OnOk result ((e : Arrow) → Among all.new.items e ↔ (Among all.old.items e ⊎ IsInRows (length rows.now) (λ i. successors (graph_of rows.now) i) e)) }
+    ensures { OnOk result ((e : Arrow) → Among all.new.items e ↔
+        (Among all.old.items e ⊎ IsInRows (length rows.now) (λ i. successors (graph_of rows.now) i) e)) }
 {
     for from in 0..rows.len() {
         add_edges(all, from, &rows[from])?;
@@ -96,7 +97,8 @@ fn add_block_edges(
 ) -> Result<(), AllocError>
     requires signals { AreVectors scope.now }
     requires body { block.now.clocked ≡ false → IsPassable scope.now block.now.body }
-    ensures { OnOk result ((e : Arrow) → Among all.new.items e ↔ (Among all.old.items e ⊎ IsBlockEdge scope.now block.now e)) }
+    ensures { OnOk result ((e : Arrow) → Among all.new.items e ↔
+        (Among all.old.items e ⊎ IsBlockEdge scope.now block.now e)) }
 {
     if !block.clocked {
         let flow = flow_of(alloc, scope, &block.body)?;
@@ -128,7 +130,8 @@ fn add_own_edges(
 ) -> Result<(), AllocError>
     requires signals { AreVectors scope.now }
     requires body { block.now.clocked ≡ false → IsPassable scope.now block.now.body }
-    ensures { OnOk result ((e : Arrow) → Among all.new.items e ↔ (Among all.old.items e ⊎ IsBlockEdge scope.now block.now e)) }
+    ensures { OnOk result ((e : Arrow) → Among all.new.items e ↔
+        (Among all.old.items e ⊎ IsBlockEdge scope.now block.now e)) }
 {
     if !block.clocked {
         let own = own_signals(alloc, scope, &block.body)?;
@@ -149,7 +152,8 @@ pub fn add_blocks_edges(
 ) -> Result<(), AllocError>
     requires signals { AreVectors scope.now }
     requires blocks { ArePassable scope.now blocks.now }
-    ensures { OnOk result ((e : Arrow) → Among all.new.items e ↔ (Among all.old.items e ⊎ AnyBlockEdge scope.now blocks.now e)) }
+    ensures { OnOk result ((e : Arrow) → Among all.new.items e ↔
+        (Among all.old.items e ⊎ AnyBlockEdge scope.now blocks.now e)) }
 {
     for block in blocks {
         add_own_edges(all, alloc, scope, block)?;

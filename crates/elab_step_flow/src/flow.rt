@@ -48,7 +48,8 @@ fn is_open(words: &[u64], place: usize) -> bool
 fn add_count(all: &mut Vec<usize>, flow: &BlockFlow, place: usize) -> Result<(), AllocError>
     requires sized { IsSized (length flow.now.unset.items) flow.now }
     requires within { place < length flow.now.unset.items }
-    ensures { OnOk result ((z : ℕ) → Among all.new.items z ↔ (Among all.old.items z ⊎ CountsIn (place ∷ []) (tables flow.now) z)) }
+    ensures { OnOk result ((z : ℕ) → Among all.new.items z ↔
+        (Among all.old.items z ⊎ CountsIn (place ∷ []) (tables flow.now) z)) }
 {
     all.extend_from_slice(&flow.through[place])?;
     if is_open(&flow.unset, place) {
@@ -61,7 +62,8 @@ fn add_count(all: &mut Vec<usize>, flow: &BlockFlow, place: usize) -> Result<(),
 fn add_counts(all: &mut Vec<usize>, flow: &BlockFlow, read: &[usize]) -> Result<(), AllocError>
     requires sized { IsSized (length flow.now.unset.items) flow.now }
     requires within { (i : ℕ) → Among read.now i → i < length flow.now.unset.items }
-    ensures { OnOk result ((z : ℕ) → Among all.new.items z ↔ (Among all.old.items z ⊎ CountsIn read.now (tables flow.now) z)) }
+    ensures { OnOk result ((z : ℕ) → Among all.new.items z ↔
+        (Among all.old.items z ⊎ CountsIn read.now (tables flow.now) z)) }
 {
     for place in read {
         add_count(all, flow, *place)?;
@@ -72,7 +74,8 @@ fn add_counts(all: &mut Vec<usize>, flow: &BlockFlow, read: &[usize]) -> Result<
 // Adds those of some places whose words have a bit.
 fn add_open(all: &mut Vec<usize>, words: &[u64], places: &[usize]) -> Result<(), AllocError>
     requires { (i : ℕ) → Among places.now i → i < length words.now }
-    ensures opens { OnOk result ((i : ℕ) → Among all.new.items i ↔ (Among all.old.items i ⊎ (Among places.now i × (is_open (slice_index words.now i) ≡ true)))) }
+    ensures opens { OnOk result ((i : ℕ) → Among all.new.items i ↔
+        (Among all.old.items i ⊎ (Among places.now i × (is_open (slice_index words.now i) ≡ true)))) }
     ensures grows { OnOk result ((more : List ℕ) × (all.new.items ≡ all.old.items ++ more)) }
 {
     for place in places {
@@ -129,11 +132,16 @@ impl BlockFlow {
     pub fn set(&mut self, place: usize, word: u64, sources: &[usize]) -> Result<(), AllocError>
         requires sized { IsSized (length self.old.unset.items) self.old }
         requires within { place < length self.old.unset.items }
-        ensures cleared { OnOk result ((b : ℕ) → b < 64 → HasBit (tables self.new).unset place b ↔ (HasBit (tables self.old).unset place b × (bit_at word b ≡ 1 → ⊥))) }
-        ensures kept { OnOk result ((b : ℕ) → HasBit (tables self.new).unset place b → HasBit (tables self.old).unset place b) }
-        ensures row { OnOk result ((j : ℕ) → Among ((tables self.new).through place) j ↔ (Among ((tables self.old).through place) j ⊎ Among sources.now j)) }
-        ensures words { OnOk result ((i : ℕ) → (place ≡ i → ⊥) → (tables self.new).unset i ≡ (tables self.old).unset i) }
-        ensures rows { OnOk result ((i : ℕ) → (place ≡ i → ⊥) → (tables self.new).through i ≡ (tables self.old).through i) }
+        ensures cleared { OnOk result ((b : ℕ) → b < 64 → HasBit (tables self.new).unset place b ↔
+            (HasBit (tables self.old).unset place b × (bit_at word b ≡ 1 → ⊥))) }
+        ensures kept { OnOk result ((b : ℕ) → HasBit (tables self.new).unset place b →
+            HasBit (tables self.old).unset place b) }
+        ensures row { OnOk result ((j : ℕ) → Among ((tables self.new).through place) j ↔
+            (Among ((tables self.old).through place) j ⊎ Among sources.now j)) }
+        ensures words { OnOk result ((i : ℕ) → (place ≡ i → ⊥) →
+            (tables self.new).unset i ≡ (tables self.old).unset i) }
+        ensures rows { OnOk result ((i : ℕ) → (place ≡ i → ⊥) →
+            (tables self.new).through i ≡ (tables self.old).through i) }
         ensures outside { self.new.outside ≡ self.old.outside }
         ensures sized { IsSized (length self.old.unset.items) self.new }
     {

@@ -32,7 +32,8 @@ fn add_edge(graph: &mut Vec<Vec<usize>>, edge: Edge) -> Result<(), AllocError>
 fn graph_from(alloc: Global, barred: &[bool], edges: &[Edge]) -> Result<Vec<Vec<usize>>, AllocError>
     requires { (e : Arrow) → Among edges.now e → e.from < length barred.now }
     ensures size { IfOk result (λ r. length r.items ≡ length barred.now) }
-    ensures edges { IfOk result (λ r. (i j : ℕ) → Lists (successors (graph_of r.items) i) j ↔ ((Has barred.now i → ⊥) × Among edges.now (edge i j))) }
+    ensures edges { IfOk result (λ r. (i j : ℕ) → Lists (successors (graph_of r.items) i) j ↔
+        ((Has barred.now i → ⊥) × Among edges.now (edge i j))) }
 {
     let mut graph = empty_rows(alloc, barred.len())?;
     for edge in edges {

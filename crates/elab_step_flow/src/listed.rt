@@ -42,8 +42,10 @@ fn is_listed(listed: &Names<'_>, signals: &[Signal], place: usize) -> bool
 // The first of some places whose signal isn't listed.
 fn absent(places: &[usize], signals: &[Signal], listed: &Names<'_>) -> Option<usize>
     requires { (i : ℕ) → Among places.now i → i < length signals.now }
-    ensures some { IfSome result (λ i. OfSignal signals.now i (λ x. Among places.now i × (is_among listed.now x ≡ false))) }
-    ensures none { IfNone result ((i : ℕ) (x : Name) → IsAt signals.now i x → Among places.now i → is_among listed.now x ≡ true) }
+    ensures some { IfSome result (λ i. OfSignal signals.now i (λ x. Among places.now i ×
+        (is_among listed.now x ≡ false))) }
+    ensures none { IfNone result ((i : ℕ) (x : Name) → IsAt signals.now i x → Among places.now i →
+        is_among listed.now x ≡ true) }
 {
     for place in places {
         if !is_listed(listed, signals, *place) {
@@ -62,8 +64,10 @@ fn unlisted_by(
 ) -> Result<Option<usize>, AllocError>
     requires signals { AreVectors scope.now }
     requires body { IsPassable scope.now body.now }
-    ensures some { IfOk result (λ o. IfSome o (λ i. OfSignal scope.now i (ReadsBesides (place_over scope.now) body.now listed.now))) }
-    ensures none { IfOk result (λ o. IfNone o ((x : Name) → ReadsBesides (place_over scope.now) body.now listed.now x → ⊥)) }
+    ensures some { IfOk result (λ o. IfSome o
+        (λ i. OfSignal scope.now i (ReadsBesides (place_over scope.now) body.now listed.now))) }
+    ensures none { IfOk result (λ o. IfNone o ((x : Name) → ReadsBesides (place_over scope.now) body.now listed.now x →
+        ⊥)) }
 {
     let mut flow = flow_of(alloc, scope, body)?;
     put_in_order(&mut flow.outside);
@@ -81,8 +85,10 @@ fn unlisted_of_list(
 ) -> Result<Option<usize>, AllocError>
     requires vectors { AreVectors list.now }
     requires body { IsPassable list.now body.now }
-    ensures some { IfOk result (λ o. IfSome o (λ i. OfSignal list.now i (ReadsBesides (place_over list.now) body.now listed.now))) }
-    ensures none { IfOk result (λ o. IfNone o ((x : Name) → ReadsBesides (place_over list.now) body.now listed.now x → ⊥)) }
+    ensures some { IfOk result (λ o. IfSome o
+        (λ i. OfSignal list.now i (ReadsBesides (place_over list.now) body.now listed.now))) }
+    ensures none { IfOk result (λ o. IfNone o ((x : Name) → ReadsBesides (place_over list.now) body.now listed.now x →
+        ⊥)) }
 {
     let scope = Scope::of(alloc, list)?;
     unlisted_by(alloc, &scope, body, listed)
@@ -97,8 +103,10 @@ fn unlisted_among_own(
 ) -> Result<Option<usize>, AllocError>
     requires signals { AreVectors scope.now }
     requires body { IsPassable scope.now body.now }
-    ensures some { IfOk result (λ o. IfSome o (λ i. OfSignal scope.now i (ReadsBesides (place_over scope.now) body.now listed.now))) }
-    ensures none { IfOk result (λ o. IfNone o ((x : Name) → ReadsBesides (place_over scope.now) body.now listed.now x → ⊥)) }
+    ensures some { IfOk result (λ o. IfSome o
+        (λ i. OfSignal scope.now i (ReadsBesides (place_over scope.now) body.now listed.now))) }
+    ensures none { IfOk result (λ o. IfNone o ((x : Name) → ReadsBesides (place_over scope.now) body.now listed.now x →
+        ⊥)) }
 {
     let own = own_signals(alloc, scope, body)?;
     match unlisted_of_list(alloc, &own.signals, body, listed)? {

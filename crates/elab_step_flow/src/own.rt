@@ -39,7 +39,8 @@ fn add_sides<'a>(
     left: &'a Lval,
     right: &'a Expr,
 ) -> Result<(), AllocError>
-    ensures { OnOk result (map part_meant all.new.items ≡ map part_meant all.old.items ++ (parts_of left.now ++ (left_reads left.now ++ reads_of right.now))) }
+    ensures { OnOk result (map part_meant all.new.items ≡ map part_meant all.old.items ++
+        (parts_of left.now ++ (left_reads left.now ++ reads_of right.now))) }
 {
     add_parts(all, left)?;
     add_store_reads(all, alloc, left, right)
@@ -51,7 +52,8 @@ fn add_piece_parts<'a>(
     alloc: Global,
     piece: Piece<'a>,
 ) -> Result<(), AllocError>
-    ensures { OnOk result (map part_meant all.new.items ≡ map part_meant all.old.items ++ action_parts (piece_meant piece.entry)) }
+    ensures { OnOk result (map part_meant all.new.items ≡ map part_meant all.old.items ++ action_parts
+        (piece_meant piece.entry)) }
 {
     match piece {
         Piece::Test(expr) => add_reads(all, expr),
@@ -75,7 +77,8 @@ fn named_parts(alloc: Global, body: &Stmt) -> Result<Vec<Part<'_>>, AllocError>
 // The places of a statement's names, in their order.
 fn named(alloc: Global, scope: &Scope<'_>, body: &Stmt) -> Result<Vec<usize>, AllocError>
     ensures rises { IfOk result (λ r. IsStrictlyIncreasing r.items) }
-    ensures named { IfOk result (λ r. (i : ℕ) → Among r.items i ↔ IsPlaceOf (map signal_name scope.now) (names_of body.now) i) }
+    ensures named { IfOk result (λ r. (i : ℕ) → Among r.items i ↔
+        IsPlaceOf (map signal_name scope.now) (names_of body.now) i) }
 {
     let parts = named_parts(alloc, body)?;
     let mut places = places_of(alloc, scope.names(), &parts)?;

@@ -38,8 +38,10 @@ pub fn pass_assignment(
     requires narrow { AreNarrow scope.now }
     requires ready { (q : Left) → Among (parts_of left.now) q → IsPartReady q }
     requires sized { IsSized (length scope.now) flow.old }
-    ensures assigned { OnOk result (AssignTo scope.now around.now left.now right.now (tables flow.old) (tables flow.new)) }
-    ensures changes { OnOk result (ChangesAt (λ i. AnyAt scope.now (parts_of left.now) i) (tables flow.old) (tables flow.new)) }
+    ensures assigned { OnOk result (AssignTo scope.now around.now left.now right.now (tables flow.old)
+        (tables flow.new)) }
+    ensures changes { OnOk result (ChangesAt (λ i. AnyAt scope.now (parts_of left.now) i) (tables flow.old)
+        (tables flow.new)) }
     ensures sized { OnOk result (IsSized (length scope.now) flow.new) }
 {
     let alloc = flow.allocator();
@@ -57,7 +59,8 @@ fn enter_test(
 ) -> Result<Vec<usize>, AllocError>
     requires distinct { AreDistinct scope.now }
     requires sized { IsSized (length scope.now) flow.old }
-    ensures enters { IfOk result (λ r. EnterTo scope.now around.now (test.now ∷ []) (tables flow.old) (tables flow.new) r.items) }
+    ensures enters { IfOk result (λ r. EnterTo scope.now around.now (test.now ∷ []) (tables flow.old)
+        (tables flow.new) r.items) }
     ensures changes { OnOk result (ChangesAt (λ i. ⊥) (tables flow.old) (tables flow.new)) }
     ensures sized { OnOk result (IsSized (length scope.now) flow.new) }
 {
@@ -75,7 +78,8 @@ fn branches_of(
     past: bool,
 ) -> Result<Branches, AllocError>
     ensures spots { IfOk result (λ r. r.spots.items ≡ []) }
-    ensures common { IfOk result (λ r. (i : ℕ) → Among r.common.items i ↔ ((past ≡ false) × IsAssigned scope.now stmt.now i)) }
+    ensures common { IfOk result (λ r. (i : ℕ) → Among r.common.items i ↔
+        ((past ≡ false) × IsAssigned scope.now stmt.now i)) }
     ensures outside { IfOk result (λ r. r.outside.items ≡ []) }
 {
     if past {
@@ -105,7 +109,8 @@ impl<'a> Case<'a> {
     ) -> Result<Vec<usize>, AllocError>
         requires distinct { AreDistinct scope.now }
         requires sized { IsSized (length scope.now) flow.old }
-        ensures enters { IfOk result (λ r. EnterTo scope.now around.now (self.now.subject.now ∷ map expr_meant self.now.labels.now) (tables flow.old) (tables flow.new) r.items) }
+        ensures enters { IfOk result (λ r. EnterTo scope.now around.now
+            (self.now.subject.now ∷ map expr_meant self.now.labels.now) (tables flow.old) (tables flow.new) r.items) }
         ensures changes { OnOk result (ChangesAt (λ i. ⊥) (tables flow.old) (tables flow.new)) }
         ensures sized { OnOk result (IsSized (length scope.now) flow.new) }
     {
@@ -138,7 +143,9 @@ impl<'a> Case<'a> {
         requires labels { map expr_meant self.now.labels.now ≡ labels_of self.now.items.now }
         requires ready { IsComparable (at_rest scope.now) self.now.subject.now (labels_of self.now.items.now) }
         ensures spots { IfOk result (λ r. r.spots.items ≡ []) }
-        ensures common { IfOk result (λ r. (past : Bool) × MatchBool past (LeadsPastEach scope.now self.now.kind self.now.subject.now self.now.items.now) (LeadsPastEach scope.now self.now.kind self.now.subject.now self.now.items.now → ⊥)
+        ensures common { IfOk result (λ r. (past : Bool) ×
+            MatchBool past (LeadsPastEach scope.now self.now.kind self.now.subject.now self.now.items.now)
+            (LeadsPastEach scope.now self.now.kind self.now.subject.now self.now.items.now → ⊥)
             × ((i : ℕ) → Among r.common.items i ↔ ((past ≡ false) × IsAssigned scope.now stmt.now i))) }
         ensures outside { IfOk result (λ r. r.outside.items ≡ []) }
     {
@@ -161,7 +168,8 @@ pub fn pass(
     requires ready { IsReady scope.now stmt.now }
     requires sized { IsSized (length scope.now) flow.old }
     ensures passes { OnOk result (Passes scope.now around.now stmt.now (tables flow.old) (tables flow.new)) }
-    ensures changes { OnOk result (ChangesAt (λ i. IsAssigned scope.now stmt.now i) (tables flow.old) (tables flow.new)) }
+    ensures changes { OnOk result (ChangesAt (λ i. IsAssigned scope.now stmt.now i) (tables flow.old)
+        (tables flow.new)) }
     ensures sized { OnOk result (IsSized (length scope.now) flow.new) }
 {
     let alloc = flow.allocator();
@@ -217,7 +225,8 @@ fn pass_row(
     requires ready { EachReady scope.now stmts.now }
     requires sized { IsSized (length scope.now) flow.old }
     ensures passes { OnOk result (EachPasses scope.now around.now stmts.now (tables flow.old) (tables flow.new)) }
-    ensures changes { OnOk result (ChangesAt (λ i. AnyAssigned scope.now stmts.now i) (tables flow.old) (tables flow.new)) }
+    ensures changes { OnOk result (ChangesAt (λ i. AnyAssigned scope.now stmts.now i) (tables flow.old)
+        (tables flow.new)) }
     ensures sized { OnOk result (IsSized (length scope.now) flow.new) }
 {
     for stmt in stmts {
@@ -239,7 +248,8 @@ fn pass_branch(
     requires narrow { AreNarrow scope.now }
     requires ready { IsReady scope.now body.now }
     requires sized { IsSized (length scope.now) flow.old }
-    ensures branch { OnOk result ((u : Known) × Passes scope.now around.now body.now (tables flow.old) u × BranchTo scope.now body.now (tables flow.old) u branches.old branches.new) }
+    ensures branch { OnOk result ((u : Known) × Passes scope.now around.now body.now (tables flow.old) u ×
+        BranchTo scope.now body.now (tables flow.old) u branches.old branches.new) }
     ensures back { OnOk result (tables flow.new ≡ tables flow.old) }
     ensures sized { OnOk result (IsSized (length scope.now) flow.new) }
 {
@@ -269,7 +279,9 @@ fn pass_items(
     requires sized { IsSized (length scope.now) flow.old }
     requires spots { branches.old.spots.items ≡ [] }
     requires outside { branches.old.outside.items ≡ [] }
-    ensures items { OnOk result ((us : List Known) × EachItemPasses scope.now around.now items.now (tables flow.old) us × Gathered scope.now (bodies_of items.now) (tables flow.old) us branches.old.common.items branches.new) }
+    ensures items { OnOk result ((us : List Known) ×
+        EachItemPasses scope.now around.now items.now (tables flow.old) us ×
+        Gathered scope.now (bodies_of items.now) (tables flow.old) us branches.old.common.items branches.new) }
     ensures back { OnOk result (tables flow.new ≡ tables flow.old) }
     ensures sized { OnOk result (IsSized (length scope.now) flow.new) }
 {

@@ -78,7 +78,8 @@ pub fn places_tested(
 
 // Adds what expressions read.
 fn add_all_reads<'a>(all: &mut Vec<Part<'a>>, exprs: &[&'a Expr]) -> Result<(), AllocError>
-    ensures { OnOk result (map part_meant all.new.items ≡ map part_meant all.old.items ++ flat_map reads_of (map expr_meant exprs.now)) }
+    ensures { OnOk result (map part_meant all.new.items ≡ map part_meant all.old.items ++ flat_map reads_of
+        (map expr_meant exprs.now)) }
 {
     for expr in exprs {
         add_reads(all, *expr)?;
@@ -106,7 +107,8 @@ pub fn places_compared(
 
 // Adds the parts of signals that a statement assigns at one place of its text.
 fn add_assigned<'a>(all: &mut Vec<Part<'a>>, piece: Piece<'a>) -> Result<(), AllocError>
-    ensures { OnOk result (map part_meant all.new.items ≡ map part_meant all.old.items ++ assigned_by (piece_meant piece.entry)) }
+    ensures { OnOk result (map part_meant all.new.items ≡ map part_meant all.old.items ++ assigned_by
+        (piece_meant piece.entry)) }
 {
     match piece {
         Piece::Test(_) => Ok(()),

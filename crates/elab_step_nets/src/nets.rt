@@ -54,7 +54,8 @@ fn run_assign(
     ensures keeps { Keeps dag.old dag.new }
     ensures same { declared state.new ≡ declared state.old }
     ensures board { IfOk result (λ u. IsBoard flat.now.signals state.new dag.new) }
-    ensures shows { IfOk result (λ u. Shows (λ c. run true (flat_place flat.now) (statement_at (statements flat.now) place) c c) state.old dag.old state.new dag.new) }
+    ensures shows { IfOk result (λ u. Shows (λ c. run true (flat_place flat.now)
+        (statement_at (statements flat.now) place) c c) state.old dag.old state.new dag.new) }
 {
     let text = &flat.assigns.as_slice()[place];
     assign(alloc, dag, &text.left, &text.right, None, state)?;
@@ -112,7 +113,8 @@ fn drive_assign(
     ensures keeps { Keeps dag.old dag.new }
     ensures long { IfOk result (λ u. length state.new ≡ length state.old) }
     ensures board { IfOk result (λ u. IsBoard flat.now.signals state.new dag.new) }
-    ensures shows { IfOk result (λ u. Shows (driven_by flat.now nets.now (statement_at (statements flat.now) place)) state.old dag.old state.new dag.new) }
+    ensures shows { IfOk result (λ u. Shows (driven_by flat.now nets.now
+        (statement_at (statements flat.now) place)) state.old dag.old state.new dag.new) }
 {
     let alloc = state.allocator();
     let before = saved_for_assign(alloc, flat, place, state)?;
@@ -147,7 +149,8 @@ fn outcomes_of(flat: &Flat, source: &mut Dag, first: &Leaves) -> Result<Vec<Outc
 fn processes_of<'a>(alloc: Global, flat: &'a Flat) -> Result<Processes<'a>, AllocError>
     requires { CanElaborate flat.now }
     ensures flat { IfOk result (λ p. p.flat.now ≡ flat.now) }
-    ensures ready { IfOk result (λ p. (ls : List OneLeaf) (ns : List OneNode) → IsBoard flat.now.signals ls ns → AreProcesses p ls ns) }
+    ensures ready { IfOk result (λ p. (ls : List OneLeaf) (ns : List OneNode) → IsBoard flat.now.signals ls ns →
+        AreProcesses p ls ns) }
 {
     let count = flat.signals.len();
     let mut source = Dag::new(alloc);
@@ -167,7 +170,8 @@ fn processes_of<'a>(alloc: Global, flat: &'a Flat) -> Result<Processes<'a>, Allo
 fn roots_of(first: &Leaves, outcome: &Outcome, places: &[usize]) -> Result<Vec<u64>, AllocError>
     requires within { AreWithin first.now places.now }
     requires outcome { IsFound outcome.now }
-    ensures { IfOk result (λ r. (ns : List OneNode) (body : OneStmt) → AreReady first.now ns → IsOutcome first.now ns body outcome.now → AreRoots first.now ns body places.now r.items) }
+    ensures { IfOk result (λ r. (ns : List OneNode) (body : OneStmt) → AreReady first.now ns →
+        IsOutcome first.now ns body outcome.now → AreRoots first.now ns body places.now r.items) }
 {
     let mut roots = Vec::new(first.allocator());
     for place in places {
@@ -202,7 +206,8 @@ impl Processes<'_> {
         requires sound { IsSound self.old.copier (length state.now) }
         requires nets { AreWithin state.now nets.now }
         ensures same { IfOk result (λ u. AreSameProcesses self.old self.new) }
-        ensures processes { IfOk result (λ u. (ls : List OneLeaf) (a b : List OneNode) → AreProcesses self.old ls a → AreMoved nets.now ls a state.now b → AreProcesses self.new state.now b) }
+        ensures processes { IfOk result (λ u. (ls : List OneLeaf) (a b : List OneNode) → AreProcesses self.old ls a →
+            AreMoved nets.now ls a state.now b → AreProcesses self.new state.now b) }
     {
         self.copier.renew(state.allocator(), state, nets)?;
         Ok(())
@@ -218,9 +223,11 @@ fn drive_block(
     state: &mut Leaves,
 ) -> Result<(), AllocError>
     requires ready { CanDrive text.old state.old dag.old nets.now }
-    requires block { (at < length text.old.flat.now.blocks) × ((k : Always) → k ≡ get_or text.old.flat.now.blocks at k → k.clocked ≡ false) }
+    requires block { (at < length text.old.flat.now.blocks) ×
+        ((k : Always) → k ≡ get_or text.old.flat.now.blocks at k → k.clocked ≡ false) }
     ensures keeps { Keeps dag.old dag.new }
-    ensures driven { IfOk result (λ u. (k : Always) → k ≡ get_or text.old.flat.now.blocks at k → AreDriven (driven_by text.old.flat.now nets.now k.body) text.old text.new state.old dag.old state.new dag.new) }
+    ensures driven { IfOk result (λ u. (k : Always) → k ≡ get_or text.old.flat.now.blocks at k →
+        AreDriven (driven_by text.old.flat.now nets.now k.body) text.old text.new state.old dag.old state.new dag.new) }
 {
     let alloc = state.allocator();
     let roots = roots_of(&text.first, &text.outcomes[at], nets)?;
@@ -242,7 +249,9 @@ fn drive(
     requires ready { CanDrive text.old state.old dag.old nets.now }
     requires process { IsProcess text.old.flat.now place }
     ensures keeps { Keeps dag.old dag.new }
-    ensures driven { IfOk result (λ u. AreDriven (driven_by text.old.flat.now nets.now (statement_at (statements text.old.flat.now) place)) text.old text.new state.old dag.old state.new dag.new) }
+    ensures driven { IfOk result (λ u. AreDriven
+        (driven_by text.old.flat.now nets.now (statement_at
+        (statements text.old.flat.now) place)) text.old text.new state.old dag.old state.new dag.new) }
 {
     let assigns = text.flat.assigns.len();
     if place >= assigns {
@@ -266,7 +275,9 @@ fn settle(
     requires ready { CanDrive text.old state.old dag.old nets.now }
     requires places { (i : ℕ) → Among places.now i → IsProcess text.old.flat.now i }
     ensures keeps { Keeps dag.old dag.new }
-    ensures driven { IfOk result (λ u. AreDriven (settled (flat_place text.old.flat.now) (picked (statements text.old.flat.now) places.now) (names_of text.old.flat.now.signals nets.now)) text.old text.new state.old dag.old state.new dag.new) }
+    ensures driven { IfOk result (λ u. AreDriven
+        (settled (flat_place text.old.flat.now) (picked (statements text.old.flat.now) places.now)
+        (names_of text.old.flat.now.signals nets.now)) text.old text.new state.old dag.old state.new dag.new) }
 {
     for net in nets {
         let width = state.leaf(*net).width;
@@ -316,7 +327,8 @@ pub fn solve_nets(
     requires groups { AreBelow (length places.now) groups.now }
     ensures keeps { Keeps dag.old dag.new }
     ensures board { IfOk result (λ u. IsBoard flat.now.signals state.new dag.new) }
-    ensures shows { IfOk result (λ u. Shows (solved (flat_place flat.now) (processes flat.now) (groups_of flat.now.signals groups.now)) state.old dag.old state.new dag.new) }
+    ensures shows { IfOk result (λ u. Shows (solved (flat_place flat.now) (processes flat.now)
+        (groups_of flat.now.signals groups.now)) state.old dag.old state.new dag.new) }
 {
     let mut text = processes_of(state.allocator(), flat)?;
     for i in 0..groups.len() {

@@ -37,7 +37,9 @@ impl Outcome {
     /// The node that is left at a place, if the block may assign it.
     pub fn node(&self, place: usize) -> Option<u64>
         requires { IsFound self.now }
-        ensures { MatchOption result (Among self.now.places.items place → ⊥) (λ n. (k : ℕ) × (k < length self.now.places.items) × (slice_index self.now.places.items k ≡ place) × (n ≡ slice_index self.now.nodes.items k)) }
+        ensures { MatchOption result (Among self.now.places.items place → ⊥) (λ n. (k : ℕ) ×
+            (k < length self.now.places.items) × (slice_index self.now.places.items k ≡ place) ×
+            (n ≡ slice_index self.now.nodes.items k)) }
     {
         match self.places.binary_search(&place) {
             Ok(at) => Some(self.nodes[at]),
@@ -79,7 +81,8 @@ pub fn outcome_of(source: &mut Dag, body: &Stmt, leaves: &mut Leaves) -> Result<
     ensures keeps { Keeps source.old source.new }
     ensures same { IfOk result (λ o. declared leaves.new ≡ declared leaves.old) }
     ensures set { IfOk result (λ o. AreSet None leaves.new source.new) }
-    ensures back { IfOk result (λ o. (gs : List OneSignal) (e : Naming) (c : Cycle) → AreLeavesOf gs leaves.old → AreShown e source.old leaves.old c → AreShown e source.new leaves.new c) }
+    ensures back { IfOk result (λ o. (gs : List OneSignal) (e : Naming) (c : Cycle) → AreLeavesOf gs leaves.old →
+        AreShown e source.old leaves.old c → AreShown e source.new leaves.new c) }
     ensures outcome { IfOk result (λ o. IsOutcome leaves.old source.new body.now o) }
 {
     let alloc = leaves.allocator();

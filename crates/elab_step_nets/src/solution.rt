@@ -33,7 +33,8 @@ pub fn solve(
     requires places { ArePlacesOf flat.now flat.now.signals places.now }
     requires groups { AreBelow (length places.now) groups.now }
     requires nets { length nets.now ≡ length flat.now.signals }
-    ensures { IfOk result (λ s. IsSolution flat.now (groups_of flat.now.signals groups.now) nets.now s.dag s.begun s.now s.next) }
+    ensures { IfOk result (λ s. IsSolution flat.now
+        (groups_of flat.now.signals groups.now) nets.now s.dag s.begun s.now s.next) }
 {
     let mut dag = Dag::new(alloc);
     let begun = begun(alloc, &mut dag, flat.signals.as_slice(), nets)?;

@@ -78,7 +78,8 @@ pub fn offer_all<H: Helper>(
     cnf: &Cnf,
 ) -> Result<Claim, AllocError>
     ensures asked { AsksSome (map H.asked helpers.old.items) (map H.asked helpers.new.items) }
-    ensures nothing { result ≡ Ok Claim.Nothing → map H.asked helpers.new.items ≡ map one_more (map H.asked helpers.old.items) }
+    ensures nothing { result ≡ Ok Claim.Nothing →
+        map H.asked helpers.new.items ≡ map one_more (map H.asked helpers.old.items) }
     ensures passes { IfOk result (Passes ob.now cnf.now) }
 {
     ask_each(helpers.as_mut_slice(), alloc, ob, cnf, Vec::new(alloc))
@@ -96,7 +97,8 @@ pub fn offer_ready<H: Helper>(
 ) -> Result<Claim, AllocError>
     requires ready { AreReady ob.now cnf.now ready.items }
     ensures asked { AsksSome (map H.asked helpers.old.items) (map H.asked helpers.new.items) }
-    ensures nothing { result ≡ Ok Claim.Nothing → map H.asked helpers.new.items ≡ map one_more (map H.asked helpers.old.items) }
+    ensures nothing { result ≡ Ok Claim.Nothing →
+        map H.asked helpers.new.items ≡ map one_more (map H.asked helpers.old.items) }
     ensures passes { IfOk result (Passes ob.now cnf.now) }
 {
     ask_each(helpers.as_mut_slice(), alloc, ob, cnf, ready)

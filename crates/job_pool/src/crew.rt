@@ -40,7 +40,8 @@ impl<'a, R: Threads + Sync> Crew<'a, R> {
     ) -> Result<Ran<X>, AllocError>
         requires jobs { length elements.now < 2 ^ 32 }
         ensures ends { IfOk result (λ ran. AllZip (J.ends task.now) elements.now ran.ends.items) }
-        ensures draws { IfOk result (λ ran. ran.draws.items ≡ range_with_len 0 (length elements.now + self.now.workers)) }
+        ensures draws { IfOk result (λ ran. ran.draws.items ≡ range_with_len 0
+            (length elements.now + self.now.workers)) }
     {
         let each = elements.len() as u64 + 1;
         let (tickets, seat) = Tickets::new(self.alloc, self.workers as u64 * each)?;

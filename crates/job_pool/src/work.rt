@@ -46,7 +46,8 @@ fn work<T, X: Drop, J: Task<T, X>>(
     requires jobs { length shift.now.elements.now < 2 ^ 32 }
     requires ready { IsReady shift.now.tickets.now (length shift.now.elements.now) 1 seat }
     ensures seat { (result.0.word ≡ seat.word) × (length result.0.numbers + result.0.allowance ≡ seat.allowance) }
-    ensures done { IfOk result.1 (λ v. AreDone (J.ends shift.now.task.now) shift.now.elements.now 1 result.0.numbers v.items) }
+    ensures done { IfOk result.1 (λ v. AreDone
+        (J.ends shift.now.task.now) shift.now.elements.now 1 result.0.numbers v.items) }
 {
     let mut done = Vec::new(shift.alloc);
     'jobs: loop {
@@ -85,7 +86,8 @@ pub(crate) fn work_all<R: Threads + Sync, T: Sync, X: Send + Drop, J: Task<T, X>
     requires workers { (0 < workers) × (workers ≤ 64) }
     requires ready { IsReady shift.now.tickets.now (length shift.now.elements.now) workers seat }
     ensures seat { (result.0.word ≡ seat.word) × (length result.0.numbers + result.0.allowance ≡ seat.allowance) }
-    ensures done { IfOk result.1 (λ v. AreDone (J.ends shift.now.task.now) shift.now.elements.now workers result.0.numbers v.items) }
+    ensures done { IfOk result.1 (λ v. AreDone
+        (J.ends shift.now.task.now) shift.now.elements.now workers result.0.numbers v.items) }
 {
     if workers == 1 {
         return work(shift, seat);
@@ -101,14 +103,19 @@ pub(crate) fn work_all<R: Threads + Sync, T: Sync, X: Send + Drop, J: Task<T, X>
         || -> (Seat, Result<Vec<Done<X>>, AllocError>)
             requires { IsSync T.row × IsSend X.row × IsSync J.row × (length shift.now.elements.now < 2 ^ 32)
                 × IsReady shift.now.tickets.now (length shift.now.elements.now) 1 other }
-            ensures seat { (result.0.word ≡ other.word) × (length result.0.numbers + result.0.allowance ≡ other.allowance) }
-            ensures done { IfOk result.1 (λ v. AreDone (J.ends shift.entry.now.task.now) shift.entry.now.elements.now 1 result.0.numbers v.items) }
+            ensures seat { (result.0.word ≡ other.word) ×
+                (length result.0.numbers + result.0.allowance ≡ other.allowance) }
+            ensures done { IfOk result.1 (λ v. AreDone
+                (J.ends shift.entry.now.task.now) shift.entry.now.elements.now 1 result.0.numbers v.items) }
         { work(shift, other) },
         || -> (Seat, Result<Vec<Done<X>>, AllocError>)
-            requires { IsSync R.row × IsSync T.row × IsSend X.row × IsSync J.row × (length shift.now.elements.now < 2 ^ 32)
+            requires { IsSync R.row × IsSync T.row × IsSend X.row × IsSync J.row ×
+                (length shift.now.elements.now < 2 ^ 32)
                 × (0 < rest) × (rest ≤ 64) × IsReady shift.now.tickets.now (length shift.now.elements.now) rest seat }
-            ensures seat { (result.0.word ≡ seat.word) × (length result.0.numbers + result.0.allowance ≡ seat.allowance) }
-            ensures done { IfOk result.1 (λ v. AreDone (J.ends shift.entry.now.task.now) shift.entry.now.elements.now rest result.0.numbers v.items) }
+            ensures seat { (result.0.word ≡ seat.word) ×
+                (length result.0.numbers + result.0.allowance ≡ seat.allowance) }
+            ensures done { IfOk result.1 (λ v. AreDone
+                (J.ends shift.entry.now.task.now) shift.entry.now.elements.now rest result.0.numbers v.items) }
         { work_all(rt, shift, seat, rest) },
     );
     shift.tickets.join(&mut seat, other);

@@ -32,7 +32,8 @@ fn add_unit(alloc: Global, cnf: &mut Cnf, lit: Lit) -> Result<(), AllocError>
 // Turns the last unit clause, which says that a bit is 0.
 fn turn_last(alloc: Global, cnf: &mut Cnf, var: u32) -> Result<(), AllocError>
     requires { var < cnf.old.vars }
-    ensures clauses { OnOk result (cnf.new.clauses ≡ take (length cnf.old.clauses - 1) cnf.old.clauses ++ (plus var ∷ []) ∷ []) }
+    ensures clauses { OnOk result (cnf.new.clauses ≡ take (length cnf.old.clauses - 1) cnf.old.clauses ++
+        (plus var ∷ []) ∷ []) }
     ensures vars { cnf.new.vars ≡ cnf.old.vars }
 {
     cnf.clauses.pop();
@@ -52,7 +53,8 @@ impl Walk {
         requires budget { 1 ≤ budget }
         requires number { number < length bits.now }
         requires walk { (ob : Parts) × IsWalk ob bits.now number self.old }
-        ensures next { (ob : Parts) → IsWalk ob bits.now number self.old → IfOk result (IsNext budget ob bits.now number self.new) }
+        ensures next { (ob : Parts) → IsWalk ob bits.now number self.old →
+            IfOk result (IsNext budget ob bits.now number self.new) }
         ensures ample { 3 ^ self.old.built.cnf.vars ≤ budget → IfOk result (λ chain. chain ≡ None) }
     {
         let bit = bits[number];

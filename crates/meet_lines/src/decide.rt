@@ -83,12 +83,15 @@ pub(crate) fn decide_lines<R: Threads + Sync, K: Keeper, H: Helper, G: Gate + Sy
     bound: &Bound,
     name: Option<&Text>,
 ) -> Result<Book, LineFault>
-    ensures lines { IfOk result (λ book. AreDecided prover.old.settings.budget bound.now (option_map (λ n. n.now) name.entry) book.lines.items) }
+    ensures lines { IfOk result (λ book. AreDecided prover.old.settings.budget bound.now
+        (option_map (λ n. n.now) name.entry) book.lines.items) }
     ensures settled { IfOk result (λ book. AreSettled prover.old.settings.workers book
         (kept_by K.tables prover.old) (kept_by K.tables prover.new) (asked_by H.asked prover.old) (asked_by H.asked prover.new)) }
     ensures err { IfErr result (RefusesLines bound.now.set (option_map (λ n. n.now) name.entry)) }
-    ensures left { AddsProofsOf (AreObsOf bound.now (option_map (λ n. n.now) name.entry)) (kept_by K.tables prover.old) (kept_by K.tables prover.new) }
-    ensures proceeds { Proceeds (result ≡ Err LineFault.Keeper) (counts K.faults H.asked prover.old) (counts K.faults H.asked prover.new) }
+    ensures left { AddsProofsOf (AreObsOf bound.now (option_map (λ n. n.now) name.entry)) (kept_by K.tables prover.old)
+        (kept_by K.tables prover.new) }
+    ensures proceeds { Proceeds (result ≡ Err LineFault.Keeper) (counts K.faults H.asked prover.old)
+        (counts K.faults H.asked prover.new) }
     ensures same { IsSame prover.old prover.new }
 {
     let goals = asked_goals(prover.alloc, bound, name)?;

@@ -34,7 +34,8 @@ fn goal_of(
     requires segments { (d : Parts) × AreSegments d set.now dag.old segments.now }
     requires words { HasOneWidthEach dag.old }
     ensures keeps { IfOk result (λ _. Keeps dag.old dag.new) }
-    ensures goal { IfOk result (λ goal. (d : Parts) → IsDesign d → Fits d set.now → AreSegments d set.now dag.old segments.now → IsGoalOf d set.now line goal) }
+    ensures goal { IfOk result (λ goal. (d : Parts) → IsDesign d → Fits d set.now →
+        AreSegments d set.now dag.old segments.now → IsGoalOf d set.now line goal) }
 {
     let root = line_node(alloc, dag, set, line, segments)?;
     let ob = extract(alloc, dag, root)?;
@@ -43,7 +44,8 @@ fn goal_of(
 
 /// The goals of all lines, in the order of the set, which has at most 64 operations.
 pub(crate) fn all_goals(alloc: Global, bound: &Bound) -> Result<Vec<Goal<MeetLine>>, AllocError>
-    ensures each { IfOk result (λ goals. AllZip (IsGoalOf bound.now.design bound.now.set) (meet_lines bound.now.set) goals.items) }
+    ensures each { IfOk result (λ goals. AllZip (IsGoalOf bound.now.design bound.now.set)
+        (meet_lines bound.now.set) goals.items) }
     ensures few { IfOk result (λ goals. length goals.items ≤ 65) }
 {
     // the nodes of a design fit

@@ -8,12 +8,14 @@ ghost use Rattle.meet_lines.specs.Laws.{MetLinesAreTheModules, MetLinesHaveValue
 
 /// The test of a line holds exactly at values whose segment meets the line.
 pub fn tests_are_exact()
-    ensures { (d : Parts) (m : Meaning) (set : Set) → IsDesign d → Fits d set → (line : Line) → TestIsExact d m set line }
+    ensures { (d : Parts) (m : Meaning) (set : Set) → IsDesign d → Fits d set → (line : Line) →
+        TestIsExact d m set line }
 {}
 
 /// Nodes whose root is the test of a line at all values are an obligation of the line.
 pub fn tests_are_of_lines()
-    ensures { (d : Parts) (m : Meaning) (set : Set) → IsDesign d → Fits d set → (line : Line) → TestsAreOfLines d m set line }
+    ensures { (d : Parts) (m : Meaning) (set : Set) → IsDesign d → Fits d set → (line : Line) →
+        TestsAreOfLines d m set line }
 {}
 
 /// Where a line is met, some values name a segment that meets it; and where values name such a segment, the line is

@@ -24,13 +24,15 @@ fn decide_texts<R: Threads + Sync, K: Keeper, H: Helper, G: Gate + Sync>(
     set: &[u8],
     name: Option<&Text>,
 ) -> Result<Book, CheckFault>
-    ensures lines { IfOk result (λ book. AreDecidedOf «module».now set.now (option_map (λ n. n.now) name.entry) prover.old.settings.budget book.lines.items) }
+    ensures lines { IfOk result (λ book. AreDecidedOf «module».now set.now
+        (option_map (λ n. n.now) name.entry) prover.old.settings.budget book.lines.items) }
     ensures settled { IfOk result (λ book. AreSettled prover.old.settings.workers book
         (kept_by K.tables prover.old) (kept_by K.tables prover.new) (asked_by H.asked prover.old) (asked_by H.asked prover.new)) }
     ensures refuses { IfErr result (Refuses «module».now set.now (option_map (λ n. n.now) name.entry)) }
     ensures left { AddsProofsOf (AreObsOfTexts «module».now set.now (option_map (λ n. n.now) name.entry))
         (kept_by K.tables prover.old) (kept_by K.tables prover.new) }
-    ensures proceeds { Proceeds (result ≡ Err CheckFault.Keeper) (counts K.faults H.asked prover.old) (counts K.faults H.asked prover.new) }
+    ensures proceeds { Proceeds (result ≡ Err CheckFault.Keeper) (counts K.faults H.asked prover.old)
+        (counts K.faults H.asked prover.new) }
     ensures same { IsSameProver prover.old prover.new }
 {
     let bound = bound_of(prover.alloc, module, set)?;
@@ -61,13 +63,15 @@ pub fn meet<R: Threads + Sync, K: Keeper, H: Helper, G: Gate + Sync>(
 ) -> Result<Report, CheckFault>
     ensures report { IfOk result (IsMeetReport «module».now set.now (option_map (λ n. n.now) name.entry)
         checker.old.prover.settings.budget checker.new.book.now.lines.items) }
-    ensures settled { IfOk result (λ _. AreSettled checker.old.prover.settings.workers checker.new.book.now (kept_by K.tables checker.old.prover)
+    ensures settled { IfOk result (λ _. AreSettled checker.old.prover.settings.workers checker.new.book.now
+        (kept_by K.tables checker.old.prover)
         (kept_by K.tables checker.new.prover) (asked_by H.asked checker.old.prover) (asked_by H.asked checker.new.prover)) }
     ensures refuses { IfErr result (Refuses «module».now set.now (option_map (λ n. n.now) name.entry)) }
     ensures empty { IfErr result (λ _. checker.new.book.now.lines.items ≡ []) }
     ensures left { AddsProofsOf (AreObsOfTexts «module».now set.now (option_map (λ n. n.now) name.entry))
         (kept_by K.tables checker.old.prover) (kept_by K.tables checker.new.prover) }
-    ensures proceeds { Proceeds (result ≡ Err CheckFault.Keeper) (counts K.faults H.asked checker.old.prover) (counts K.faults H.asked checker.new.prover) }
+    ensures proceeds { Proceeds (result ≡ Err CheckFault.Keeper) (counts K.faults H.asked checker.old.prover)
+        (counts K.faults H.asked checker.new.prover) }
     ensures same { IsSame checker.old checker.new }
 {
     *checker.book = Book::new(checker.prover.alloc);

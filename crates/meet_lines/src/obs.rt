@@ -16,7 +16,8 @@ use word_dag::Named;
 /// cycle. The free words are the registers' in a segment's first cycle and the inputs' in each of its cycles, the reset
 /// cycles among them; the reset is a constant.
 pub fn meet_obs(alloc: Global, bound: &Bound) -> Result<Vec<Named>, AllocError>
-    ensures { IfOk result (λ obs. AllZip (IsNamedOf bound.now.design bound.now.set) (meet_lines bound.now.set) obs.items) }
+    ensures { IfOk result (λ obs. AllZip (IsNamedOf bound.now.design bound.now.set)
+        (meet_lines bound.now.set) obs.items) }
 {
     let set = bound.set().set();
     let goals = all_goals(alloc, bound)?;

@@ -50,7 +50,8 @@ pub fn meet_trace(
     requires speaks { SpeaksOf bound.now.set line }
     requires words { HasOneWordEach ob.now.nodes }
     requires root { (root_value values.now ob.now.nodes ob.now.root).value ≡ 1 }
-    ensures { IfOk result (ShowsMeeting bound.now.design (meaning_of bound.now.set) bound.now.set line (naming_from ob.now.nodes values.now)) }
+    ensures { IfOk result (ShowsMeeting bound.now.design (meaning_of bound.now.set) bound.now.set line
+        (naming_from ob.now.nodes values.now)) }
 {
     let design = bound.design();
     // the nodes of a design fit

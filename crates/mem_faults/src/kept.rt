@@ -58,7 +58,8 @@ fn add_block_names<'a>(
     clocked: bool,
     form: Form,
 ) -> Result<(), AllocError>
-    ensures { OnOk result (map name_meant all.new.items ≡ map name_meant all.old.items ++ flat_map (chosen_names clocked form) blocks.now) }
+    ensures { OnOk result (map name_meant all.new.items ≡ map name_meant all.old.items ++ flat_map
+        (chosen_names clocked form) blocks.now) }
 {
     let names = block_names(alloc, blocks, clocked, form)?;
     add_names(all, &names)
@@ -123,8 +124,10 @@ fn is_unassigned(signal: &Signal, assigned: &Names<'_>) -> bool
 
 // The first memory that isn't among these names.
 fn unassigned_in<'a>(signals: &'a [Signal], assigned: &Names<'_>) -> Option<&'a Text>
-    ensures some { IfSome result (λ x. Among (flat_map memory_names signals.now) x.now × (Among assigned.now x.now → ⊥)) }
-    ensures none { IfNone result ((x : Name) → Among (flat_map memory_names signals.now) x → (Among assigned.now x → ⊥) → ⊥) }
+    ensures some { IfSome result (λ x. Among (flat_map memory_names signals.now) x.now ×
+        (Among assigned.now x.now → ⊥)) }
+    ensures none { IfNone result ((x : Name) → Among (flat_map memory_names signals.now) x →
+        (Among assigned.now x → ⊥) → ⊥) }
 {
     for signal in signals {
         if is_unassigned(signal, assigned) {
@@ -135,8 +138,10 @@ fn unassigned_in<'a>(signals: &'a [Signal], assigned: &Names<'_>) -> Option<&'a 
 }
 
 fn unassigned(alloc: Global, flat: &Flat) -> Result<Option<&Text>, AllocError>
-    ensures some { IfOk result (λ o. IfSome o (λ x. Among (memories_of flat.now) x.now × (IsNamed (lefts_of flat.now) x.now → ⊥))) }
-    ensures none { IfOk result (λ o. IfNone o ((x : Name) → Among (memories_of flat.now) x → (IsNamed (lefts_of flat.now) x → ⊥) → ⊥)) }
+    ensures some { IfOk result (λ o. IfSome o (λ x. Among (memories_of flat.now) x.now ×
+        (IsNamed (lefts_of flat.now) x.now → ⊥))) }
+    ensures none { IfOk result (λ o. IfNone o ((x : Name) → Among (memories_of flat.now) x →
+        (IsNamed (lefts_of flat.now) x → ⊥) → ⊥)) }
 {
     let assigned = assigned_names(alloc, flat)?;
     Ok(unassigned_in(flat.signals.as_slice(), &assigned))
@@ -148,7 +153,8 @@ fn otherwise<'a>(
     memories: &Names<'_>,
 ) -> Result<Option<&'a Text>, AllocError>
     ensures some { IfOk result (λ o. IfSome o (λ x. Among memories.now x.now × IsAssignedOtherwise flat.now x.now)) }
-    ensures none { IfOk result (λ o. IfNone o ((x : Name) → Among memories.now x → IsAssignedOtherwise flat.now x → ⊥)) }
+    ensures none { IfOk result (λ o. IfNone o ((x : Name) → Among memories.now x → IsAssignedOtherwise flat.now x →
+        ⊥)) }
 {
     let names = other_names(alloc, flat)?;
     Ok(first_among(&names, memories))

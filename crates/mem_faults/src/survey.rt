@@ -44,7 +44,8 @@ fn memories(alloc: Global, signals: &[Signal]) -> Result<Names<'_>, AllocError>
 // ---- uses without exactly one plain index
 
 fn add_wholes<'a>(all: &mut Vec<&'a Text>, uses: &[Part<'a>]) -> Result<(), AllocError>
-    ensures { OnOk result (map name_meant all.new.items ≡ map name_meant all.old.items ++ flat_map whole_names (map part_meant uses.now)) }
+    ensures { OnOk result (map name_meant all.new.items ≡ map name_meant all.old.items ++ flat_map whole_names
+        (map part_meant uses.now)) }
 {
     for part in uses {
         match part {
@@ -170,7 +171,8 @@ impl<'a> Survey<'a> {
     pub fn nested(&self, alloc: Global) -> Result<Option<&'a Text>, AllocError>
         ensures some { IfOk result (λ o. IfSome o (λ x.
             (q : Lval) × Among (map part_meant self.now.uses.items) q × (is_nested self.now.memories q ≡ true) × (part_name q ≡ x.now))) }
-        ensures none { IfOk result (λ o. IfNone o ((q : Lval) → Among (map part_meant self.now.uses.items) q → is_nested self.now.memories q ≡ true → ⊥)) }
+        ensures none { IfOk result (λ o. IfNone o ((q : Lval) → Among (map part_meant self.now.uses.items) q →
+            is_nested self.now.memories q ≡ true → ⊥)) }
     {
         for part in &self.uses {
             if is_nested(alloc, *part, &self.memories)? {

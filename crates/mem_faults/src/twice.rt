@@ -84,7 +84,8 @@ fn word_among(
     names: &Names<'_>,
 ) -> Result<Option<Text>, AllocError>
     ensures some { IfOk result (λ o. IfSome o (λ x. Among (flat_map words_of signals.now) x × Among names.now x)) }
-    ensures none { IfOk result (λ o. IfNone o ((x : Name) → Among (flat_map words_of signals.now) x → Among names.now x → ⊥)) }
+    ensures none { IfOk result (λ o. IfNone o ((x : Name) → Among (flat_map words_of signals.now) x →
+        Among names.now x → ⊥)) }
 {
     for signal in signals {
         let words = words(alloc, signal)?;

@@ -25,7 +25,8 @@ fn add_store<'a>(
 }
 
 fn add_piece<'a>(all: &mut Vec<Part<'a>>, alloc: Global, piece: Piece<'a>) -> Result<(), AllocError>
-    ensures { OnOk result (map part_meant all.new.items ≡ map part_meant all.old.items ++ action_uses (piece_meant piece.entry)) }
+    ensures { OnOk result (map part_meant all.new.items ≡ map part_meant all.old.items ++ action_uses
+        (piece_meant piece.entry)) }
 {
     match piece {
         Piece::Test(expr) => add_reads(all, expr),
@@ -35,7 +36,8 @@ fn add_piece<'a>(all: &mut Vec<Part<'a>>, alloc: Global, piece: Piece<'a>) -> Re
 }
 
 fn add_body<'a>(all: &mut Vec<Part<'a>>, alloc: Global, body: &'a Stmt) -> Result<(), AllocError>
-    ensures { OnOk result (map part_meant all.new.items ≡ map part_meant all.old.items ++ flat_map action_uses (actions body.now)) }
+    ensures { OnOk result (map part_meant all.new.items ≡ map part_meant all.old.items ++ flat_map action_uses
+        (actions body.now)) }
 {
     let pieces = pieces_of(alloc, body)?;
     for piece in &pieces {

@@ -23,7 +23,8 @@ use vlog_tree::{Expr, Lval, Name, Stmt};
 use vlog_tree_runs::{Always, Signal};
 
 fn add_piece<'a>(all: &mut Vec<&'a Text>, alloc: Global, piece: Piece<'a>) -> Result<(), AllocError>
-    ensures { OnOk result (map name_meant all.new.items ≡ map name_meant all.old.items ++ action_names m.Any (piece_meant piece.entry)) }
+    ensures { OnOk result (map name_meant all.new.items ≡ map name_meant all.old.items ++ action_names m.Any
+        (piece_meant piece.entry)) }
 {
     match piece {
         Piece::Test(_) => Ok(()),
@@ -34,7 +35,8 @@ fn add_piece<'a>(all: &mut Vec<&'a Text>, alloc: Global, piece: Piece<'a>) -> Re
 
 // The names that a statement assigns.
 fn add_body<'a>(all: &mut Vec<&'a Text>, alloc: Global, body: &'a Stmt) -> Result<(), AllocError>
-    ensures { OnOk result (map name_meant all.new.items ≡ map name_meant all.old.items ++ flat_map left_names (lefts body.now)) }
+    ensures { OnOk result (map name_meant all.new.items ≡ map name_meant all.old.items ++ flat_map left_names
+        (lefts body.now)) }
 {
     let pieces = pieces_of(alloc, body)?;
     for piece in &pieces {

@@ -71,7 +71,8 @@ fn within(depth: u8, number: u64) -> Option<u8>
 // The word of a memory of so many words that a constant index names, where it names one.
 fn fixed_word(alloc: Global, depth: u8, index: &Expr) -> Option<u8>
     requires { IsEvaluable index.now }
-    ensures { MatchOption result (is_fixed depth index.now ≡ false) (λ j. (is_fixed depth index.now ≡ true) × (own_value [] index.now ≡ j)) }
+    ensures { MatchOption result (is_fixed depth index.now ≡ false) (λ j. (is_fixed depth index.now ≡ true) ×
+        (own_value [] index.now ≡ j)) }
 {
     if !is_constant(index) {
         return None;

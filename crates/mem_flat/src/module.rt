@@ -71,7 +71,8 @@ impl Spreader<'_> {
     fn all_blocks(&self, flat: &Flat) -> Result<Items<Always>, AllocError>
         requires rest { self.now.rest.now ≡ at_rest (flat_place flat.now) }
         requires ready { AreReadyBlocks self.now.rest.now flat.now.blocks }
-        ensures { IfOk result (λ r. r ≡ map (spread_block self.now.rest.now) flat.now.blocks ++ map keeper (idle_words flat.now)) }
+        ensures { IfOk result (λ r. r ≡ map (spread_block self.now.rest.now) flat.now.blocks ++ map keeper
+            (idle_words flat.now)) }
     {
         let blocks = self.blocks(flat.blocks.as_slice())?;
         let keepers = keepers(self.alloc, blocks.as_slice(), flat.signals.as_slice());

@@ -105,8 +105,10 @@ impl Spreader<'_> {
     // How many bits a part-select has.
     fn span_width(&self, span: Span, a: &Expr, b: &Expr) -> u8
         requires span { IsSpanEvaluable self.now.rest.now span a.now b.now }
-        requires few { part_width span (own_integer (operand_of self.now.rest.now a.now)) (own_integer (operand_of self.now.rest.now b.now)) ≤ 64 }
-        ensures { result ≡ part_width span (own_integer (operand_of self.now.rest.now a.now)) (own_integer (operand_of self.now.rest.now b.now)) }
+        requires few { part_width span (own_integer (operand_of self.now.rest.now a.now))
+            (own_integer (operand_of self.now.rest.now b.now)) ≤ 64 }
+        ensures { result ≡ part_width span (own_integer (operand_of self.now.rest.now a.now))
+            (own_integer (operand_of self.now.rest.now b.now)) }
     {
         match span {
             Span::Fixed => part_width(span, self.own_integer(a), self.own_integer(b)),

@@ -59,7 +59,8 @@ impl Spreader<'_> {
     fn blocking(&self, left: &Lval, right: &Expr) -> Result<Stmt, AllocError>
         requires left { HasEvaluableLeft self.now.rest.now left.now }
         requires right { HasEvaluable self.now.rest.now right.now }
-        ensures { IfOk result (λ r. r ≡ s.Blocking (spread_left self.now.rest.now left.now) (spread self.now.rest.now right.now)) }
+        ensures { IfOk result (λ r. r ≡ s.Blocking (spread_left self.now.rest.now left.now)
+            (spread self.now.rest.now right.now)) }
     {
         let (left, right) = both(self.left(left), self.expr(right))?;
         Ok(Stmt::Blocking(left, right))
@@ -95,7 +96,8 @@ impl Spreader<'_> {
     fn if_only(&self, body: &Stmt, condition: &Expr) -> Result<Stmt, AllocError>
         requires body { HasEvaluableStmt self.now.rest.now body.now }
         requires condition { HasEvaluable self.now.rest.now condition.now }
-        ensures { IfOk result (λ r. r ≡ s.If (spread self.now.rest.now condition.now) (spread_stmt self.now.rest.now body.now)) }
+        ensures { IfOk result (λ r. r ≡ s.If (spread self.now.rest.now condition.now)
+            (spread_stmt self.now.rest.now body.now)) }
     {
         let (condition, body) = both(self.expr(condition), self.branch(body))?;
         Ok(Stmt::If(condition, body))
@@ -105,7 +107,8 @@ impl Spreader<'_> {
     fn case(&self, items: &[CaseItem], kind: CaseKind, subject: &Expr) -> Result<Stmt, AllocError>
         requires items { EachEvaluableCase self.now.rest.now items.now }
         requires subject { HasEvaluable self.now.rest.now subject.now }
-        ensures { IfOk result (λ r. r ≡ s.Case kind (spread self.now.rest.now subject.now) (map (spread_case self.now.rest.now) items.now)) }
+        ensures { IfOk result (λ r. r ≡ s.Case kind (spread self.now.rest.now subject.now)
+            (map (spread_case self.now.rest.now) items.now)) }
     {
         let (subject, items) = both(self.expr(subject), self.cases(items))?;
         Ok(Stmt::Case(kind, subject, items))

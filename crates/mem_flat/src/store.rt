@@ -92,7 +92,8 @@ impl Spreader<'_> {
     fn indexed_store(&self, name: &Text, index: &Expr, right: &Expr) -> Result<Stmt, AllocError>
         requires index { IsEvaluable index.now }
         requires ready { HasEvaluable self.now.rest.now index.now }
-        ensures { IfOk result (λ r. r ≡ memory_store self.now.rest.now (read name.now) index.now (spread self.now.rest.now index.now) right.now) }
+        ensures { IfOk result (λ r. r ≡ memory_store self.now.rest.now (read name.now) index.now
+            (spread self.now.rest.now index.now) right.now) }
     {
         let spread = self.expr(index)?;
         self.memory_store(name, index, &spread, right)

@@ -23,7 +23,8 @@ pub struct MemKeeper {
 impl MemKeeper {
     /// A store with empty tables. The calls of these numbers are to fail, counted from 1 over all its calls.
     pub fn new(alloc: Global, fails: Vec<u64>) -> MemKeeper
-        ensures tables { ⟦<MemKeeper as Keeper>⟧.tables result ≡ Some (record { blocks = empty; proofs = empty; signs = [] }) }
+        ensures tables { ⟦<MemKeeper as Keeper>⟧.tables result ≡ Some
+            (record { blocks = empty; proofs = empty; signs = [] }) }
         ensures faults { ⟦<MemKeeper as Keeper>⟧.faults result ≡ 0 }
     {
         MemKeeper {
@@ -169,7 +170,8 @@ fn first_of<'a>(
 }
 
 fn is_of(sign: &Sign, block: &[u8], module_text: &[u8], set_text: &[u8]) -> bool
-    ensures { result ≡ (bytes_eq sign.now.block block.now && (bytes_eq sign.now.module module_text.now && bytes_eq sign.now.set set_text.now)) }
+    ensures { result ≡ (bytes_eq sign.now.block block.now &&
+        (bytes_eq sign.now.module module_text.now && bytes_eq sign.now.set set_text.now)) }
 {
     sign.block.bytes() == block
         && (sign.module.bytes() == module_text && sign.set.bytes() == set_text)

@@ -30,7 +30,8 @@ fn fails(alloc: Global, set: &Sound, formula: &Expr, rows: &[Rows<u64>]) -> Resu
 // Whether one of the constraints does.
 fn any_fails(alloc: Global, set: &Sound, rows: &[Rows<u64>]) -> Result<bool, AllocError>
     requires { IsTrace set.now rows.now }
-    ensures { IfOk result (λ b. b ≡ list_any (λ (rule : Rule). fails (meaning_of set.now) rule.formula rows.now) set.now.constraints) }
+    ensures { IfOk result (λ b. b ≡ list_any
+        (λ (rule : Rule). fails (meaning_of set.now) rule.formula rows.now) set.now.constraints) }
 {
     for rule in set.set().constraints.as_slice() {
         let fails = fails(alloc, set, &rule.formula, rows)?;

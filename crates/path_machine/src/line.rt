@@ -13,7 +13,8 @@ use std::alloc::{AllocError, Global};
 // The row that a line spells, for inputs of these lengths.
 fn row_of(alloc: Global, widths: &[u8], line: &[u8]) -> Result<Option<Rows<u64>>, AllocError>
     requires { All IsLength widths.now }
-    ensures { IfOk result (λ row. (inputs : List Name) → widths.now ≡ map width_of inputs → row ≡ row_of inputs line.now) }
+    ensures { IfOk result (λ row. (inputs : List Name) → widths.now ≡ map width_of inputs →
+        row ≡ row_of inputs line.now) }
 {
     let mut row = Rows::new(alloc);
     let mut left = words_of(line);
@@ -50,7 +51,8 @@ pub fn first_row<'a>(
     requires widths { All IsLength widths.now }
     requires some { text.now ≢ [] }
     ensures shorter { IfOk result (λ first. IfSome first (λ f. length f.rest.now < length text.now)) }
-    ensures row { IfOk result (λ first. (inputs : List Name) → widths.now ≡ map width_of inputs → MatchOption first (BeginsBadly inputs text.now) (λ f. Begins inputs text.now f.row f.rest.now)) }
+    ensures row { IfOk result (λ first. (inputs : List Name) → widths.now ≡ map width_of inputs →
+        MatchOption first (BeginsBadly inputs text.now) (λ f. Begins inputs text.now f.row f.rest.now)) }
 {
     let end = count_before(10, text);
     if end == text.len() {

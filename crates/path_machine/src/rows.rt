@@ -69,8 +69,10 @@ pub(crate) fn rows_of(
     text: &[u8],
 ) -> Result<Rows<Rows<u64>>, RowFault>
     requires { All IsLength widths.now }
-    ensures ok { IfOk result (λ rows. (inputs : List Name) → widths.now ≡ map width_of inputs → SpellsRows inputs text.now rows) }
-    ensures err { IfErr result (λ fault. (inputs : List Name) → widths.now ≡ map width_of inputs → IsBadRow inputs text.now fault) }
+    ensures ok { IfOk result (λ rows. (inputs : List Name) → widths.now ≡ map width_of inputs →
+        SpellsRows inputs text.now rows) }
+    ensures err { IfErr result (λ fault. (inputs : List Name) → widths.now ≡ map width_of inputs →
+        IsBadRow inputs text.now fault) }
 {
     let mut rows = Rows::new(alloc);
     let mut rest = text;

@@ -34,7 +34,8 @@ fn rows_after(
 pub fn run_trace(alloc: Global, bound: &Bound, rows: &Rows<Rows<u64>>) -> Result<Trace, AllocError>
     requires enough { bound.now.set.cycles ≤ length rows.now }
     requires fit { All (IsInputRow bound.now.set) rows.now }
-    ensures run { IfOk result (λ t. IsRunTrace (word_design bound.now.design bound.now.set) bound.now.design bound.now.set rows.now t.rows) }
+    ensures run { IfOk result (λ t. IsRunTrace
+        (word_design bound.now.design bound.now.set) bound.now.design bound.now.set rows.now t.rows) }
     ensures names { IfOk result (λ t. t.names ≡ declared_names bound.now.set) }
     ensures trace { IfOk result (λ t. IsTrace bound.now.set t.rows) }
 {

@@ -28,8 +28,10 @@ pub fn property_name(set: &Set, at: u32) -> &[u8]
 
 // The upper bound of a length.
 fn put_upper<S: Sink>(alloc: Global, sink: &mut S, high: u8) -> Result<(), OutFault>
-    ensures ok { OnOk result (Put (S.written sink.old) (S.written sink.new) (S.faults sink.old) (S.faults sink.new) (codes ".." ++ decimal high)) }
-    ensures err { IfErr result (λ e. Refused (S.written sink.old) (S.written sink.new) (S.faults sink.old) (S.faults sink.new) e (codes ".." ++ decimal high)) }
+    ensures ok { OnOk result (Put (S.written sink.old) (S.written sink.new) (S.faults sink.old) (S.faults sink.new)
+        (codes ".." ++ decimal high)) }
+    ensures err { IfErr result (λ e. Refused (S.written sink.old) (S.written sink.new) (S.faults sink.old)
+        (S.faults sink.new) e (codes ".." ++ decimal high)) }
 {
     put(alloc, sink, b"..")?;
     put_number(alloc, sink, u64::from(high))
@@ -37,8 +39,10 @@ fn put_upper<S: Sink>(alloc: Global, sink: &mut S, high: u8) -> Result<(), OutFa
 
 // A length.
 fn put_length<S: Sink>(alloc: Global, sink: &mut S, length: &Length) -> Result<(), OutFault>
-    ensures ok { OnOk result (Put (S.written sink.old) (S.written sink.new) (S.faults sink.old) (S.faults sink.new) (length_text length.now.low length.now.high length.now.until)) }
-    ensures err { IfErr result (λ e. Refused (S.written sink.old) (S.written sink.new) (S.faults sink.old) (S.faults sink.new) e (length_text length.now.low length.now.high length.now.until)) }
+    ensures ok { OnOk result (Put (S.written sink.old) (S.written sink.new) (S.faults sink.old) (S.faults sink.new)
+        (length_text length.now.low length.now.high length.now.until)) }
+    ensures err { IfErr result (λ e. Refused (S.written sink.old) (S.written sink.new) (S.faults sink.old)
+        (S.faults sink.new) e (length_text length.now.low length.now.high length.now.until)) }
 {
     let low = u64::from(length.low);
     match &length.until {
@@ -52,8 +56,10 @@ fn put_length<S: Sink>(alloc: Global, sink: &mut S, length: &Length) -> Result<(
 
 // A length behind a space.
 fn put_span<S: Sink>(alloc: Global, sink: &mut S, length: &Length) -> Result<(), OutFault>
-    ensures ok { OnOk result (Put (S.written sink.old) (S.written sink.new) (S.faults sink.old) (S.faults sink.new) (32 ∷ length_text length.now.low length.now.high length.now.until)) }
-    ensures err { IfErr result (λ e. Refused (S.written sink.old) (S.written sink.new) (S.faults sink.old) (S.faults sink.new) e (32 ∷ length_text length.now.low length.now.high length.now.until)) }
+    ensures ok { OnOk result (Put (S.written sink.old) (S.written sink.new) (S.faults sink.old) (S.faults sink.new)
+        (32 ∷ length_text length.now.low length.now.high length.now.until)) }
+    ensures err { IfErr result (λ e. Refused (S.written sink.old) (S.written sink.new) (S.faults sink.old)
+        (S.faults sink.new) e (32 ∷ length_text length.now.low length.now.high length.now.until)) }
 {
     put(alloc, sink, b" ")?;
     put_length(alloc, sink, length)
@@ -61,8 +67,10 @@ fn put_span<S: Sink>(alloc: Global, sink: &mut S, length: &Length) -> Result<(),
 
 // The names of properties, each behind a space.
 fn put_names<S: Sink>(alloc: Global, sink: &mut S, set: &Set, next: &[u32]) -> Result<(), OutFault>
-    ensures ok { OnOk result (Put (S.written sink.old) (S.written sink.new) (S.faults sink.old) (S.faults sink.new) (spaced (map (property_name set.now) next.now))) }
-    ensures err { IfErr result (λ e. Refused (S.written sink.old) (S.written sink.new) (S.faults sink.old) (S.faults sink.new) e (spaced (map (property_name set.now) next.now))) }
+    ensures ok { OnOk result (Put (S.written sink.old) (S.written sink.new) (S.faults sink.old) (S.faults sink.new)
+        (spaced (map (property_name set.now) next.now))) }
+    ensures err { IfErr result (λ e. Refused (S.written sink.old) (S.written sink.new) (S.faults sink.old)
+        (S.faults sink.new) e (spaced (map (property_name set.now) next.now))) }
 {
     match next {
         [] => Ok(()),
@@ -80,8 +88,10 @@ fn put_successors<S: Sink>(
     set: &Set,
     next: &[u32],
 ) -> Result<(), OutFault>
-    ensures ok { OnOk result (Put (S.written sink.old) (S.written sink.new) (S.faults sink.old) (S.faults sink.new) (codes " ->" ++ spaced (map (property_name set.now) next.now))) }
-    ensures err { IfErr result (λ e. Refused (S.written sink.old) (S.written sink.new) (S.faults sink.old) (S.faults sink.new) e (codes " ->" ++ spaced (map (property_name set.now) next.now))) }
+    ensures ok { OnOk result (Put (S.written sink.old) (S.written sink.new) (S.faults sink.old) (S.faults sink.new)
+        (codes " ->" ++ spaced (map (property_name set.now) next.now))) }
+    ensures err { IfErr result (λ e. Refused (S.written sink.old) (S.written sink.new) (S.faults sink.old)
+        (S.faults sink.new) e (codes " ->" ++ spaced (map (property_name set.now) next.now))) }
 {
     put(alloc, sink, b" ->")?;
     put_names(alloc, sink, set, next)
@@ -94,8 +104,10 @@ fn put_words<S: Sink>(
     set: &Set,
     property: &Property,
 ) -> Result<(), OutFault>
-    ensures ok { OnOk result (Put (S.written sink.old) (S.written sink.new) (S.faults sink.old) (S.faults sink.new) (spaced (length_text property.now.length.low property.now.length.high property.now.length.until ∷ codes "->" ∷ map (property_name set.now) property.now.next))) }
-    ensures err { IfErr result (λ e. Refused (S.written sink.old) (S.written sink.new) (S.faults sink.old) (S.faults sink.new) e (spaced (length_text property.now.length.low property.now.length.high property.now.length.until ∷ codes "->" ∷ map (property_name set.now) property.now.next))) }
+    ensures ok { OnOk result (Put (S.written sink.old) (S.written sink.new) (S.faults sink.old) (S.faults sink.new)
+        (spaced (length_text property.now.length.low property.now.length.high property.now.length.until ∷ codes "->" ∷ map (property_name set.now) property.now.next))) }
+    ensures err { IfErr result (λ e. Refused (S.written sink.old) (S.written sink.new) (S.faults sink.old)
+        (S.faults sink.new) e (spaced (length_text property.now.length.low property.now.length.high property.now.length.until ∷ codes "->" ∷ map (property_name set.now) property.now.next))) }
 {
     put_span(alloc, sink, &property.length)?;
     put_successors(alloc, sink, set, property.next.as_slice())
@@ -108,8 +120,10 @@ fn put_rest<S: Sink>(
     set: &Set,
     property: &Property,
 ) -> Result<(), OutFault>
-    ensures ok { OnOk result (Put (S.written sink.old) (S.written sink.new) (S.faults sink.old) (S.faults sink.new) (spaced (length_text property.now.length.low property.now.length.high property.now.length.until ∷ codes "->" ∷ map (property_name set.now) property.now.next) ++ 10 ∷ [])) }
-    ensures err { IfErr result (λ e. Refused (S.written sink.old) (S.written sink.new) (S.faults sink.old) (S.faults sink.new) e (spaced (length_text property.now.length.low property.now.length.high property.now.length.until ∷ codes "->" ∷ map (property_name set.now) property.now.next) ++ 10 ∷ [])) }
+    ensures ok { OnOk result (Put (S.written sink.old) (S.written sink.new) (S.faults sink.old) (S.faults sink.new)
+        (spaced (length_text property.now.length.low property.now.length.high property.now.length.until ∷ codes "->" ∷ map (property_name set.now) property.now.next) ++ 10 ∷ [])) }
+    ensures err { IfErr result (λ e. Refused (S.written sink.old) (S.written sink.new) (S.faults sink.old)
+        (S.faults sink.new) e (spaced (length_text property.now.length.low property.now.length.high property.now.length.until ∷ codes "->" ∷ map (property_name set.now) property.now.next) ++ 10 ∷ [])) }
 {
     put_words(alloc, sink, set, property)?;
     put(alloc, sink, b"\n")
@@ -123,8 +137,10 @@ fn put_transition<S: Sink>(
     name: &[u8],
     property: &Property,
 ) -> Result<(), OutFault>
-    ensures ok { OnOk result (Put (S.written sink.old) (S.written sink.new) (S.faults sink.old) (S.faults sink.new) (transition set.now name.now property.now)) }
-    ensures err { IfErr result (λ e. Refused (S.written sink.old) (S.written sink.new) (S.faults sink.old) (S.faults sink.new) e (transition set.now name.now property.now)) }
+    ensures ok { OnOk result (Put (S.written sink.old) (S.written sink.new) (S.faults sink.old) (S.faults sink.new)
+        (transition set.now name.now property.now)) }
+    ensures err { IfErr result (λ e. Refused (S.written sink.old) (S.written sink.new) (S.faults sink.old)
+        (S.faults sink.new) e (transition set.now name.now property.now)) }
 {
     put(alloc, sink, name)?;
     put_rest(alloc, sink, set, property)
@@ -137,8 +153,10 @@ fn put_operations<S: Sink>(
     set: &Set,
     operations: &[Property],
 ) -> Result<(), OutFault>
-    ensures ok { OnOk result (Put (S.written sink.old) (S.written sink.new) (S.faults sink.old) (S.faults sink.new) (operations_text set.now operations.now)) }
-    ensures err { IfErr result (λ e. Refused (S.written sink.old) (S.written sink.new) (S.faults sink.old) (S.faults sink.new) e (operations_text set.now operations.now)) }
+    ensures ok { OnOk result (Put (S.written sink.old) (S.written sink.new) (S.faults sink.old) (S.faults sink.new)
+        (operations_text set.now operations.now)) }
+    ensures err { IfErr result (λ e. Refused (S.written sink.old) (S.written sink.new) (S.faults sink.old)
+        (S.faults sink.new) e (operations_text set.now operations.now)) }
 {
     match operations {
         [] => Ok(()),
@@ -153,8 +171,10 @@ fn put_operations<S: Sink>(
 /// or as `a..b` where a condition ends it, `->`, and the names of its successors, with single spaces between. It takes
 /// no memory of its own. It is refused where the sink refuses, and then a prefix of the text was put.
 pub fn put_machine<S: Sink>(alloc: Global, sound: &Sound, sink: &mut S) -> Result<(), OutFault>
-    ensures ok { OnOk result (Put (S.written sink.old) (S.written sink.new) (S.faults sink.old) (S.faults sink.new) (machine_text sound.now)) }
-    ensures err { IfErr result (λ e. Refused (S.written sink.old) (S.written sink.new) (S.faults sink.old) (S.faults sink.new) e (machine_text sound.now)) }
+    ensures ok { OnOk result (Put (S.written sink.old) (S.written sink.new) (S.faults sink.old) (S.faults sink.new)
+        (machine_text sound.now)) }
+    ensures err { IfErr result (λ e. Refused (S.written sink.old) (S.written sink.new) (S.faults sink.old)
+        (S.faults sink.new) e (machine_text sound.now)) }
 {
     let set = sound.set();
     put_transition(alloc, sink, set, b"reset", &set.first)?;
@@ -174,8 +194,10 @@ pub fn machine_text(alloc: Global, sound: &Sound) -> Result<Text, AllocError>
 
 // A word behind a space, and the end of the line.
 fn put_last<S: Sink>(alloc: Global, sink: &mut S, word: &[u8]) -> Result<(), OutFault>
-    ensures ok { OnOk result (Put (S.written sink.old) (S.written sink.new) (S.faults sink.old) (S.faults sink.new) ((32 ∷ word.now) ++ 10 ∷ [])) }
-    ensures err { IfErr result (λ e. Refused (S.written sink.old) (S.written sink.new) (S.faults sink.old) (S.faults sink.new) e ((32 ∷ word.now) ++ 10 ∷ [])) }
+    ensures ok { OnOk result (Put (S.written sink.old) (S.written sink.new) (S.faults sink.old) (S.faults sink.new)
+        ((32 ∷ word.now) ++ 10 ∷ [])) }
+    ensures err { IfErr result (λ e. Refused (S.written sink.old) (S.written sink.new) (S.faults sink.old)
+        (S.faults sink.new) e ((32 ∷ word.now) ++ 10 ∷ [])) }
 {
     put_word(alloc, sink, word)?;
     put(alloc, sink, b"\n")
@@ -183,8 +205,10 @@ fn put_last<S: Sink>(alloc: Global, sink: &mut S, word: &[u8]) -> Result<(), Out
 
 // A property of a path.
 fn put_step<S: Sink>(alloc: Global, sink: &mut S, set: &Set, at: &At) -> Result<(), OutFault>
-    ensures ok { OnOk result (Put (S.written sink.old) (S.written sink.new) (S.faults sink.old) (S.faults sink.new) (step_text set.now at.now)) }
-    ensures err { IfErr result (λ e. Refused (S.written sink.old) (S.written sink.new) (S.faults sink.old) (S.faults sink.new) e (step_text set.now at.now)) }
+    ensures ok { OnOk result (Put (S.written sink.old) (S.written sink.new) (S.faults sink.old) (S.faults sink.new)
+        (step_text set.now at.now)) }
+    ensures err { IfErr result (λ e. Refused (S.written sink.old) (S.written sink.new) (S.faults sink.old)
+        (S.faults sink.new) e (step_text set.now at.now)) }
 {
     put_number(alloc, sink, at.start)?;
     put_last(alloc, sink, property_name(set, at.property))
@@ -215,8 +239,10 @@ pub fn path_text(alloc: Global, sound: &Sound, path: &Path) -> Result<Text, Allo
 
 // The fault of a line.
 fn put_row<S: Sink>(alloc: Global, sink: &mut S, line: u64) -> Result<(), OutFault>
-    ensures ok { OnOk result (Put (S.written sink.old) (S.written sink.new) (S.faults sink.old) (S.faults sink.new) (codes "Row " ++ decimal line)) }
-    ensures err { IfErr result (λ e. Refused (S.written sink.old) (S.written sink.new) (S.faults sink.old) (S.faults sink.new) e (codes "Row " ++ decimal line)) }
+    ensures ok { OnOk result (Put (S.written sink.old) (S.written sink.new) (S.faults sink.old) (S.faults sink.new)
+        (codes "Row " ++ decimal line)) }
+    ensures err { IfErr result (λ e. Refused (S.written sink.old) (S.written sink.new) (S.faults sink.old)
+        (S.faults sink.new) e (codes "Row " ++ decimal line)) }
 {
     put(alloc, sink, b"Row ")?;
     put_number(alloc, sink, line)
@@ -224,8 +250,10 @@ fn put_row<S: Sink>(alloc: Global, sink: &mut S, line: u64) -> Result<(), OutFau
 
 // A fault of rows.
 fn put_fault<S: Sink>(alloc: Global, sink: &mut S, fault: &RowFault) -> Result<(), OutFault>
-    ensures ok { OnOk result (Put (S.written sink.old) (S.written sink.new) (S.faults sink.old) (S.faults sink.new) (fault_text fault.now)) }
-    ensures err { IfErr result (λ e. Refused (S.written sink.old) (S.written sink.new) (S.faults sink.old) (S.faults sink.new) e (fault_text fault.now)) }
+    ensures ok { OnOk result (Put (S.written sink.old) (S.written sink.new) (S.faults sink.old) (S.faults sink.new)
+        (fault_text fault.now)) }
+    ensures err { IfErr result (λ e. Refused (S.written sink.old) (S.written sink.new) (S.faults sink.old)
+        (S.faults sink.new) e (fault_text fault.now)) }
 {
     match fault {
         RowFault::Long => put(alloc, sink, b"Long"),

@@ -100,7 +100,8 @@ fn ask<H: Helper>(
 ) -> Result<Option<Evidence>, AllocError>
     requires ready { IfReady ready }
     ensures shown { IfOk result (ShownOf ready.entry) }
-    ensures first { IfOk result (λ _. FirstRose (turns_of ready.entry) (map H.asked helpers.old.items) (map H.asked helpers.new.items)) }
+    ensures first { IfOk result (λ _. FirstRose (turns_of ready.entry) (map H.asked helpers.old.items)
+        (map H.asked helpers.new.items)) }
     ensures asked { NoneFalls (map H.asked helpers.old.items) (map H.asked helpers.new.items) }
 {
     let Some(Ready { ob, cnf, claims }) = ready else {
@@ -118,7 +119,8 @@ fn ask_each<H: Helper>(
 ) -> Result<Vec<Option<Evidence>>, AllocError>
     requires ready { All IfReady all.items }
     ensures shown { IfOk result (λ helped. AllZip ShownOf all.entry.items helped.items) }
-    ensures first { IfOk result (λ _. FirstRose (sum_by turns_of all.entry.items) (map H.asked helpers.old.items) (map H.asked helpers.new.items)) }
+    ensures first { IfOk result (λ _. FirstRose (sum_by turns_of all.entry.items) (map H.asked helpers.old.items)
+        (map H.asked helpers.new.items)) }
     ensures asked { NoneFalls (map H.asked helpers.old.items) (map H.asked helpers.new.items) }
 {
     let mut helped = Vec::new(alloc);
@@ -148,7 +150,8 @@ fn help_few<R: Threads + Sync, H: Helper>(
 ) -> Result<Vec<Option<Evidence>>, AllocError>
     requires { length obs.now < 2 ^ 32 }
     ensures helped { IfOk result (λ helped. AllZip Helps obs.now helped.items) }
-    ensures first { IfOk result (λ _. FirstRose (count_by lacks_proof obs.now) (map H.asked helpers.old.items) (map H.asked helpers.new.items)) }
+    ensures first { IfOk result (λ _. FirstRose (count_by lacks_proof obs.now) (map H.asked helpers.old.items)
+        (map H.asked helpers.new.items)) }
     ensures asked { NoneFalls (map H.asked helpers.old.items) (map H.asked helpers.new.items) }
 {
     let all = ready_all(crew, helpers.as_slice(), obs)?;
@@ -174,7 +177,8 @@ pub(crate) fn help_all<R: Threads + Sync, H: Helper>(
 ) -> Result<Vec<Option<Evidence>>, AllocError>
     requires { length obs.now < 2 ^ 32 }
     ensures helped { IfOk result (λ helped. AllZip Helps obs.now helped.items) }
-    ensures first { IfOk result (λ _. FirstRose (count_by lacks_proof obs.now) (map H.asked helpers.old.items) (map H.asked helpers.new.items)) }
+    ensures first { IfOk result (λ _. FirstRose (count_by lacks_proof obs.now) (map H.asked helpers.old.items)
+        (map H.asked helpers.new.items)) }
     ensures asked { NoneFalls (map H.asked helpers.old.items) (map H.asked helpers.new.items) }
 {
     if helpers.is_empty() {

@@ -92,7 +92,8 @@ pub fn migrate<K: Keeper>(alloc: Global, keeper: &mut K, most: u64) -> Result<Mo
     ensures walks { IfOk result (λ m. Told (Walks most m) (K.tables keeper.old) (K.tables keeper.new)) }
     ensures few { IfOk result (λ m. m.moved + m.left ≤ most) }
     ensures more { IfOk result (λ m. IsTrue m.more ↔ (m.moved + m.left ≡ most)) }
-    ensures whole { IfOk result (λ m. m.more ≡ false → IfSome (K.tables keeper.new) (λ t. (key : List ℕ) → CouldMove t key → ⊥)) }
+    ensures whole { IfOk result (λ m. m.more ≡ false →
+        IfSome (K.tables keeper.new) (λ t. (key : List ℕ) → CouldMove t key → ⊥)) }
 
     // What the keeper holds afterwards, also after a refusal.
     ensures rows { Told MovesRows (K.tables keeper.old) (K.tables keeper.new) }

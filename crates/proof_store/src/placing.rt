@@ -145,7 +145,8 @@ impl<'a, 'k, 'h, R: Threads + Sync, K: Keeper, H: Helper, G: Gate + Sync> Prover
         requires jobs { length goals.now < 2 ^ 32 }
         ensures found { IfOk result (λ all. AllZip (IsChecked (kept_by K.tables self.old)) goals.now all.items) }
         ensures tables { kept_by K.tables self.new ≡ kept_by K.tables self.old }
-        ensures faults { Rises (result ≡ Err StoreFault.Keeper) (K.faults self.old.keeper.now) (K.faults self.new.keeper.now) }
+        ensures faults { Rises (result ≡ Err StoreFault.Keeper) (K.faults self.old.keeper.now)
+            (K.faults self.new.keeper.now) }
         ensures asked { asked_by H.asked self.new ≡ asked_by H.asked self.old }
         ensures same { IsSame self.old self.new }
     {
@@ -160,8 +161,10 @@ impl<'a, 'k, 'h, R: Threads + Sync, K: Keeper, H: Helper, G: Gate + Sync> Prover
         requires jobs { length goals.now < 2 ^ 32 }
         ensures finds { IfOk result (λ found. AllZip (FindsOf (kept_by K.tables self.old)) goals.now found.items) }
         ensures tables { kept_by K.tables self.new ≡ kept_by K.tables self.old }
-        ensures proceeds { Proceeds (result ≡ Err StoreFault.Keeper) (counts K.faults H.asked self.old) (counts K.faults H.asked self.new) }
-        ensures first { IfOk result (λ found. FirstRose (sum_by asked_about found.items) (asked_by H.asked self.old) (asked_by H.asked self.new)) }
+        ensures proceeds { Proceeds (result ≡ Err StoreFault.Keeper) (counts K.faults H.asked self.old)
+            (counts K.faults H.asked self.new) }
+        ensures first { IfOk result (λ found. FirstRose (sum_by asked_about found.items) (asked_by H.asked self.old)
+            (asked_by H.asked self.new)) }
         ensures same { IsSame self.old self.new }
     {
         let obs = self.look_up(goals)?;
@@ -179,8 +182,10 @@ impl<'a, 'k, 'h, R: Threads + Sync, K: Keeper, H: Helper, G: Gate + Sync> Prover
         ensures placed { IfOk result (λ p. AllZip (IsPlaced (kept_by K.tables self.old)) goals.items p.places.items) }
         ensures rest { IfOk result (λ p. p.rest.items ≡ open_of goals.items p.places.items) }
         ensures tables { kept_by K.tables self.new ≡ kept_by K.tables self.old }
-        ensures proceeds { Proceeds (result ≡ Err StoreFault.Keeper) (counts K.faults H.asked self.old) (counts K.faults H.asked self.new) }
-        ensures first { IfOk result (λ p. FirstRose (sum_by asked_for p.places.items) (asked_by H.asked self.old) (asked_by H.asked self.new)) }
+        ensures proceeds { Proceeds (result ≡ Err StoreFault.Keeper) (counts K.faults H.asked self.old)
+            (counts K.faults H.asked self.new) }
+        ensures first { IfOk result (λ p. FirstRose (sum_by asked_for p.places.items) (asked_by H.asked self.old)
+            (asked_by H.asked self.new)) }
         ensures same { IsSame self.old self.new }
     {
         let found = self.find_all(goals.as_slice())?;
@@ -196,7 +201,8 @@ fn taken<L: Drop>(
 ) -> Decided<L>
     requires obs { is_open place ≡ true → 0 < into_iter_len obs.old }
     requires ends { is_open place ≡ true → 0 < into_iter_len ends.old }
-    ensures { Takes place result (into_iter_items obs.old) (into_iter_items ends.old) (into_iter_items obs.new) (into_iter_items ends.new) }
+    ensures { Takes place result (into_iter_items obs.old) (into_iter_items ends.old) (into_iter_items obs.new)
+        (into_iter_items ends.new) }
 {
     match place {
         Place::Done(decided) => decided,

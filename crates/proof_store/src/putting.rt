@@ -123,8 +123,10 @@ fn put_each<R: Threads + Sync, K: Keeper>(
     requires jobs { length outcomes.now < 2 ^ 32 }
     requires kept { IfSome (K.tables keeper.old) (λ t. All (TellsOutcome t) outcomes.now) }
     requires proofs { HasProofs (map outcome_ended outcomes.now) }
-    ensures ok { OnOk result (Told (StoresNew (map outcome_ended outcomes.now)) (K.tables keeper.old) (K.tables keeper.new)) }
-    ensures left { Told (AddsProofs (map ended_ob (map outcome_ended outcomes.now))) (K.tables keeper.old) (K.tables keeper.new) }
+    ensures ok { OnOk result (Told (StoresNew (map outcome_ended outcomes.now)) (K.tables keeper.old)
+        (K.tables keeper.new)) }
+    ensures left { Told (AddsProofs (map ended_ob (map outcome_ended outcomes.now))) (K.tables keeper.old)
+        (K.tables keeper.new) }
     ensures faults { Rises (result ≡ Err StoreFault.Keeper) (K.faults keeper.old) (K.faults keeper.new) }
 {
     let mut at = 0;
@@ -149,7 +151,8 @@ pub(crate) fn put_new<R: Threads + Sync, K: Keeper, L: Drop>(
     requires kept { IfSome (K.tables keeper.old) (λ t. All (λ d. IsTrue (is_kept d) ↔ IsKept t d.goal.ob) decided.now) }
     requires proofs { HasProofs (map ended decided.now) }
     ensures ok { OnOk result (Told (StoresNew (map ended decided.now)) (K.tables keeper.old) (K.tables keeper.new)) }
-    ensures left { Told (AddsProofs (map ended_ob (map ended decided.now))) (K.tables keeper.old) (K.tables keeper.new) }
+    ensures left { Told (AddsProofs (map ended_ob (map ended decided.now))) (K.tables keeper.old)
+        (K.tables keeper.new) }
     ensures faults { Rises (result ≡ Err StoreFault.Keeper) (K.faults keeper.old) (K.faults keeper.new) }
 {
     let outcomes = outcomes_of(crew.alloc, decided)?;

@@ -107,20 +107,26 @@ impl<'a, 'k, 'h, R: Threads + Sync, K: Keeper, H: Helper, G: Gate + Sync> Prover
     pub fn settle<L: Drop>(&mut self, goals: Vec<Goal<L>>) -> Result<Settled<L>, StoreFault>
         requires jobs { length goals.items < 2 ^ 32 }
         ensures decided { IfOk result (λ s. AllZip (IsDecided self.old.settings.budget) goals.items s.decided.items) }
-        ensures ample { IfOk result (λ s. AllZip (IsDecidedIfAmple self.old.settings.budget) goals.items s.decided.items) }
+        ensures ample { IfOk result (λ s. AllZip
+            (IsDecidedIfAmple self.old.settings.budget) goals.items s.decided.items) }
 
         // Where the evidence comes from.
         ensures counts { IfOk result (λ s. s.kept + s.helped + s.solved ≡ length goals.items) }
-        ensures kept { IfOk result (λ s. IfSome (kept_by K.tables self.old) (λ t. CountsKept t (map ob_of goals.items) s.kept)) }
+        ensures kept { IfOk result (λ s. IfSome (kept_by K.tables self.old)
+            (λ t. CountsKept t (map ob_of goals.items) s.kept)) }
         ensures draws { IfOk result (λ s. s.draws.items ≡ draws_of s.solved self.old.settings.workers) }
 
         // What the keeper holds afterwards.
-        ensures stored { IfOk result (λ s. Told (StoresNew (map ended s.decided.items)) (kept_by K.tables self.old) (kept_by K.tables self.new)) }
-        ensures left { Told (AddsProofs (map ob_of goals.items)) (kept_by K.tables self.old) (kept_by K.tables self.new) }
+        ensures stored { IfOk result (λ s. Told (StoresNew (map ended s.decided.items)) (kept_by K.tables self.old)
+            (kept_by K.tables self.new)) }
+        ensures left { Told (AddsProofs (map ob_of goals.items)) (kept_by K.tables self.old)
+            (kept_by K.tables self.new) }
 
         // Counts of faults, and how often helpers are asked: the first one once for each obligation that isn't kept.
-        ensures proceeds { Proceeds (result ≡ Err StoreFault.Keeper) (counts K.faults H.asked self.old) (counts K.faults H.asked self.new) }
-        ensures first { IfOk result (λ s. FirstRose (s.helped + s.solved) (asked_by H.asked self.old) (asked_by H.asked self.new)) }
+        ensures proceeds { Proceeds (result ≡ Err StoreFault.Keeper) (counts K.faults H.asked self.old)
+            (counts K.faults H.asked self.new) }
+        ensures first { IfOk result (λ s. FirstRose (s.helped + s.solved) (asked_by H.asked self.old)
+            (asked_by H.asked self.new)) }
         ensures same { IsSame self.old self.new }
     {
         let placed = self.place_all(goals)?;

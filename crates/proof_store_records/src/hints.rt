@@ -40,7 +40,8 @@ fn words_of(alloc: Global, numbers: &[u64]) -> Result<Option<Vec<u32>>, AllocErr
 
 // The hints whose distances these are; none where there are no such hints below 2^32.
 fn told_hints(alloc: Global, numbers: &[u64]) -> Result<Option<Vec<u32>>, AllocError>
-    ensures { IfOk result (λ read. MatchOption read ((hs : List ℕ) → All (λ h. h < 2 ^ 32) hs → distances hs ≡ numbers.now → ⊥)
+    ensures { IfOk result (λ read. MatchOption read ((hs : List ℕ) → All (λ h. h < 2 ^ 32) hs →
+        distances hs ≡ numbers.now → ⊥)
         (λ hints. All (λ h. h < 2 ^ 32) hints.items × (distances hints.items ≡ numbers.now))) }
 {
     let mut hints = Vec::new(alloc);
@@ -68,7 +69,8 @@ pub fn hints_of(
     version: Version,
     numbers: &[u64],
 ) -> Result<Option<Vec<u32>>, AllocError>
-    ensures { IfOk result (λ read. MatchOption read ((hs : List ℕ) → All (λ h. h < 2 ^ 32) hs → hint_numbers version hs ≡ numbers.now → ⊥)
+    ensures { IfOk result (λ read. MatchOption read ((hs : List ℕ) → All (λ h. h < 2 ^ 32) hs →
+        hint_numbers version hs ≡ numbers.now → ⊥)
         (λ hints. All (λ h. h < 2 ^ 32) hints.items × (hint_numbers version hints.items ≡ numbers.now))) }
 {
     match version {

@@ -35,7 +35,8 @@ fn take_numbers(
 
 // The literals of these values; none where a variable isn't below 2^32.
 fn lits_of(alloc: Global, values: &[u64]) -> Result<Option<Vec<Lit>>, AllocError>
-    ensures { IfOk result (λ read. MatchOption read ((ls : List Lit) → All (λ l. l.var < 2 ^ 32) ls → map lit_value ls ≡ values.now → ⊥)
+    ensures { IfOk result (λ read. MatchOption read ((ls : List Lit) → All (λ l. l.var < 2 ^ 32) ls →
+        map lit_value ls ≡ values.now → ⊥)
         (λ lits. All (λ l. l.var < 2 ^ 32) lits.items × (map lit_value lits.items ≡ values.now))) }
 {
     let mut lits = Vec::new(alloc);

@@ -65,8 +65,10 @@ fn held<S: Source>(
 ) -> u64
     requires registers { registers.now ≡ map register_name bound.now.design.registers }
     requires counts { position.at < S.count source.now }
-    requires before { AreWordsBefore bound.now.design bound.now.set position.resets position.at (S.gives source.now) before.now }
-    ensures { (e : Naming) → S.gives source.now e → result ≡ held bound.now.design bound.now.set position.resets e position.at name.now }
+    requires before { AreWordsBefore bound.now.design bound.now.set position.resets position.at
+        (S.gives source.now) before.now }
+    ensures { (e : Naming) → S.gives source.now e →
+        result ≡ held bound.now.design bound.now.set position.resets e position.at name.now }
 {
     let set = bound.set().set();
     if name == set.reset.bytes() {
@@ -94,9 +96,11 @@ fn node_word<S: Source>(
 ) -> Word
     requires registers { registers.now ≡ map register_name bound.now.design.registers }
     requires counts { position.at < S.count source.now }
-    requires before { AreWordsBefore bound.now.design bound.now.set position.resets position.at (S.gives source.now) before.now }
+    requires before { AreWordsBefore bound.now.design bound.now.set position.resets position.at
+        (S.gives source.now) before.now }
     requires fits { FitsNode (widths_of words.now) node.now }
-    ensures value { (e : Naming) → S.gives source.now e → result ≡ node_value (named (naming_of (held bound.now.design bound.now.set position.resets e position.at)) node.now) words.now node.now }
+    ensures value { (e : Naming) → S.gives source.now e →
+        result ≡ node_value (named (naming_of (held bound.now.design bound.now.set position.resets e position.at)) node.now) words.now node.now }
     ensures width { result.width ≡ width_of node.now }
 {
     match node {
@@ -120,8 +124,10 @@ pub fn words_at<S: Source>(
 ) -> Result<Vec<Word>, AllocError>
     requires registers { registers.now ≡ map register_name bound.now.design.registers }
     requires counts { position.at < S.count source.now }
-    requires before { AreWordsBefore bound.now.design bound.now.set position.resets position.at (S.gives source.now) before.now }
-    ensures { IfOk result (λ words. AreWordsAt bound.now.design bound.now.set position.resets position.at (S.gives source.now) words.items) }
+    requires before { AreWordsBefore bound.now.design bound.now.set position.resets position.at
+        (S.gives source.now) before.now }
+    ensures { IfOk result (λ words. AreWordsAt bound.now.design bound.now.set position.resets position.at
+        (S.gives source.now) words.items) }
 {
     let nodes = bound.design().dag().nodes();
     let mut words = Vec::with_capacity(alloc, nodes.len())?;

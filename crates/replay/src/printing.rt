@@ -13,8 +13,10 @@ use std::alloc::{AllocError, Global};
 
 // The number of a cycle.
 fn put_cycle<S: Sink>(alloc: Global, sink: &mut S, before: usize, i: usize) -> Result<(), OutFault>
-    ensures ok { OnOk result (Put (S.written sink.old) (S.written sink.new) (S.faults sink.old) (S.faults sink.new) (cycle_number before i)) }
-    ensures err { IfErr result (λ e. Refused (S.written sink.old) (S.written sink.new) (S.faults sink.old) (S.faults sink.new) e (cycle_number before i)) }
+    ensures ok { OnOk result (Put (S.written sink.old) (S.written sink.new) (S.faults sink.old) (S.faults sink.new)
+        (cycle_number before i)) }
+    ensures err { IfErr result (λ e. Refused (S.written sink.old) (S.written sink.new) (S.faults sink.old)
+        (S.faults sink.new) e (cycle_number before i)) }
 {
     if i < before {
         put(alloc, sink, b"-")?;
@@ -25,8 +27,10 @@ fn put_cycle<S: Sink>(alloc: Global, sink: &mut S, before: usize, i: usize) -> R
 
 // Numbers, each behind a space.
 fn put_values<S: Sink>(alloc: Global, sink: &mut S, values: &[u64]) -> Result<(), OutFault>
-    ensures ok { OnOk result (Put (S.written sink.old) (S.written sink.new) (S.faults sink.old) (S.faults sink.new) (spaced (map decimal values.now))) }
-    ensures err { IfErr result (λ e. Refused (S.written sink.old) (S.written sink.new) (S.faults sink.old) (S.faults sink.new) e (spaced (map decimal values.now))) }
+    ensures ok { OnOk result (Put (S.written sink.old) (S.written sink.new) (S.faults sink.old) (S.faults sink.new)
+        (spaced (map decimal values.now))) }
+    ensures err { IfErr result (λ e. Refused (S.written sink.old) (S.written sink.new) (S.faults sink.old)
+        (S.faults sink.new) e (spaced (map decimal values.now))) }
 {
     match values {
         [] => Ok(()),
@@ -39,8 +43,10 @@ fn put_values<S: Sink>(alloc: Global, sink: &mut S, values: &[u64]) -> Result<()
 
 // Words, each behind a space.
 fn put_words<S: Sink>(alloc: Global, sink: &mut S, words: &[Text]) -> Result<(), OutFault>
-    ensures ok { OnOk result (Put (S.written sink.old) (S.written sink.new) (S.faults sink.old) (S.faults sink.new) (spaced words.now)) }
-    ensures err { IfErr result (λ e. Refused (S.written sink.old) (S.written sink.new) (S.faults sink.old) (S.faults sink.new) e (spaced words.now)) }
+    ensures ok { OnOk result (Put (S.written sink.old) (S.written sink.new) (S.faults sink.old) (S.faults sink.new)
+        (spaced words.now)) }
+    ensures err { IfErr result (λ e. Refused (S.written sink.old) (S.written sink.new) (S.faults sink.old)
+        (S.faults sink.new) e (spaced words.now)) }
 {
     match words {
         [] => Ok(()),
@@ -53,8 +59,10 @@ fn put_words<S: Sink>(alloc: Global, sink: &mut S, words: &[Text]) -> Result<(),
 
 // Numbers, and the end of their line.
 fn put_last_values<S: Sink>(alloc: Global, sink: &mut S, values: &[u64]) -> Result<(), OutFault>
-    ensures ok { OnOk result (Put (S.written sink.old) (S.written sink.new) (S.faults sink.old) (S.faults sink.new) (spaced (map decimal values.now) ++ 10 ∷ [])) }
-    ensures err { IfErr result (λ e. Refused (S.written sink.old) (S.written sink.new) (S.faults sink.old) (S.faults sink.new) e (spaced (map decimal values.now) ++ 10 ∷ [])) }
+    ensures ok { OnOk result (Put (S.written sink.old) (S.written sink.new) (S.faults sink.old) (S.faults sink.new)
+        (spaced (map decimal values.now) ++ 10 ∷ [])) }
+    ensures err { IfErr result (λ e. Refused (S.written sink.old) (S.written sink.new) (S.faults sink.old)
+        (S.faults sink.new) e (spaced (map decimal values.now) ++ 10 ∷ [])) }
 {
     put_values(alloc, sink, values)?;
     put(alloc, sink, b"\n")
@@ -68,8 +76,10 @@ fn put_row<S: Sink>(
     i: usize,
     row: &[u64],
 ) -> Result<(), OutFault>
-    ensures ok { OnOk result (Put (S.written sink.old) (S.written sink.new) (S.faults sink.old) (S.faults sink.new) (row_line before i row.now)) }
-    ensures err { IfErr result (λ e. Refused (S.written sink.old) (S.written sink.new) (S.faults sink.old) (S.faults sink.new) e (row_line before i row.now)) }
+    ensures ok { OnOk result (Put (S.written sink.old) (S.written sink.new) (S.faults sink.old) (S.faults sink.new)
+        (row_line before i row.now)) }
+    ensures err { IfErr result (λ e. Refused (S.written sink.old) (S.written sink.new) (S.faults sink.old)
+        (S.faults sink.new) e (row_line before i row.now)) }
 {
     put_cycle(alloc, sink, before, i)?;
     put_last_values(alloc, sink, row)
@@ -84,8 +94,10 @@ fn put_rows<S: Sink>(
     rows: &[Rows<u64>],
 ) -> Result<(), OutFault>
     requires { i + length rows.now < 2 ^ 64 }
-    ensures ok { OnOk result (Put (S.written sink.old) (S.written sink.new) (S.faults sink.old) (S.faults sink.new) (row_lines before i rows.now)) }
-    ensures err { IfErr result (λ e. Refused (S.written sink.old) (S.written sink.new) (S.faults sink.old) (S.faults sink.new) e (row_lines before i rows.now)) }
+    ensures ok { OnOk result (Put (S.written sink.old) (S.written sink.new) (S.faults sink.old) (S.faults sink.new)
+        (row_lines before i rows.now)) }
+    ensures err { IfErr result (λ e. Refused (S.written sink.old) (S.written sink.new) (S.faults sink.old)
+        (S.faults sink.new) e (row_lines before i rows.now)) }
 {
     match rows {
         [] => Ok(()),
@@ -98,8 +110,10 @@ fn put_rows<S: Sink>(
 
 // Words, and the end of their line.
 fn put_last_words<S: Sink>(alloc: Global, sink: &mut S, words: &[Text]) -> Result<(), OutFault>
-    ensures ok { OnOk result (Put (S.written sink.old) (S.written sink.new) (S.faults sink.old) (S.faults sink.new) (spaced words.now ++ 10 ∷ [])) }
-    ensures err { IfErr result (λ e. Refused (S.written sink.old) (S.written sink.new) (S.faults sink.old) (S.faults sink.new) e (spaced words.now ++ 10 ∷ [])) }
+    ensures ok { OnOk result (Put (S.written sink.old) (S.written sink.new) (S.faults sink.old) (S.faults sink.new)
+        (spaced words.now ++ 10 ∷ [])) }
+    ensures err { IfErr result (λ e. Refused (S.written sink.old) (S.written sink.new) (S.faults sink.old)
+        (S.faults sink.new) e (spaced words.now ++ 10 ∷ [])) }
 {
     put_words(alloc, sink, words)?;
     put(alloc, sink, b"\n")
@@ -107,8 +121,10 @@ fn put_last_words<S: Sink>(alloc: Global, sink: &mut S, words: &[Text]) -> Resul
 
 // The line of the names.
 fn put_names<S: Sink>(alloc: Global, sink: &mut S, names: &[Text]) -> Result<(), OutFault>
-    ensures ok { OnOk result (Put (S.written sink.old) (S.written sink.new) (S.faults sink.old) (S.faults sink.new) (line (codes "cycle") names.now)) }
-    ensures err { IfErr result (λ e. Refused (S.written sink.old) (S.written sink.new) (S.faults sink.old) (S.faults sink.new) e (line (codes "cycle") names.now)) }
+    ensures ok { OnOk result (Put (S.written sink.old) (S.written sink.new) (S.faults sink.old) (S.faults sink.new)
+        (line (codes "cycle") names.now)) }
+    ensures err { IfErr result (λ e. Refused (S.written sink.old) (S.written sink.new) (S.faults sink.old)
+        (S.faults sink.new) e (line (codes "cycle") names.now)) }
 {
     put(alloc, sink, b"cycle")?;
     put_last_words(alloc, sink, names)
@@ -121,8 +137,10 @@ fn put_table<S: Sink>(
     before: usize,
     trace: &Trace,
 ) -> Result<(), OutFault>
-    ensures ok { OnOk result (Put (S.written sink.old) (S.written sink.new) (S.faults sink.old) (S.faults sink.new) (table before trace.now)) }
-    ensures err { IfErr result (λ e. Refused (S.written sink.old) (S.written sink.new) (S.faults sink.old) (S.faults sink.new) e (table before trace.now)) }
+    ensures ok { OnOk result (Put (S.written sink.old) (S.written sink.new) (S.faults sink.old) (S.faults sink.new)
+        (table before trace.now)) }
+    ensures err { IfErr result (λ e. Refused (S.written sink.old) (S.written sink.new) (S.faults sink.old)
+        (S.faults sink.new) e (table before trace.now)) }
 {
     put_names(alloc, sink, trace.names.as_slice())?;
     put_rows(alloc, sink, before, 0, trace.rows.as_slice())
@@ -130,8 +148,10 @@ fn put_table<S: Sink>(
 
 // A number behind a space, and the end of its line.
 fn put_last_value<S: Sink>(alloc: Global, sink: &mut S, value: u64) -> Result<(), OutFault>
-    ensures ok { OnOk result (Put (S.written sink.old) (S.written sink.new) (S.faults sink.old) (S.faults sink.new) (32 ∷ (decimal value ++ 10 ∷ []))) }
-    ensures err { IfErr result (λ e. Refused (S.written sink.old) (S.written sink.new) (S.faults sink.old) (S.faults sink.new) e (32 ∷ (decimal value ++ 10 ∷ []))) }
+    ensures ok { OnOk result (Put (S.written sink.old) (S.written sink.new) (S.faults sink.old) (S.faults sink.new)
+        (32 ∷ (decimal value ++ 10 ∷ []))) }
+    ensures err { IfErr result (λ e. Refused (S.written sink.old) (S.written sink.new) (S.faults sink.old)
+        (S.faults sink.new) e (32 ∷ (decimal value ++ 10 ∷ []))) }
 {
     put_value(alloc, sink, value)?;
     put(alloc, sink, b"\n")
@@ -139,8 +159,10 @@ fn put_last_value<S: Sink>(alloc: Global, sink: &mut S, value: u64) -> Result<()
 
 // A word behind a space, and the end of its line.
 fn put_last_word<S: Sink>(alloc: Global, sink: &mut S, word: &[u8]) -> Result<(), OutFault>
-    ensures ok { OnOk result (Put (S.written sink.old) (S.written sink.new) (S.faults sink.old) (S.faults sink.new) (32 ∷ (word.now ++ 10 ∷ []))) }
-    ensures err { IfErr result (λ e. Refused (S.written sink.old) (S.written sink.new) (S.faults sink.old) (S.faults sink.new) e (32 ∷ (word.now ++ 10 ∷ []))) }
+    ensures ok { OnOk result (Put (S.written sink.old) (S.written sink.new) (S.faults sink.old) (S.faults sink.new)
+        (32 ∷ (word.now ++ 10 ∷ []))) }
+    ensures err { IfErr result (λ e. Refused (S.written sink.old) (S.written sink.new) (S.faults sink.old)
+        (S.faults sink.new) e (32 ∷ (word.now ++ 10 ∷ []))) }
 {
     put_word(alloc, sink, word)?;
     put(alloc, sink, b"\n")
@@ -148,8 +170,10 @@ fn put_last_word<S: Sink>(alloc: Global, sink: &mut S, word: &[u8]) -> Result<()
 
 // The words of a register's first value.
 fn put_start_words<S: Sink>(alloc: Global, sink: &mut S, start: &Start) -> Result<(), OutFault>
-    ensures ok { OnOk result (Put (S.written sink.old) (S.written sink.new) (S.faults sink.old) (S.faults sink.new) (spaced (start.now.name ∷ decimal start.now.value ∷ []) ++ 10 ∷ [])) }
-    ensures err { IfErr result (λ e. Refused (S.written sink.old) (S.written sink.new) (S.faults sink.old) (S.faults sink.new) e (spaced (start.now.name ∷ decimal start.now.value ∷ []) ++ 10 ∷ [])) }
+    ensures ok { OnOk result (Put (S.written sink.old) (S.written sink.new) (S.faults sink.old) (S.faults sink.new)
+        (spaced (start.now.name ∷ decimal start.now.value ∷ []) ++ 10 ∷ [])) }
+    ensures err { IfErr result (λ e. Refused (S.written sink.old) (S.written sink.new) (S.faults sink.old)
+        (S.faults sink.new) e (spaced (start.now.name ∷ decimal start.now.value ∷ []) ++ 10 ∷ [])) }
 {
     put_word(alloc, sink, start.name.bytes())?;
     put_last_value(alloc, sink, start.value)
@@ -157,8 +181,10 @@ fn put_start_words<S: Sink>(alloc: Global, sink: &mut S, start: &Start) -> Resul
 
 // A register's first value.
 fn put_start<S: Sink>(alloc: Global, sink: &mut S, start: &Start) -> Result<(), OutFault>
-    ensures ok { OnOk result (Put (S.written sink.old) (S.written sink.new) (S.faults sink.old) (S.faults sink.new) (start_line start.now)) }
-    ensures err { IfErr result (λ e. Refused (S.written sink.old) (S.written sink.new) (S.faults sink.old) (S.faults sink.new) e (start_line start.now)) }
+    ensures ok { OnOk result (Put (S.written sink.old) (S.written sink.new) (S.faults sink.old) (S.faults sink.new)
+        (start_line start.now)) }
+    ensures err { IfErr result (λ e. Refused (S.written sink.old) (S.written sink.new) (S.faults sink.old)
+        (S.faults sink.new) e (start_line start.now)) }
 {
     put(alloc, sink, b"start")?;
     put_start_words(alloc, sink, start)
@@ -166,8 +192,10 @@ fn put_start<S: Sink>(alloc: Global, sink: &mut S, start: &Start) -> Result<(), 
 
 // The registers' first values.
 fn put_starts<S: Sink>(alloc: Global, sink: &mut S, starts: &[Start]) -> Result<(), OutFault>
-    ensures ok { OnOk result (Put (S.written sink.old) (S.written sink.new) (S.faults sink.old) (S.faults sink.new) (start_lines starts.now)) }
-    ensures err { IfErr result (λ e. Refused (S.written sink.old) (S.written sink.new) (S.faults sink.old) (S.faults sink.new) e (start_lines starts.now)) }
+    ensures ok { OnOk result (Put (S.written sink.old) (S.written sink.new) (S.faults sink.old) (S.faults sink.new)
+        (start_lines starts.now)) }
+    ensures err { IfErr result (λ e. Refused (S.written sink.old) (S.written sink.new) (S.faults sink.old)
+        (S.faults sink.new) e (start_lines starts.now)) }
 {
     match starts {
         [] => Ok(()),
@@ -186,8 +214,10 @@ fn put_named<S: Sink>(
     before: usize,
     trace: &Trace,
 ) -> Result<(), OutFault>
-    ensures ok { OnOk result (Put (S.written sink.old) (S.written sink.new) (S.faults sink.old) (S.faults sink.new) (name.now ++ (10 ∷ table before trace.now))) }
-    ensures err { IfErr result (λ e. Refused (S.written sink.old) (S.written sink.new) (S.faults sink.old) (S.faults sink.new) e (name.now ++ (10 ∷ table before trace.now))) }
+    ensures ok { OnOk result (Put (S.written sink.old) (S.written sink.new) (S.faults sink.old) (S.faults sink.new)
+        (name.now ++ (10 ∷ table before trace.now))) }
+    ensures err { IfErr result (λ e. Refused (S.written sink.old) (S.written sink.new) (S.faults sink.old)
+        (S.faults sink.new) e (name.now ++ (10 ∷ table before trace.now))) }
 {
     put(alloc, sink, name)?;
     put_under(alloc, sink, before, trace)
@@ -200,8 +230,10 @@ fn put_under<S: Sink>(
     before: usize,
     trace: &Trace,
 ) -> Result<(), OutFault>
-    ensures ok { OnOk result (Put (S.written sink.old) (S.written sink.new) (S.faults sink.old) (S.faults sink.new) (10 ∷ table before trace.now)) }
-    ensures err { IfErr result (λ e. Refused (S.written sink.old) (S.written sink.new) (S.faults sink.old) (S.faults sink.new) e (10 ∷ table before trace.now)) }
+    ensures ok { OnOk result (Put (S.written sink.old) (S.written sink.new) (S.faults sink.old) (S.faults sink.new)
+        (10 ∷ table before trace.now)) }
+    ensures err { IfErr result (λ e. Refused (S.written sink.old) (S.written sink.new) (S.faults sink.old)
+        (S.faults sink.new) e (10 ∷ table before trace.now)) }
 {
     put(alloc, sink, b"\n")?;
     put_table(alloc, sink, before, trace)
@@ -209,8 +241,10 @@ fn put_under<S: Sink>(
 
 // One trace, or two under their names.
 fn put_tables<S: Sink>(alloc: Global, sink: &mut S, shown: &Shown) -> Result<(), OutFault>
-    ensures ok { OnOk result (Put (S.written sink.old) (S.written sink.new) (S.faults sink.old) (S.faults sink.new) (tables shown.now.before shown.now.first shown.now.second)) }
-    ensures err { IfErr result (λ e. Refused (S.written sink.old) (S.written sink.new) (S.faults sink.old) (S.faults sink.new) e (tables shown.now.before shown.now.first shown.now.second)) }
+    ensures ok { OnOk result (Put (S.written sink.old) (S.written sink.new) (S.faults sink.old) (S.faults sink.new)
+        (tables shown.now.before shown.now.first shown.now.second)) }
+    ensures err { IfErr result (λ e. Refused (S.written sink.old) (S.written sink.new) (S.faults sink.old)
+        (S.faults sink.new) e (tables shown.now.before shown.now.first shown.now.second)) }
 {
     let before = shown.before as usize;
     match &shown.second {
@@ -224,8 +258,10 @@ fn put_tables<S: Sink>(alloc: Global, sink: &mut S, shown: &Shown) -> Result<(),
 
 // What follows the first line.
 fn put_shown<S: Sink>(alloc: Global, sink: &mut S, shown: &Shown) -> Result<(), OutFault>
-    ensures ok { OnOk result (Put (S.written sink.old) (S.written sink.new) (S.faults sink.old) (S.faults sink.new) (shown_text shown.now)) }
-    ensures err { IfErr result (λ e. Refused (S.written sink.old) (S.written sink.new) (S.faults sink.old) (S.faults sink.new) e (shown_text shown.now)) }
+    ensures ok { OnOk result (Put (S.written sink.old) (S.written sink.new) (S.faults sink.old) (S.faults sink.new)
+        (shown_text shown.now)) }
+    ensures err { IfErr result (λ e. Refused (S.written sink.old) (S.written sink.new) (S.faults sink.old)
+        (S.faults sink.new) e (shown_text shown.now)) }
 {
     put_starts(alloc, sink, shown.start.as_slice())?;
     put_tables(alloc, sink, shown)
@@ -233,8 +269,10 @@ fn put_shown<S: Sink>(alloc: Global, sink: &mut S, shown: &Shown) -> Result<(), 
 
 // The first line.
 fn put_line<S: Sink>(alloc: Global, sink: &mut S, name: &[u8]) -> Result<(), OutFault>
-    ensures ok { OnOk result (Put (S.written sink.old) (S.written sink.new) (S.faults sink.old) (S.faults sink.new) (line (codes "refuted") (name.now ∷ []))) }
-    ensures err { IfErr result (λ e. Refused (S.written sink.old) (S.written sink.new) (S.faults sink.old) (S.faults sink.new) e (line (codes "refuted") (name.now ∷ []))) }
+    ensures ok { OnOk result (Put (S.written sink.old) (S.written sink.new) (S.faults sink.old) (S.faults sink.new)
+        (line (codes "refuted") (name.now ∷ []))) }
+    ensures err { IfErr result (λ e. Refused (S.written sink.old) (S.written sink.new) (S.faults sink.old)
+        (S.faults sink.new) e (line (codes "refuted") (name.now ∷ []))) }
 {
     put(alloc, sink, b"refuted")?;
     put_last_word(alloc, sink, name)
@@ -250,8 +288,10 @@ pub fn print_trace<S: Sink>(
     shown: &Shown,
     sink: &mut S,
 ) -> Result<(), OutFault>
-    ensures ok { OnOk result (Put (S.written sink.old) (S.written sink.new) (S.faults sink.old) (S.faults sink.new) (trace_text line.now shown.now)) }
-    ensures err { IfErr result (λ e. Refused (S.written sink.old) (S.written sink.new) (S.faults sink.old) (S.faults sink.new) e (trace_text line.now shown.now)) }
+    ensures ok { OnOk result (Put (S.written sink.old) (S.written sink.new) (S.faults sink.old) (S.faults sink.new)
+        (trace_text line.now shown.now)) }
+    ensures err { IfErr result (λ e. Refused (S.written sink.old) (S.written sink.new) (S.faults sink.old)
+        (S.faults sink.new) e (trace_text line.now shown.now)) }
 {
     put_line(alloc, sink, line)?;
     put_shown(alloc, sink, shown)

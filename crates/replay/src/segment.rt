@@ -76,7 +76,8 @@ pub fn rows_of_source<S: Source>(
     count: usize,
 ) -> Result<Rows<Rows<u64>>, AllocError>
     requires { count ≤ S.count source.now }
-    ensures { IfOk result (λ rows. (e : Naming) → S.gives source.now e → rows ≡ rows_from bound.now.design bound.now.set resets e 0 count) }
+    ensures { IfOk result (λ rows. (e : Naming) → S.gives source.now e →
+        rows ≡ rows_from bound.now.design bound.now.set resets e 0 count) }
 {
     let registers = register_names(alloc, bound.design())?;
     let places = places_of(alloc, bound)?;
@@ -121,7 +122,8 @@ fn starts_of(
     resets: u8,
 ) -> Result<Rows<Start>, AllocError>
     requires { All (λ r. IsLength r.width) registers.now }
-    ensures { IfOk result (λ starts. (e : Naming) → AreOf e values.now → starts ≡ map (named_start e resets) registers.now) }
+    ensures { IfOk result (λ starts. (e : Naming) → AreOf e values.now →
+        starts ≡ map (named_start e resets) registers.now) }
 {
     let mut starts = Rows::new(alloc);
     for register in registers {
@@ -149,7 +151,8 @@ pub fn shown_segment(
 ) -> Result<Shown, AllocError>
     requires resets { reach.resets ≤ 64 }
     requires last { reach.last ≤ 64 }
-    ensures { IfOk result (ShowsNamed bound.now.design bound.now.set (naming_from ob.now.nodes values.now) reach.resets reach.last) }
+    ensures { IfOk result (ShowsNamed bound.now.design bound.now.set
+        (naming_from ob.now.nodes values.now) reach.resets reach.last) }
 {
     let design = bound.design();
     // the nodes of a design fit
@@ -177,11 +180,13 @@ pub fn replay(
     ob: &Ob,
     values: &[u64],
 ) -> Result<Shown, AllocError>
-    requires of_line { IsOf bound.now.design (meaning_of bound.now.set) bound.now.set (line_of line) ob.now.nodes ob.now.root }
+    requires of_line { IsOf bound.now.design (meaning_of bound.now.set) bound.now.set
+        (line_of line) ob.now.nodes ob.now.root }
     requires speaks { SpeaksOf bound.now.set (line_of line) }
     requires words { HasOneWordEach ob.now.nodes }
     requires root { (root_value values.now ob.now.nodes ob.now.root).value ≡ 1 }
-    ensures { IfOk result (ShowsSegment bound.now.design (meaning_of bound.now.set) bound.now.set (line_of line) (naming_from ob.now.nodes values.now)) }
+    ensures { IfOk result (ShowsSegment bound.now.design (meaning_of bound.now.set) bound.now.set (line_of line)
+        (naming_from ob.now.nodes values.now)) }
 {
     let design = bound.design();
     // the nodes of a design fit

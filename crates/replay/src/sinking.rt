@@ -8,8 +8,10 @@ use std::alloc::Global;
 
 /// Puts bytes.
 pub fn put<S: Sink>(alloc: Global, sink: &mut S, bytes: &[u8]) -> Result<(), OutFault>
-    ensures ok { OnOk result (Put (S.written sink.old) (S.written sink.new) (S.faults sink.old) (S.faults sink.new) (bytes.now)) }
-    ensures err { IfErr result (λ e. Refused (S.written sink.old) (S.written sink.new) (S.faults sink.old) (S.faults sink.new) e (bytes.now)) }
+    ensures ok { OnOk result (Put (S.written sink.old) (S.written sink.new) (S.faults sink.old) (S.faults sink.new)
+        (bytes.now)) }
+    ensures err { IfErr result (λ e. Refused (S.written sink.old) (S.written sink.new) (S.faults sink.old)
+        (S.faults sink.new) e (bytes.now)) }
 {
     sink.put(alloc, bytes)
 }
@@ -17,16 +19,20 @@ pub fn put<S: Sink>(alloc: Global, sink: &mut S, bytes: &[u8]) -> Result<(), Out
 // Puts a digit.
 fn put_digit<S: Sink>(alloc: Global, sink: &mut S, digit: u8) -> Result<(), OutFault>
     requires { digit < 10 }
-    ensures ok { OnOk result (Put (S.written sink.old) (S.written sink.new) (S.faults sink.old) (S.faults sink.new) ((48 + digit) ∷ [])) }
-    ensures err { IfErr result (λ e. Refused (S.written sink.old) (S.written sink.new) (S.faults sink.old) (S.faults sink.new) e ((48 + digit) ∷ [])) }
+    ensures ok { OnOk result (Put (S.written sink.old) (S.written sink.new) (S.faults sink.old) (S.faults sink.new)
+        ((48 + digit) ∷ [])) }
+    ensures err { IfErr result (λ e. Refused (S.written sink.old) (S.written sink.new) (S.faults sink.old)
+        (S.faults sink.new) e ((48 + digit) ∷ [])) }
 {
     put(alloc, sink, &[48 + digit])
 }
 
 /// Puts a number in decimal.
 pub fn put_number<S: Sink>(alloc: Global, sink: &mut S, number: u64) -> Result<(), OutFault>
-    ensures ok { OnOk result (Put (S.written sink.old) (S.written sink.new) (S.faults sink.old) (S.faults sink.new) (decimal number)) }
-    ensures err { IfErr result (λ e. Refused (S.written sink.old) (S.written sink.new) (S.faults sink.old) (S.faults sink.new) e (decimal number)) }
+    ensures ok { OnOk result (Put (S.written sink.old) (S.written sink.new) (S.faults sink.old) (S.faults sink.new)
+        (decimal number)) }
+    ensures err { IfErr result (λ e. Refused (S.written sink.old) (S.written sink.new) (S.faults sink.old)
+        (S.faults sink.new) e (decimal number)) }
 {
     if number < 10 {
         return put_digit(alloc, sink, number as u8);
@@ -37,8 +43,10 @@ pub fn put_number<S: Sink>(alloc: Global, sink: &mut S, number: u64) -> Result<(
 
 /// Puts a word behind a space.
 pub fn put_word<S: Sink>(alloc: Global, sink: &mut S, word: &[u8]) -> Result<(), OutFault>
-    ensures ok { OnOk result (Put (S.written sink.old) (S.written sink.new) (S.faults sink.old) (S.faults sink.new) (32 ∷ word.now)) }
-    ensures err { IfErr result (λ e. Refused (S.written sink.old) (S.written sink.new) (S.faults sink.old) (S.faults sink.new) e (32 ∷ word.now)) }
+    ensures ok { OnOk result (Put (S.written sink.old) (S.written sink.new) (S.faults sink.old) (S.faults sink.new)
+        (32 ∷ word.now)) }
+    ensures err { IfErr result (λ e. Refused (S.written sink.old) (S.written sink.new) (S.faults sink.old)
+        (S.faults sink.new) e (32 ∷ word.now)) }
 {
     put(alloc, sink, b" ")?;
     put(alloc, sink, word)
@@ -46,8 +54,10 @@ pub fn put_word<S: Sink>(alloc: Global, sink: &mut S, word: &[u8]) -> Result<(),
 
 /// Puts a number behind a space.
 pub fn put_value<S: Sink>(alloc: Global, sink: &mut S, value: u64) -> Result<(), OutFault>
-    ensures ok { OnOk result (Put (S.written sink.old) (S.written sink.new) (S.faults sink.old) (S.faults sink.new) (32 ∷ decimal value)) }
-    ensures err { IfErr result (λ e. Refused (S.written sink.old) (S.written sink.new) (S.faults sink.old) (S.faults sink.new) e (32 ∷ decimal value)) }
+    ensures ok { OnOk result (Put (S.written sink.old) (S.written sink.new) (S.faults sink.old) (S.faults sink.new)
+        (32 ∷ decimal value)) }
+    ensures err { IfErr result (λ e. Refused (S.written sink.old) (S.written sink.new) (S.faults sink.old)
+        (S.faults sink.new) e (32 ∷ decimal value)) }
 {
     put(alloc, sink, b" ")?;
     put_number(alloc, sink, value)

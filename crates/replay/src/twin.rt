@@ -127,7 +127,8 @@ fn second_of(
     rows: Rows<Rows<u64>>,
 ) -> Result<Option<Trace>, AllocError>
     ensures second { IfOk result (HasSecond set.now (compares (line_of line))) }
-    ensures rows { (n : ℕ) (first : List Row) → AreViolating (meaning_of set.now) set.now (line_of line) n first rows → IfOk result (λ second. AreViolating (meaning_of set.now) set.now (line_of line) n first (second_rows second)) }
+    ensures rows { (n : ℕ) (first : List Row) → AreViolating (meaning_of set.now) set.now (line_of line) n first rows →
+        IfOk result (λ second. AreViolating (meaning_of set.now) set.now (line_of line) n first (second_rows second)) }
     ensures same { compares (line_of line) ≡ true → IfOk result (λ second. second_rows second ≡ rows) }
 {
     if !compares(line) {
@@ -148,8 +149,10 @@ fn shown_at(
     requires speaks { SpeaksOf set.now (line_of line) }
     requires end { n ≤ 64 }
     ensures shown { IfOk result (λ found. IfSome found (ShowsWindows set.now (line_of line))) }
-    ensures named { IfOk result (λ found. (e : Naming) → AreOf e values.now → IfSome found (AreNamedWindows set.now (line_of line) e n)) }
-    ensures none { IfOk result (λ found. (e : Naming) → AreOf e values.now → found ≡ None → ViolatesAt set.now (line_of line) e n → ⊥) }
+    ensures named { IfOk result (λ found. (e : Naming) → AreOf e values.now →
+        IfSome found (AreNamedWindows set.now (line_of line) e n)) }
+    ensures none { IfOk result (λ found. (e : Naming) → AreOf e values.now → found ≡ None →
+        ViolatesAt set.now (line_of line) e n → ⊥) }
 {
     let names = set.set().names.as_slice();
     let count = line_end(set, line, n) + 1;

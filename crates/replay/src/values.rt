@@ -27,7 +27,9 @@ pub struct Values<'a> {
 
 // Puts in a word that isn't there yet.
 fn add<'a>(words: &mut HashMap<Word<'a>, u64>, word: Word<'a>, value: u64) -> Result<(), AllocError>
-    ensures { OnOk result ((q : FreeWord) (rest : ℕ) → unwrap_or (get same_word words.new q) rest ≡ unwrap_or (get same_word words.old q) (if same_word word.entry q then value else rest)) }
+    ensures { OnOk result ((q : FreeWord) (rest : ℕ) →
+        unwrap_or (get same_word words.new q) rest ≡ unwrap_or (get same_word words.old q)
+        (if same_word word.entry q then value else rest)) }
 {
     if !words.contains_key(&word) {
         words.insert(word, value)?;

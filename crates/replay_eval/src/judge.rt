@@ -320,7 +320,8 @@ impl Windows<'_> {
         requires position { IsPosition self.now.set.now at }
         requires window { window_of self.now.set.now at < length self.now.one.now }
         requires other_window { window_of self.now.set.now at < length self.now.other.now }
-        ensures { IfOk result (λ b. b ≡ pairs_to (meaning_of self.now.set.now) self.now.set.now at n self.now.one.now self.now.other.now) }
+        ensures { IfOk result (λ b. b ≡ pairs_to
+            (meaning_of self.now.set.now) self.now.set.now at n self.now.one.now self.now.other.now) }
     {
         let pairs = self.pairs(alloc, at)?;
         let first = end_of(alloc, self.set, at, self.one)?;
@@ -334,7 +335,8 @@ impl Windows<'_> {
         requires position { IsPosition self.now.set.now at }
         requires window { window_of self.now.set.now at < length self.now.one.now }
         requires other_window { window_of self.now.set.now at < length self.now.other.now }
-        ensures { IfOk result (λ b. b ≡ ends_apart (meaning_of self.now.set.now) self.now.set.now at self.now.one.now self.now.other.now) }
+        ensures { IfOk result (λ b. b ≡ ends_apart
+            (meaning_of self.now.set.now) self.now.set.now at self.now.one.now self.now.other.now) }
     {
         let pairs = self.pairs(alloc, at)?;
         let first = end_of(alloc, self.set, at, self.one)?;
@@ -349,9 +351,12 @@ impl Windows<'_> {
         requires other { IsTrace self.now.set.now self.now.other.now }
         requires position { IsPosition self.now.set.now at }
         requires next { IsPosition self.now.set.now next }
-        requires size { length self.now.one.now ≡ max (window_of self.now.set.now at) (n + window_of self.now.set.now next) + 1 }
-        requires other_size { length self.now.other.now ≡ max (window_of self.now.set.now at) (n + window_of self.now.set.now next) + 1 }
-        ensures { IfOk result (λ b. b ≡ violates_choose (meaning_of self.now.set.now) self.now.set.now at next n self.now.one.now self.now.other.now) }
+        requires size { length self.now.one.now ≡ max (window_of self.now.set.now at)
+            (n + window_of self.now.set.now next) + 1 }
+        requires other_size { length self.now.other.now ≡ max (window_of self.now.set.now at)
+            (n + window_of self.now.set.now next) + 1 }
+        ensures { IfOk result (λ b. b ≡ violates_choose
+            (meaning_of self.now.set.now) self.now.set.now at next n self.now.one.now self.now.other.now) }
     {
         let pairs = self.pairs_to(alloc, at, n)?;
         let chosen = is_assumed(alloc, self.set, next, rows_from(self.one, usize::from(n)))?;
@@ -365,9 +370,12 @@ impl Windows<'_> {
         requires other { IsTrace self.now.set.now self.now.other.now }
         requires position { IsPosition self.now.set.now at }
         requires next { IsPosition self.now.set.now next }
-        requires size { length self.now.one.now ≡ max (window_of self.now.set.now at) (n + window_of self.now.set.now next) + 1 }
-        requires other_size { length self.now.other.now ≡ max (window_of self.now.set.now at) (n + window_of self.now.set.now next) + 1 }
-        ensures { IfOk result (λ b. b ≡ violates_hand (meaning_of self.now.set.now) self.now.set.now at next n self.now.one.now self.now.other.now) }
+        requires size { length self.now.one.now ≡ max (window_of self.now.set.now at)
+            (n + window_of self.now.set.now next) + 1 }
+        requires other_size { length self.now.other.now ≡ max (window_of self.now.set.now at)
+            (n + window_of self.now.set.now next) + 1 }
+        ensures { IfOk result (λ b. b ≡ violates_hand
+            (meaning_of self.now.set.now) self.now.set.now at next n self.now.one.now self.now.other.now) }
     {
         let pairs = self.pairs_to(alloc, at, n)?;
         let one = rows_from(self.one, usize::from(n));
@@ -381,7 +389,8 @@ impl Windows<'_> {
     // `same-end P`.
     fn violates_same_end(&self, alloc: Global, at: u32) -> Result<bool, AllocError>
         requires { IsPosition self.now.set.now at }
-        ensures { IfOk result (λ b. IsTrue b ↔ ViolatesSameEnd (meaning_of self.now.set.now) self.now.set.now at self.now.one.now self.now.other.now) }
+        ensures { IfOk result (λ b. IsTrue b ↔ ViolatesSameEnd
+            (meaning_of self.now.set.now) self.now.set.now at self.now.one.now self.now.other.now) }
     {
         let end = window(self.set, at);
         if !self.are_sized(end) {
@@ -394,7 +403,8 @@ impl Windows<'_> {
     fn violates_choose(&self, alloc: Global, at: u32, next: u32, n: u8) -> Result<bool, AllocError>
         requires position { IsPosition self.now.set.now at }
         requires next { IsPosition self.now.set.now next }
-        ensures { IfOk result (λ b. IsTrue b ↔ ViolatesChoose (meaning_of self.now.set.now) self.now.set.now at next n self.now.one.now self.now.other.now) }
+        ensures { IfOk result (λ b. IsTrue b ↔ ViolatesChoose
+            (meaning_of self.now.set.now) self.now.set.now at next n self.now.one.now self.now.other.now) }
     {
         let end = edge(self.set, at, next, n);
         if !self.are_sized(end) {
@@ -407,7 +417,8 @@ impl Windows<'_> {
     fn violates_hand(&self, alloc: Global, at: u32, next: u32, n: u8) -> Result<bool, AllocError>
         requires position { IsPosition self.now.set.now at }
         requires next { IsPosition self.now.set.now next }
-        ensures { IfOk result (λ b. IsTrue b ↔ ViolatesHand (meaning_of self.now.set.now) self.now.set.now at next n self.now.one.now self.now.other.now) }
+        ensures { IfOk result (λ b. IsTrue b ↔ ViolatesHand
+            (meaning_of self.now.set.now) self.now.set.now at next n self.now.one.now self.now.other.now) }
     {
         let end = edge(self.set, at, next, n);
         if !self.are_sized(end) {
@@ -428,7 +439,9 @@ impl Windows<'_> {
         requires other { IsTrace self.now.set.now self.now.other.now }
         requires within { to ≤ length self.now.one.now }
         requires other_within { to ≤ length self.now.other.now }
-        ensures { IfOk result (λ b. b ≡ any_from from (to - from) (λ at. not (determined (meaning_of self.now.set.now) self.now.set.now output (drop at self.now.one.now) (drop at self.now.other.now)))) }
+        ensures { IfOk result (λ b. b ≡ any_from from (to - from)
+            (λ at. not (determined (meaning_of self.now.set.now) self.now.set.now output (drop at self.now.one.now)
+            (drop at self.now.other.now)))) }
     {
         for at in from..to {
             let first = rows_from(self.one, at);
@@ -449,7 +462,8 @@ impl Windows<'_> {
         requires window { window_of self.now.set.now at < length self.now.one.now }
         requires other_window { window_of self.now.set.now at < length self.now.other.now }
         requires end { n ≤ (property_at self.now.set.now at).length.high }
-        ensures { IfOk result (λ b. b ≡ covers_apart (meaning_of self.now.set.now) self.now.set.now at n self.now.one.now self.now.other.now) }
+        ensures { IfOk result (λ b. b ≡ covers_apart
+            (meaning_of self.now.set.now) self.now.set.now at n self.now.one.now self.now.other.now) }
     {
         let property = property_at(self.set, at);
         for cover in property.covers.as_slice() {
@@ -471,7 +485,8 @@ impl Windows<'_> {
         requires window { window_of self.now.set.now at < length self.now.one.now }
         requires other_window { window_of self.now.set.now at < length self.now.other.now }
         requires end { n ≤ (property_at self.now.set.now at).length.high }
-        ensures { IfOk result (λ b. b ≡ violates_determine (meaning_of self.now.set.now) self.now.set.now at n self.now.one.now self.now.other.now) }
+        ensures { IfOk result (λ b. b ≡ violates_determine
+            (meaning_of self.now.set.now) self.now.set.now at n self.now.one.now self.now.other.now) }
     {
         let pairs = self.pairs_to(alloc, at, n)?;
         let apart = self.any_covered_apart(alloc, at, n)?;
@@ -481,7 +496,8 @@ impl Windows<'_> {
     // `determine P`, where P ends at n.
     fn violates_determine(&self, alloc: Global, at: u32, n: u8) -> Result<bool, AllocError>
         requires { IsPosition self.now.set.now at }
-        ensures { IfOk result (λ b. IsTrue b ↔ Undetermines (meaning_of self.now.set.now) self.now.set.now at n self.now.one.now self.now.other.now) }
+        ensures { IfOk result (λ b. IsTrue b ↔ Undetermines
+            (meaning_of self.now.set.now) self.now.set.now at n self.now.one.now self.now.other.now) }
     {
         let property = property_at(self.set, at);
         if n > property.length.high {
@@ -497,7 +513,8 @@ impl Windows<'_> {
     // Whether they violate a line whose properties are there.
     fn violate_known(&self, alloc: Global, line: SetLine, n: u8) -> Result<bool, AllocError>
         requires { NamesProperties self.now.set.now (line_of line) }
-        ensures { IfOk result (λ b. IsTrue b ↔ AreViolating (meaning_of self.now.set.now) self.now.set.now (line_of line) n self.now.one.now self.now.other.now) }
+        ensures { IfOk result (λ b. IsTrue b ↔ AreViolating (meaning_of self.now.set.now) self.now.set.now
+            (line_of line) n self.now.one.now self.now.other.now) }
     {
         match line {
             SetLine::End(at) => violates_end(alloc, self.set, at, self.one),
@@ -513,7 +530,10 @@ impl Windows<'_> {
     /// after its start. No windows violate a line that names a property which isn't there; a line on one window reads
     /// the first.
     pub fn violate(&self, alloc: Global, line: SetLine, n: u8) -> Result<bool, AllocError>
-        ensures { IfOk result (λ b. IsTrue b ↔ (NamesProperties self.now.set.now (line_of line) × AreViolating (meaning_of self.now.set.now) self.now.set.now (line_of line) n self.now.one.now self.now.other.now)) }
+        ensures { IfOk result (λ b. IsTrue b ↔
+            (NamesProperties self.now.set.now (line_of line) ×
+            AreViolating (meaning_of self.now.set.now) self.now.set.now
+            (line_of line) n self.now.one.now self.now.other.now)) }
     {
         if !names_properties(self.set, line) {
             return Ok(false);

@@ -44,7 +44,8 @@ fn holds_throughout(
 ) -> Result<bool, AllocError>
     requires trace { IsTrace set.now rows.now }
     requires formed { IsFormula set.now formula.now }
-    ensures { IfOk result (λ b. b ≡ all_below (length rows.now - largest_offset formula.now) (λ t. holds (meaning_of set.now) formula.now (drop t rows.now))) }
+    ensures { IfOk result (λ b. b ≡ all_below (length rows.now - largest_offset formula.now)
+        (λ t. holds (meaning_of set.now) formula.now (drop t rows.now))) }
 {
     let count = rows.len().saturating_sub(largest(formula) as usize);
     for t in 0..count {
@@ -131,7 +132,8 @@ fn first_offset(
     requires readable { IsReadable set.now 1 formula.now }
     requires within { span.now.high < length rows.now }
     requires most { span.now.high ≤ 64 }
-    ensures { IfOk result (λ n. n ≡ first_offset (meaning_of set.now) formula.now rows.now span.now.low (suc span.now.high - span.now.low)) }
+    ensures { IfOk result (λ n. n ≡ first_offset (meaning_of set.now) formula.now rows.now span.now.low
+        (suc span.now.high - span.now.low)) }
 {
     for offset in span.low..span.high + 1 {
         let later = rows_from(rows, usize::from(offset));

@@ -46,7 +46,8 @@ fn add_changes(
     i: usize,
 ) -> Result<(), AllocError>
     requires { window.now.number ≤ 2 ^ 62 }
-    ensures { OnOk result (out.new.items ≡ out.old.items ++ changes signals.now window.now.rows.now (window.now.number + 2) i) }
+    ensures { OnOk result (out.new.items ≡ out.old.items ++ changes signals.now window.now.rows.now
+        (window.now.number + 2) i) }
 {
     let number = window.number + 2;
     for (k, signal) in signals.iter().enumerate() {

@@ -176,7 +176,8 @@ pub fn declarations(
     ensures spelt { IfOk result (λ read. Sequence (SpellsDeclaration tokens.now) at read.0 read.1) }
     ensures low { IfOk result (λ read. highest declaration_height read.0 ≤ 499) }
     ensures past { IfOk result (λ read. at ≤ read.1) }
-    ensures only { Answers (Sequence (SpellsDeclaration tokens.now)) (NoRole tokens.now) (highest declaration_height) 499 at result }
+    ensures only { Answers (Sequence (SpellsDeclaration tokens.now)) (NoRole tokens.now)
+        (highest declaration_height) 499 at result }
     ensures long { IfErr result (IsLong tokens.now at) }
 {
     let mut list = Rows::new(alloc);
@@ -280,7 +281,8 @@ fn maybe_until(
     ensures spelt { IfOk result (λ read. Maybe (SpellsUntil tokens.now) at read.0 read.1) }
     ensures low { IfOk result (λ read. highest_of until_height read.0 ≤ 498) }
     ensures past { IfOk result (λ read. at ≤ read.1) }
-    ensures only { Answers (Maybe (SpellsUntil tokens.now)) (Semicolon tokens.now) (highest_of until_height) 498 at result }
+    ensures only { Answers (Maybe (SpellsUntil tokens.now)) (Semicolon tokens.now)
+        (highest_of until_height) 498 at result }
     ensures long { IfErr result (IsLong tokens.now at) }
 {
     if is_word(tokens, at, b"to") {
@@ -293,10 +295,12 @@ fn maybe_until(
 
 /// `length ..;`
 pub fn length(alloc: Global, tokens: &[Token], at: usize) -> Result<(LengthText, usize), TextFault>
-    ensures spelt { IfOk result (λ read. Clause tokens.now (codes "length") (SpellsLength tokens.now) at read.0 read.1) }
+    ensures spelt { IfOk result (λ read. Clause tokens.now (codes "length")
+        (SpellsLength tokens.now) at read.0 read.1) }
     ensures low { IfOk result (λ read. length_height read.0 ≤ 498) }
     ensures past { IfOk result (λ read. at ≤ read.1) }
-    ensures only { Answers (Clause tokens.now (codes "length") (SpellsLength tokens.now)) Always length_height 498 at result }
+    ensures only { Answers (Clause tokens.now (codes "length")
+        (SpellsLength tokens.now)) Always length_height 498 at result }
     ensures long { IfErr result (IsLong tokens.now at) }
 {
     let end = word(tokens, at, b"length")?;
@@ -322,8 +326,10 @@ fn some_window(tokens: &[Token], at: usize) -> Result<(u64, usize), TextFault>
 
 /// `window ..;`, where it stands.
 pub fn window(tokens: &[Token], at: usize) -> Result<(Option<u64>, usize), TextFault>
-    ensures spelt { IfOk result (λ read. Maybe (Clause tokens.now (codes "window") (IsDigits tokens.now)) at read.0 read.1) }
-    ensures only { Answers (Maybe (Clause tokens.now (codes "window") (IsDigits tokens.now))) (NoWord (codes "window") tokens.now) flat 0 at result }
+    ensures spelt { IfOk result (λ read. Maybe
+        (Clause tokens.now (codes "window") (IsDigits tokens.now)) at read.0 read.1) }
+    ensures only { Answers (Maybe (Clause tokens.now (codes "window") (IsDigits tokens.now)))
+        (NoWord (codes "window") tokens.now) flat 0 at result }
     ensures plain { IfErr result IsSyntax }
     ensures past { IfOk result (λ read. at ≤ read.1) }
 {
@@ -365,10 +371,12 @@ pub fn clauses(
     at: usize,
     keyword: &[u8],
 ) -> Result<(Items<Expr>, usize), TextFault>
-    ensures spelt { IfOk result (λ read. Sequence (Clause tokens.now keyword.now (Spells true tokens.now)) at read.0 read.1) }
+    ensures spelt { IfOk result (λ read. Sequence
+        (Clause tokens.now keyword.now (Spells true tokens.now)) at read.0 read.1) }
     ensures low { IfOk result (λ read. highest height read.0 ≤ 498) }
     ensures past { IfOk result (λ read. at ≤ read.1) }
-    ensures only { Answers (Sequence (Clause tokens.now keyword.now (Spells true tokens.now))) (NoWord keyword.now tokens.now) (highest height) 498 at result }
+    ensures only { Answers (Sequence (Clause tokens.now keyword.now (Spells true tokens.now)))
+        (NoWord keyword.now tokens.now) (highest height) 498 at result }
     ensures long { IfErr result (IsLong tokens.now at) }
 {
     let mut list = Items::new(alloc);

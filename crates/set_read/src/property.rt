@@ -199,7 +199,8 @@ fn operations(
 ) -> Result<(Rows<PropertyText>, usize), TextFault>
     ensures spelt { IfOk result (λ read. Sequence (SpellsOperation tokens.now) at read.0 read.1) }
     ensures low { IfOk result (λ read. highest property_height read.0 ≤ 499) }
-    ensures only { Answers (Sequence (SpellsOperation tokens.now)) (NoWord (codes "operation") tokens.now) (highest property_height) 499 at result }
+    ensures only { Answers (Sequence (SpellsOperation tokens.now)) (NoWord (codes "operation") tokens.now)
+        (highest property_height) 499 at result }
     ensures long { IfErr result (IsLong tokens.now at) }
 {
     let mut list = Rows::new(alloc);

@@ -113,7 +113,8 @@ pub fn formula(alloc: Global, tokens: &[Token], at: usize) -> Result<(Expr, usiz
 pub fn names(alloc: Global, tokens: &[Token], at: usize) -> Result<(Items<Text>, usize), TextFault>
     ensures ok { IfOk result (λ read. Separated (Comma tokens.now) (IsNamed true tokens.now) at read.0 read.1) }
     ensures past { IfOk result (λ read. at < read.1) }
-    ensures only { Answers (Separated (Comma tokens.now) (IsNamed true tokens.now)) (Semicolon tokens.now) flat 0 at result }
+    ensures only { Answers (Separated (Comma tokens.now) (IsNamed true tokens.now))
+        (Semicolon tokens.now) flat 0 at result }
     ensures long { IfErr result (IsLong tokens.now at) }
 {
     let (first, mut end) = name(alloc, tokens, at)?;
@@ -137,7 +138,8 @@ pub fn formulas(
     ensures spelt { IfOk result (λ read. Separated (Comma tokens.now) (Spells true tokens.now) at read.0 read.1) }
     ensures low { IfOk result (λ read. highest height read.0 ≤ 498) }
     ensures past { IfOk result (λ read. at < read.1) }
-    ensures only { Answers (Separated (Comma tokens.now) (Spells true tokens.now)) (Semicolon tokens.now) (highest height) 498 at result }
+    ensures only { Answers (Separated (Comma tokens.now) (Spells true tokens.now)) (Semicolon tokens.now)
+        (highest height) 498 at result }
     ensures long { IfErr result (IsLong tokens.now at) }
 {
     let (first, mut end) = formula(alloc, tokens, at)?;

@@ -50,7 +50,8 @@ fn is_measured(alloc: Global, valuation: &Valuation, expr: &Expr) -> Result<bool
 
 // Whether a formula is well formed over the names of a valuation.
 fn is_formed(alloc: Global, valuation: &Valuation, formula: &Expr) -> Result<bool, AllocError>
-    ensures { IfOk result (λ t. MatchBool t (IsPresent valuation.now formula.now) (IsPresent valuation.now formula.now → ⊥)) }
+    ensures { IfOk result (λ t. MatchBool t (IsPresent valuation.now formula.now) (IsPresent valuation.now formula.now →
+        ⊥)) }
 {
     if !has_constant_parts(formula) {
         return Ok(false);
@@ -87,7 +88,8 @@ fn option_is(
 }
 
 fn until_is(alloc: Global, valuation: &Valuation, until: &Option<Until>) -> Result<bool, AllocError>
-    ensures { IfOk result (Judges (IsPresent valuation.now) (option_to_list (option_map (λ u. u.condition) until.now))) }
+    ensures { IfOk result (Judges (IsPresent valuation.now)
+        (option_to_list (option_map (λ u. u.condition) until.now))) }
 {
     match until {
         Some(until) => is_formed(alloc, valuation, &until.condition),
@@ -100,7 +102,8 @@ fn domains_are(
     valuation: &Valuation,
     declarations: &[Declaration],
 ) -> Result<bool, AllocError>
-    ensures { IfOk result (Judges (IsPresent valuation.now) (flat_map (λ d. option_to_list d.domain) declarations.now)) }
+    ensures { IfOk result (Judges (IsPresent valuation.now)
+        (flat_map (λ d. option_to_list d.domain) declarations.now)) }
 {
     for declaration in declarations {
         if !option_is(alloc, valuation, &declaration.domain)? {

@@ -331,7 +331,8 @@ fn all_looked(
 ) -> Result<Option<Vec<Looked>>, AllocError>
     requires declarations { length declarations.now < 2 ^ 32 }
     requires operations { length operations.now < 2 ^ 32 - 1 }
-    ensures { IfOk result (λ list. option_map (λ v. v.items) list ≡ each (looked_of declarations.now operations.now) operations.now) }
+    ensures { IfOk result (λ list. option_map (λ v. v.items) list ≡ each
+        (looked_of declarations.now operations.now) operations.now) }
 {
     let mut list = Vec::new(alloc);
     for property in operations {
@@ -410,10 +411,14 @@ fn lists_of(
     operations: Vec<PropertyText>,
     looked: Vec<Looked>,
 ) -> Result<Option<Lists>, AllocError>
-    ensures names { IfOk result (λ lists. MatchOption lists (each name_of declarations.items ≡ None) (λ l. each name_of declarations.items ≡ Some l.names)) }
-    ensures constraints { IfOk result (λ lists. IfSome lists (λ l. l.rules.constraints.items ≡ constraints_of rules.items)) }
-    ensures invariants { IfOk result (λ lists. IfSome lists (λ l. l.rules.invariants.items ≡ invariants_of rules.items)) }
-    ensures operations { IfOk result (λ lists. IfSome lists (λ l. l.operations ≡ properties_of looked.items operations.items)) }
+    ensures names { IfOk result (λ lists. MatchOption lists (each name_of declarations.items ≡ None)
+        (λ l. each name_of declarations.items ≡ Some l.names)) }
+    ensures constraints { IfOk result (λ lists. IfSome lists
+        (λ l. l.rules.constraints.items ≡ constraints_of rules.items)) }
+    ensures invariants { IfOk result (λ lists. IfSome lists
+        (λ l. l.rules.invariants.items ≡ invariants_of rules.items)) }
+    ensures operations { IfOk result (λ lists. IfSome lists
+        (λ l. l.operations ≡ properties_of looked.items operations.items)) }
 {
     let Some(names) = names_of(alloc, declarations)? else {
         return Ok(None);
@@ -438,8 +443,10 @@ struct Found {
 fn looked_through(alloc: Global, text: &SetText) -> Result<Option<Found>, AllocError>
     requires declarations { length text.now.declarations < 2 ^ 32 }
     requires operations { length text.now.operations < 2 ^ 32 - 1 }
-    ensures first { IfOk result (λ found. IfSome found (λ f. looked_of text.now.declarations text.now.operations text.now.first ≡ Some f.first)) }
-    ensures rest { IfOk result (λ found. IfSome found (λ f. each (looked_of text.now.declarations text.now.operations) text.now.operations ≡ Some f.rest.items)) }
+    ensures first { IfOk result (λ found. IfSome found
+        (λ f. looked_of text.now.declarations text.now.operations text.now.first ≡ Some f.first)) }
+    ensures rest { IfOk result (λ found. IfSome found
+        (λ f. each (looked_of text.now.declarations text.now.operations) text.now.operations ≡ Some f.rest.items)) }
     ensures none { IfOk result (λ found. IfNone found (MeansNothing text.now)) }
 {
     let declarations = text.declarations.as_slice();

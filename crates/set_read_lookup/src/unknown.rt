@@ -24,7 +24,8 @@ use vlog_tree::{Expr, Name};
 
 // The first wanted name in the domains of outputs.
 fn in_domains<'a>(declarations: &'a [Declaration], wanted: &Wanted<'_>) -> Option<&'a Name>
-    ensures { option_copied result ≡ find (is_wanted wanted.now) (flat_map (λ d. flat_map names_in (option_to_list d.domain)) declarations.now) }
+    ensures { option_copied result ≡ find (is_wanted wanted.now)
+        (flat_map (λ d. flat_map names_in (option_to_list d.domain)) declarations.now) }
 {
     for declaration in declarations {
         if let Some(name) = in_option(&declaration.domain, wanted) {
@@ -56,7 +57,8 @@ fn in_rules<'a>(rules: &'a [RuleText], wanted: &Wanted<'_>) -> Option<&'a Name>
 }
 
 fn in_until<'a>(until: &'a Option<Until>, wanted: &Wanted<'_>) -> Option<&'a Name>
-    ensures { option_copied result ≡ find (is_wanted wanted.now) (flat_map names_in (option_to_list (option_map (λ u. u.condition) until.now))) }
+    ensures { option_copied result ≡ find (is_wanted wanted.now)
+        (flat_map names_in (option_to_list (option_map (λ u. u.condition) until.now))) }
 {
     match until {
         Some(until) => wanted_in(&until.condition, wanted),

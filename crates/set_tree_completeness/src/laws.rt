@@ -33,7 +33,9 @@ pub fn formulas_read_within()
 /// Where no line of the design is violated (`base`, `step`, `reset` and `op`), every constrained run from reset, of any
 /// length, satisfies the set. It is an induction over the cycles with the invariants.
 pub fn valid_lines_hold_in_runs<C: Cycle>()
-    ensures { (m : Meaning) (set : Set) → ReadsWithin m → KeepsOffsets m set → AreDesignLinesValid (design_of C.follows C.is_reset C.values) m set → RunsSatisfy (design_of C.follows C.is_reset C.values) m set }
+    ensures { (m : Meaning) (set : Set) → ReadsWithin m → KeepsOffsets m set →
+        AreDesignLinesValid (design_of C.follows C.is_reset C.values) m set →
+        RunsSatisfy (design_of C.follows C.is_reset C.values) m set }
 {}
 
 /// A sound set none of whose own lines is violated is complete (Bormann's criterion): any two constrained traces with
@@ -58,8 +60,14 @@ pub fn each_trace_has_one_path()
 /// along its operations, and in any two constrained traces with the same inputs that satisfy the set,
 /// finite or infinite, each output is determined at every cycle.
 pub fn signed_off_sets_are_complete<C: Cycle>()
-    ensures runs { (m : Meaning) (set : Set) → ReadsWithin m → IsSound m set → IsSignedOff (design_of C.follows C.is_reset C.values) m set → RunsSatisfy (design_of C.follows C.is_reset C.values) m set }
-    ensures walks { (m : Meaning) (set : Set) → ReadsWithin m → IsSound m set → IsSignedOff (design_of C.follows C.is_reset C.values) m set → RunsWalk (design_of C.follows C.is_reset C.values) m set }
-    ensures complete { (m : Meaning) (set : Set) → ReadsWithin m → IsSound m set → IsSignedOff (design_of C.follows C.is_reset C.values) m set → IsComplete m set }
-    ensures forever { (m : Meaning) (set : Set) → ReadsWithin m → IsSound m set → IsSignedOff (design_of C.follows C.is_reset C.values) m set → IsCompleteForever m set }
+    ensures runs { (m : Meaning) (set : Set) → ReadsWithin m → IsSound m set →
+        IsSignedOff (design_of C.follows C.is_reset C.values) m set →
+        RunsSatisfy (design_of C.follows C.is_reset C.values) m set }
+    ensures walks { (m : Meaning) (set : Set) → ReadsWithin m → IsSound m set →
+        IsSignedOff (design_of C.follows C.is_reset C.values) m set →
+        RunsWalk (design_of C.follows C.is_reset C.values) m set }
+    ensures complete { (m : Meaning) (set : Set) → ReadsWithin m → IsSound m set →
+        IsSignedOff (design_of C.follows C.is_reset C.values) m set → IsComplete m set }
+    ensures forever { (m : Meaning) (set : Set) → ReadsWithin m → IsSound m set →
+        IsSignedOff (design_of C.follows C.is_reset C.values) m set → IsCompleteForever m set }
 {}

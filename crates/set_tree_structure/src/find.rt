@@ -86,7 +86,8 @@ fn property_fault(set: &Set, at: u32) -> Option<GraphFault>
 
 fn properties_fault(set: &Set) -> Option<GraphFault>
     requires { IsIndexed set.now }
-    ensures { result ≡ find (stands set.now) (flat_map (property_faults set.now) (positions 0 (suc (length set.now.operations)))) }
+    ensures { result ≡ find (stands set.now)
+        (flat_map (property_faults set.now) (positions 0 (suc (length set.now.operations)))) }
 {
     for at in 0..set.operations.len() as u32 + 1 {
         if let Some(fault) = property_fault(set, at) {
@@ -137,7 +138,8 @@ fn edges_fault(set: &Set, at: u32) -> Option<GraphFault>
 
 fn all_edges_fault(set: &Set) -> Option<GraphFault>
     requires { IsIndexed set.now }
-    ensures { result ≡ find (stands set.now) (flat_map (edges_faults set.now) (positions 0 (suc (length set.now.operations)))) }
+    ensures { result ≡ find (stands set.now)
+        (flat_map (edges_faults set.now) (positions 0 (suc (length set.now.operations)))) }
 {
     for at in 0..set.operations.len() as u32 + 1 {
         if let Some(fault) = edges_fault(set, at) {

@@ -80,6 +80,7 @@ pub fn structure(set: Set) -> Result<Sound, Unsound>
 
 /// No fault stands in a set exactly where its structure is sound.
 pub fn faults_are_exact()
-    ensures sound { (set : Set) → IsWellFormed set → ((f : GraphFault) → ¬ Stands set f) → IsSound (meaning_of set) set }
+    ensures sound { (set : Set) → IsWellFormed set → ((f : GraphFault) → ¬ Stands set f) →
+        IsSound (meaning_of set) set }
     ensures none { (set : Set) → IsSound (meaning_of set) set → (f : GraphFault) → ¬ Stands set f }
 {}

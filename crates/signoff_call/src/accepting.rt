@@ -57,8 +57,10 @@ fn line_reported<R: Threads + Sync, K: Keeper, H: Helper, G: Gate + Sync>(
     ensures answer { IfOk result (SaysBound (Reports (λ r. r.text)) bound.now (w.One name.now)
         checker.old.prover.settings.budget checker.old.prover.settings.workers checker.new.book.now
         (stores_between K.tables H.asked checker.old checker.new)) }
-    ensures left { AddsProofsOf (AreObsOf bound.now (w.One name.now)) (kept_by K.tables checker.old.prover) (kept_by K.tables checker.new.prover) }
-    ensures keeper { IfOk result (λ a. a.status ≡ 8 → Rose (K.faults checker.old.prover.keeper.now) (K.faults checker.new.prover.keeper.now)) }
+    ensures left { AddsProofsOf (AreObsOf bound.now (w.One name.now)) (kept_by K.tables checker.old.prover)
+        (kept_by K.tables checker.new.prover) }
+    ensures keeper { IfOk result (λ a. a.status ≡ 8 →
+        Rose (K.faults checker.old.prover.keeper.now) (K.faults checker.new.prover.keeper.now)) }
     ensures same { HasSame checker.old checker.new }
 {
     let alloc = checker.prover.alloc;
@@ -83,8 +85,10 @@ fn accepted<R: Threads + Sync, K: Keeper, H: Helper, G: Gate + Sync>(
     ensures answer { IfOk result (AcceptsBound bound.now name.now proof.now
         checker.old.prover.settings.budget checker.old.prover.settings.workers checker.new.book.now
         (stores_between K.tables H.asked checker.old checker.new)) }
-    ensures left { AddsTwiceTo bound.now name.now (kept_by K.tables checker.old.prover) (kept_by K.tables checker.new.prover) }
-    ensures keeper { IfOk result (λ a. a.status ≡ 8 → Rose (K.faults checker.old.prover.keeper.now) (K.faults checker.new.prover.keeper.now)) }
+    ensures left { AddsTwiceTo bound.now name.now (kept_by K.tables checker.old.prover)
+        (kept_by K.tables checker.new.prover) }
+    ensures keeper { IfOk result (λ a. a.status ≡ 8 →
+        Rose (K.faults checker.old.prover.keeper.now) (K.faults checker.new.prover.keeper.now)) }
     ensures same { HasSame checker.old checker.new }
 {
     let alloc = checker.prover.alloc;
@@ -107,8 +111,10 @@ pub fn accepted_in<R: Threads + Sync, K: Keeper, H: Helper, G: Gate + Sync>(
     ensures answer { IfOk result (AnswersAccept «module».now set.now given.now.line proof.now
         checker.old.prover.settings.budget checker.old.prover.settings.workers checker.new.book.now
         (stores_between K.tables H.asked checker.old checker.new)) }
-    ensures left { AddsTwice «module».now set.now given.now.line (kept_by K.tables checker.old.prover) (kept_by K.tables checker.new.prover) }
-    ensures keeper { IfOk result (λ a. a.status ≡ 8 → Rose (K.faults checker.old.prover.keeper.now) (K.faults checker.new.prover.keeper.now)) }
+    ensures left { AddsTwice «module».now set.now given.now.line (kept_by K.tables checker.old.prover)
+        (kept_by K.tables checker.new.prover) }
+    ensures keeper { IfOk result (λ a. a.status ≡ 8 →
+        Rose (K.faults checker.old.prover.keeper.now) (K.faults checker.new.prover.keeper.now)) }
     ensures same { HasSame checker.old checker.new }
 {
     let alloc = checker.prover.alloc;

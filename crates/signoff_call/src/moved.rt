@@ -42,7 +42,8 @@ fn moved_text(alloc: Global, moved: Moved) -> Result<Text, AllocError>
 /// Moves the rows of the keeper's proofs, and says what became of them.
 pub fn moved<K: Keeper>(alloc: Global, keeper: &mut K, book: &Book) -> Result<Answer, AllocError>
     requires { book.now.lines.items ≡ [] }
-    ensures answer { IfOk result (λ a. (asked : List ℕ) → AnswersMove book.now (stores (K.tables keeper.old) (K.tables keeper.new) asked) a) }
+    ensures answer { IfOk result (λ a. (asked : List ℕ) →
+        AnswersMove book.now (stores (K.tables keeper.old) (K.tables keeper.new) asked) a) }
     ensures left { Told MovesRows (K.tables keeper.old) (K.tables keeper.new) }
     ensures keeper { IfOk result (λ a. a.status ≡ 8 → Rose (K.faults keeper.old) (K.faults keeper.new)) }
 {

@@ -69,8 +69,10 @@ fn machine_shown<R: Threads + Sync, K: Keeper, H: Helper, G: Gate + Sync>(
     ensures answer { IfOk result (SaysBound (SaysMachine bound.now.set form) bound.now w.All
         checker.old.prover.settings.budget checker.old.prover.settings.workers checker.new.book.now
         (stores_between K.tables H.asked checker.old checker.new)) }
-    ensures left { AddsProofsOf (AreObsOf bound.now w.All) (kept_by K.tables checker.old.prover) (kept_by K.tables checker.new.prover) }
-    ensures keeper { IfOk result (λ a. a.status ≡ 8 → Rose (K.faults checker.old.prover.keeper.now) (K.faults checker.new.prover.keeper.now)) }
+    ensures left { AddsProofsOf (AreObsOf bound.now w.All) (kept_by K.tables checker.old.prover)
+        (kept_by K.tables checker.new.prover) }
+    ensures keeper { IfOk result (λ a. a.status ≡ 8 →
+        Rose (K.faults checker.old.prover.keeper.now) (K.faults checker.new.prover.keeper.now)) }
     ensures same { HasSame checker.old checker.new }
 {
     let alloc = checker.prover.alloc;
@@ -94,8 +96,10 @@ pub fn machine_of<R: Threads + Sync, K: Keeper, H: Helper, G: Gate + Sync>(
     ensures answer { IfOk result (AnswersMachine «module».now set.now form
         checker.old.prover.settings.budget checker.old.prover.settings.workers checker.new.book.now
         (stores_between K.tables H.asked checker.old checker.new)) }
-    ensures left { AddsProofsOf (AreObsOfTexts «module».now set.now w.All) (kept_by K.tables checker.old.prover) (kept_by K.tables checker.new.prover) }
-    ensures keeper { IfOk result (λ a. a.status ≡ 8 → Rose (K.faults checker.old.prover.keeper.now) (K.faults checker.new.prover.keeper.now)) }
+    ensures left { AddsProofsOf (AreObsOfTexts «module».now set.now w.All) (kept_by K.tables checker.old.prover)
+        (kept_by K.tables checker.new.prover) }
+    ensures keeper { IfOk result (λ a. a.status ≡ 8 →
+        Rose (K.faults checker.old.prover.keeper.now) (K.faults checker.new.prover.keeper.now)) }
     ensures same { HasSame checker.old checker.new }
 {
     let alloc = checker.prover.alloc;
@@ -136,8 +140,10 @@ fn path_shown<R: Threads + Sync, K: Keeper, H: Helper, G: Gate + Sync>(
     ensures answer { IfOk result (SaysBound (SaysPath bound.now.set trace.now.rows) bound.now w.All
         checker.old.prover.settings.budget checker.old.prover.settings.workers checker.new.book.now
         (stores_between K.tables H.asked checker.old checker.new)) }
-    ensures left { AddsProofsOf (AreObsOf bound.now w.All) (kept_by K.tables checker.old.prover) (kept_by K.tables checker.new.prover) }
-    ensures keeper { IfOk result (λ a. a.status ≡ 8 → Rose (K.faults checker.old.prover.keeper.now) (K.faults checker.new.prover.keeper.now)) }
+    ensures left { AddsProofsOf (AreObsOf bound.now w.All) (kept_by K.tables checker.old.prover)
+        (kept_by K.tables checker.new.prover) }
+    ensures keeper { IfOk result (λ a. a.status ≡ 8 →
+        Rose (K.faults checker.old.prover.keeper.now) (K.faults checker.new.prover.keeper.now)) }
     ensures same { HasSame checker.old checker.new }
 {
     let alloc = checker.prover.alloc;
@@ -161,8 +167,10 @@ fn walk_shown<R: Threads + Sync, K: Keeper, H: Helper, G: Gate + Sync>(
     requires empty { checker.old.book.now.lines.items ≡ [] }
     ensures answer { IfOk result (WalksBound bound.now text.now checker.old.prover.settings.budget checker.old.prover.settings.workers checker.new.book.now
         (stores_between K.tables H.asked checker.old checker.new)) }
-    ensures left { AddsProofsOf (AreObsOf bound.now w.All) (kept_by K.tables checker.old.prover) (kept_by K.tables checker.new.prover) }
-    ensures keeper { IfOk result (λ a. a.status ≡ 8 → Rose (K.faults checker.old.prover.keeper.now) (K.faults checker.new.prover.keeper.now)) }
+    ensures left { AddsProofsOf (AreObsOf bound.now w.All) (kept_by K.tables checker.old.prover)
+        (kept_by K.tables checker.new.prover) }
+    ensures keeper { IfOk result (λ a. a.status ≡ 8 →
+        Rose (K.faults checker.old.prover.keeper.now) (K.faults checker.new.prover.keeper.now)) }
     ensures same { HasSame checker.old checker.new }
 {
     let alloc = checker.prover.alloc;
@@ -190,8 +198,10 @@ pub fn walk_of<R: Threads + Sync, K: Keeper, H: Helper, G: Gate + Sync>(
     ensures answer { IfOk result (AnswersWalk «module».now set.now rows.now
         checker.old.prover.settings.budget checker.old.prover.settings.workers checker.new.book.now
         (stores_between K.tables H.asked checker.old checker.new)) }
-    ensures left { AddsProofsOf (AreObsOfTexts «module».now set.now w.All) (kept_by K.tables checker.old.prover) (kept_by K.tables checker.new.prover) }
-    ensures keeper { IfOk result (λ a. a.status ≡ 8 → Rose (K.faults checker.old.prover.keeper.now) (K.faults checker.new.prover.keeper.now)) }
+    ensures left { AddsProofsOf (AreObsOfTexts «module».now set.now w.All) (kept_by K.tables checker.old.prover)
+        (kept_by K.tables checker.new.prover) }
+    ensures keeper { IfOk result (λ a. a.status ≡ 8 →
+        Rose (K.faults checker.old.prover.keeper.now) (K.faults checker.new.prover.keeper.now)) }
     ensures same { HasSame checker.old checker.new }
 {
     let alloc = checker.prover.alloc;

@@ -125,7 +125,8 @@ fn answered<R: Threads + Sync, F: Shelf, K: Keeper, P: Port, H: Helper, G: Gate 
     ensures left { LeavesRows (F.files shelf.old) (command_of (map string_bytes words.now))
         (around (state_of K.tables K.faults H.asked checker.old) (line (P.wire port.old) (P.faults port.old)))
         (around (state_of K.tables K.faults H.asked checker.new) (line (P.wire port.new) (P.faults port.new))) }
-    ensures keeper { IfOk result (λ a. a.status ≡ 8 → Rose (K.faults checker.old.prover.keeper.now) (K.faults checker.new.prover.keeper.now)) }
+    ensures keeper { IfOk result (λ a. a.status ≡ 8 →
+        Rose (K.faults checker.old.prover.keeper.now) (K.faults checker.new.prover.keeper.now)) }
     ensures port { IfOk result (λ a. a.status ≡ 9 → Rose (P.next_faults port.old) (P.next_faults port.new)) }
     ensures same { HasSame checker.old checker.new }
 {
@@ -167,8 +168,10 @@ fn job_answer<R: Threads + Sync, K: Keeper, H: Helper, G: Gate + Sync>(
     requires empty { checker.old.book.now.lines.items ≡ [] }
     ensures answer { IfOk result (AnswersJob job.now read.now checker.new.book.now
         (stores_between K.tables H.asked checker.old checker.new)) }
-    ensures left { LeavesRead job.now read.now (kept_by K.tables checker.old.prover) (kept_by K.tables checker.new.prover) }
-    ensures keeper { IfOk result (λ a. a.status ≡ 8 → Rose (K.faults checker.old.prover.keeper.now) (K.faults checker.new.prover.keeper.now)) }
+    ensures left { LeavesRead job.now read.now (kept_by K.tables checker.old.prover)
+        (kept_by K.tables checker.new.prover) }
+    ensures keeper { IfOk result (λ a. a.status ≡ 8 →
+        Rose (K.faults checker.old.prover.keeper.now) (K.faults checker.new.prover.keeper.now)) }
     ensures same { HasSame checker.old checker.new }
 {
     let alloc = checker.prover.alloc;

@@ -36,10 +36,12 @@ pub fn served<R: Threads + Sync, K: Keeper, P: Port, H: Helper, G: Gate + Sync>(
     ensures answer { IfOk result (AnswersService service.now
         (around (state_of K.tables K.faults H.asked checker.old) (line (P.wire port.old) (P.faults port.old)))
         (around (state_of K.tables K.faults H.asked checker.new) (line (P.wire port.new) (P.faults port.new)))) }
-    ensures left { LeavesServed service.now (around (state_of K.tables K.faults H.asked checker.old) (line (P.wire port.old) (P.faults port.old)))
+    ensures left { LeavesServed service.now (around (state_of K.tables K.faults H.asked checker.old)
+        (line (P.wire port.old) (P.faults port.old)))
         (around (state_of K.tables K.faults H.asked checker.new) (line (P.wire port.new) (P.faults port.new))) }
     ensures port { IfOk result (λ a. a.status ≡ 9 → Rose (P.next_faults port.old) (P.next_faults port.new)) }
-    ensures keeper { IfOk result (λ a. a.status ≡ 8 → Rose (K.faults checker.old.prover.keeper.now) (K.faults checker.new.prover.keeper.now)) }
+    ensures keeper { IfOk result (λ a. a.status ≡ 8 →
+        Rose (K.faults checker.old.prover.keeper.now) (K.faults checker.new.prover.keeper.now)) }
     ensures same { HasSame checker.old checker.new }
 {
     let alloc = checker.prover.alloc;

@@ -94,8 +94,10 @@ fn decided<R: Threads + Sync, K: Keeper, H: Helper, G: Gate + Sync>(
     ensures answer { IfOk result (AnswersTexts «module».now set.now which.now checker.old.prover.settings.budget checker.old.prover.settings.workers
         (report_bytes which.now checker.new.book.now) checker.new.book.now
         (stores_between K.tables H.asked checker.old checker.new)) }
-    ensures left { AddsProofsOf (AreObsOfTexts «module».now set.now which.now) (kept_by K.tables checker.old.prover) (kept_by K.tables checker.new.prover) }
-    ensures keeper { IfOk result (λ a. a.status ≡ 8 → Rose (K.faults checker.old.prover.keeper.now) (K.faults checker.new.prover.keeper.now)) }
+    ensures left { AddsProofsOf (AreObsOfTexts «module».now set.now which.now) (kept_by K.tables checker.old.prover)
+        (kept_by K.tables checker.new.prover) }
+    ensures keeper { IfOk result (λ a. a.status ≡ 8 →
+        Rose (K.faults checker.old.prover.keeper.now) (K.faults checker.new.prover.keeper.now)) }
     ensures same { HasSame checker.old checker.new }
 {
     let alloc = checker.prover.alloc;
@@ -120,7 +122,8 @@ fn met_in<R: Threads + Sync, K: Keeper, H: Helper, G: Gate + Sync>(
         checker.new.book.now (stores_between K.tables H.asked checker.old checker.new)) }
     ensures left { AddsProofsOf (AreMeetObsOfTexts «module».now set.now (option_map (λ n. n.now) name.entry))
         (kept_by K.tables checker.old.prover) (kept_by K.tables checker.new.prover) }
-    ensures keeper { IfOk result (λ a. a.status ≡ 8 → Rose (K.faults checker.old.prover.keeper.now) (K.faults checker.new.prover.keeper.now)) }
+    ensures keeper { IfOk result (λ a. a.status ≡ 8 →
+        Rose (K.faults checker.old.prover.keeper.now) (K.faults checker.new.prover.keeper.now)) }
     ensures same { HasSame checker.old checker.new }
 {
     let alloc = checker.prover.alloc;
@@ -140,8 +143,10 @@ pub fn judged<R: Threads + Sync, K: Keeper, H: Helper, G: Gate + Sync>(
     requires empty { checker.old.book.now.lines.items ≡ [] }
     ensures answer { IfOk result (AnswersTask job.now.task texts.now.«module» texts.now.set texts.now.third job.now.budget job.now.workers checker.new.book.now
         (stores_between K.tables H.asked checker.old checker.new)) }
-    ensures left { LeavesTask job.now.task texts.now.«module» texts.now.set (kept_by K.tables checker.old.prover) (kept_by K.tables checker.new.prover) }
-    ensures keeper { IfOk result (λ a. a.status ≡ 8 → Rose (K.faults checker.old.prover.keeper.now) (K.faults checker.new.prover.keeper.now)) }
+    ensures left { LeavesTask job.now.task texts.now.«module» texts.now.set (kept_by K.tables checker.old.prover)
+        (kept_by K.tables checker.new.prover) }
+    ensures keeper { IfOk result (λ a. a.status ≡ 8 →
+        Rose (K.faults checker.old.prover.keeper.now) (K.faults checker.new.prover.keeper.now)) }
     ensures same { HasSame checker.old checker.new }
 {
     checker.prover.settings = Settings {
@@ -240,11 +245,13 @@ pub fn demonstrated<R: Threads + Sync, K: Keeper, H: Helper, G: Gate + Sync>(
 ) -> Result<Answer, AllocError>
     requires stages { (1 ≤ stages) × (stages ≤ 64) }
     requires empty { checker.old.book.now.lines.items ≡ [] }
-    ensures answer { IfOk result (AnswersTexts (module_text stages) (set_text stages) w.All 20000 4 (summary stages) checker.new.book.now
+    ensures answer { IfOk result (AnswersTexts (module_text stages) (set_text stages) w.All 20000 4
+        (summary stages) checker.new.book.now
         (stores_between K.tables H.asked checker.old checker.new)) }
     ensures left { AddsProofsOf (AreObsOfTexts (module_text stages) (set_text stages) w.All)
         (kept_by K.tables checker.old.prover) (kept_by K.tables checker.new.prover) }
-    ensures keeper { IfOk result (λ a. a.status ≡ 8 → Rose (K.faults checker.old.prover.keeper.now) (K.faults checker.new.prover.keeper.now)) }
+    ensures keeper { IfOk result (λ a. a.status ≡ 8 →
+        Rose (K.faults checker.old.prover.keeper.now) (K.faults checker.new.prover.keeper.now)) }
     ensures same { HasSame checker.old checker.new }
 {
     let alloc = checker.prover.alloc;

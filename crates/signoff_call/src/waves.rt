@@ -48,11 +48,14 @@ fn wave_shown<R: Threads + Sync, K: Keeper, H: Helper, G: Gate + Sync>(
     bound: &Bound,
     name: &Text,
 ) -> Result<Answer, AllocError>
-    ensures answer { IfOk result (SaysBound (SaysWave bound.now checker.new.book.now.lines.items) bound.now (w.One name.now)
+    ensures answer { IfOk result (SaysBound (SaysWave bound.now checker.new.book.now.lines.items) bound.now
+        (w.One name.now)
         checker.old.prover.settings.budget checker.old.prover.settings.workers
         checker.new.book.now (stores_between K.tables H.asked checker.old checker.new)) }
-    ensures left { AddsProofsOf (AreObsOf bound.now (w.One name.now)) (kept_by K.tables checker.old.prover) (kept_by K.tables checker.new.prover) }
-    ensures keeper { IfOk result (λ a. a.status ≡ 8 → Rose (K.faults checker.old.prover.keeper.now) (K.faults checker.new.prover.keeper.now)) }
+    ensures left { AddsProofsOf (AreObsOf bound.now (w.One name.now)) (kept_by K.tables checker.old.prover)
+        (kept_by K.tables checker.new.prover) }
+    ensures keeper { IfOk result (λ a. a.status ≡ 8 →
+        Rose (K.faults checker.old.prover.keeper.now) (K.faults checker.new.prover.keeper.now)) }
     ensures same { HasSame checker.old checker.new }
 {
     let alloc = checker.prover.alloc;
@@ -79,7 +82,8 @@ pub fn wave_of_texts<R: Threads + Sync, K: Keeper, H: Helper, G: Gate + Sync>(
         (stores_between K.tables H.asked checker.old checker.new)) }
     ensures left { AddsProofsOf (AreObsOfTexts «module».now set.now (w.One name.now))
         (kept_by K.tables checker.old.prover) (kept_by K.tables checker.new.prover) }
-    ensures keeper { IfOk result (λ a. a.status ≡ 8 → Rose (K.faults checker.old.prover.keeper.now) (K.faults checker.new.prover.keeper.now)) }
+    ensures keeper { IfOk result (λ a. a.status ≡ 8 →
+        Rose (K.faults checker.old.prover.keeper.now) (K.faults checker.new.prover.keeper.now)) }
     ensures same { HasSame checker.old checker.new }
 {
     let alloc = checker.prover.alloc;

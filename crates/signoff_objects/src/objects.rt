@@ -56,7 +56,8 @@ fn ended<R: Threads + Sync>(
     book: &mut Book,
 ) -> Result<u8, AllocError>
     requires { book.old.lines.items ≡ [] }
-    ensures { IfOk result (λ status. command_of (map string_bytes call.now.words.now) ≡ None → (status ≡ 2) ⊎ (status ≡ 70)) }
+    ensures { IfOk result (λ status. command_of (map string_bytes call.now.words.now) ≡ None → (status ≡ 2) ⊎
+        (status ≡ 70)) }
 {
     let alloc = rt.alloc();
     let Wants {
@@ -107,7 +108,8 @@ fn over<R: Threads + Sync, K: Keeper>(
     book: &mut Book,
 ) -> Result<u8, AllocError>
     requires { book.old.lines.items ≡ [] }
-    ensures { IfOk result (λ status. command_of (map string_bytes call.now.words.now) ≡ None → (status ≡ 2) ⊎ (status ≡ 70)) }
+    ensures { IfOk result (λ status. command_of (map string_bytes call.now.words.now) ≡ None → (status ≡ 2) ⊎
+        (status ≡ 70)) }
 {
     let rt = call.gate.runtime();
     let alloc = rt.alloc();

@@ -215,7 +215,8 @@ fn begins_above(here: &[Token], bound: u64) -> bool
 
 /// The first offset above a bound.
 pub fn offset_above(tokens: &[Token], bound: u64) -> Option<usize>
-    ensures { result ≡ option_and_then (λ here. option_map byte_of (slice_get here 0)) (first_where (begins_above bound) tokens.now) }
+    ensures { result ≡ option_and_then (λ here. option_map byte_of (slice_get here 0))
+        (first_where (begins_above bound) tokens.now) }
 {
     for at in 0..tokens.len() {
         let here = &tokens[at..];

@@ -10,7 +10,8 @@ use std::alloc::{AllocError, Global};
 
 /// The property at a position, 0 being the reset property.
 pub fn property_at(set: &Set, at: u32) -> Option<&Property>
-    ensures { MatchOption result (¬ (IsPosition set.now at)) (λ p. IsPosition set.now at × (p.now ≡ property_at set.now at)) }
+    ensures { MatchOption result (¬ (IsPosition set.now at)) (λ p. IsPosition set.now at ×
+        (p.now ≡ property_at set.now at)) }
 {
     if at == 0 {
         return Some(&set.first);

@@ -138,7 +138,8 @@ fn stand_both(tokens: &[Token], before: &[u8], word: &[u8]) -> bool
 
 /// The place of a word where it first stands behind another.
 pub fn behind_word<'a>(tokens: &'a [Token], before: &[u8], word: &[u8]) -> Option<&'a [Token]>
-    ensures { option_copied result ≡ option_map (drop 1) (first_where (begins_with_both before.now word.now) tokens.now) }
+    ensures { option_copied result ≡ option_map (drop 1)
+        (first_where (begins_with_both before.now word.now) tokens.now) }
 {
     for at in 0..tokens.len() {
         let here = &tokens[at..];
@@ -151,7 +152,8 @@ pub fn behind_word<'a>(tokens: &'a [Token], before: &[u8], word: &[u8]) -> Optio
 
 /// The place of a word where it last stands behind another.
 pub fn last_behind_word<'a>(tokens: &'a [Token], before: &[u8], word: &[u8]) -> Option<&'a [Token]>
-    ensures { option_copied result ≡ option_map (drop 1) (last_where (begins_with_both before.now word.now) tokens.now) }
+    ensures { option_copied result ≡ option_map (drop 1)
+        (last_where (begins_with_both before.now word.now) tokens.now) }
 {
     let mut last = None;
     for at in 0..tokens.len() {

@@ -229,7 +229,8 @@ pub fn choices_in(
     so_far: Chosen,
 ) -> Result<Option<Chosen>, AllocError>
     requires { AreBounded (choices_of so_far) }
-    ensures is { IfOk result (λ o. option_map choices_of o ≡ chosen (map string_bytes words.now) waiting (choices_of so_far)) }
+    ensures is { IfOk result (λ o. option_map choices_of o ≡ chosen (map string_bytes words.now) waiting
+        (choices_of so_far)) }
     ensures bounded { IfOk result (λ o. IfSome o (λ c. AreBounded (choices_of c))) }
 {
     match words {

@@ -23,7 +23,8 @@ fn free(alloc: Global, name: &[u8]) -> Result<Node, AllocError>
 
 // Whether a word of 2 bits equals 3.
 fn equals_three(alloc: Global, name: &[u8]) -> Result<Ob, AllocError>
-    ensures { IfOk result (λ ob. ob.nodes ≡ Free name.now 2 0 (pos 0) ∷ Const (record { width = 2; value = 3 }) ∷ Two Eq 1 0 1 ∷ []) }
+    ensures { IfOk result (λ ob. ob.nodes ≡ Free name.now 2 0 (pos 0) ∷ Const
+        (record { width = 2; value = 3 }) ∷ Two Eq 1 0 1 ∷ []) }
 {
     let equal = Node::Two {
         op: Op::Eq,

@@ -143,7 +143,8 @@ impl Drivers<'_> {
     fn only_driven(&self, alloc: Global, signal: &Signal, value: u64) -> Result<bool, AllocError>
         requires narrow { signal.now.width ≤ 64 }
         requires ready { ArePartsReady (map part_meant self.now.nets.now) }
-        ensures { IfOk result (λ b. b ≡ only_driven self.now.flat.now.ports (map part_meant self.now.nets.now) (map part_meant self.now.clocked.now) signal.now value) }
+        ensures { IfOk result (λ b. b ≡ only_driven self.now.flat.now.ports (map part_meant self.now.nets.now)
+            (map part_meant self.now.clocked.now) signal.now value) }
     {
         let name = signal.name.bytes();
         if names(self.clocked, name) || is_input(self.flat.ports.as_slice(), name) {
@@ -158,7 +159,8 @@ impl Drivers<'_> {
         requires narrow { All (λ g. g.width ≤ 64) self.now.flat.now.signals }
         requires ready { ArePartsReady (map part_meant self.now.nets.now) }
         requires each { length values.now ≡ length self.now.flat.now.signals }
-        ensures { IfOk result (λ b. b ≡ each_driven self.now.flat.now.ports (map part_meant self.now.nets.now) (map part_meant self.now.clocked.now) self.now.flat.now.signals values.now) }
+        ensures { IfOk result (λ b. b ≡ each_driven self.now.flat.now.ports (map part_meant self.now.nets.now)
+            (map part_meant self.now.clocked.now) self.now.flat.now.signals values.now) }
     {
         let signals = self.flat.signals.as_slice();
         for i in 0..signals.len() {
@@ -315,7 +317,8 @@ pub fn follows(alloc: Global, flat: &Flat, now: &[u64], next: &[u64]) -> Result<
     requires can { CanElaborate flat.now }
     requires now { AreValues flat.now.signals now.now }
     requires next { AreValues flat.now.signals next.now }
-    ensures { IfOk result (λ b. IsTrue b ↔ Follows flat.now (held flat.now.signals now.now) (held flat.now.signals next.now)) }
+    ensures { IfOk result (λ b. IsTrue b ↔ Follows flat.now (held flat.now.signals now.now)
+        (held flat.now.signals next.now)) }
 {
     let meets = meets_edge(alloc, flat, now, next)?;
     Ok(meets)

@@ -47,7 +47,8 @@ fn common(dag: &mut Dag, width: u8, a: u64, b: u64) -> Result<u64, AllocError>
     requires left { IsNode dag.old a width }
     requires right { IsNode dag.old b width }
     ensures keeps { Keeps dag.old dag.new }
-    ensures makes { IfOk result (λ r. Makes dag.new r width (λ e. bit_and (number_at e dag.old a) (number_at e dag.old b))) }
+    ensures makes { IfOk result (λ r. Makes dag.new r width
+        (λ e. bit_and (number_at e dag.old a) (number_at e dag.old b))) }
 {
     let number = put(
         dag,
@@ -66,7 +67,8 @@ fn equal(dag: &mut Dag, _width: u8, a: u64, b: u64) -> Result<u64, AllocError>
     requires left { IsNode dag.old a _width }
     requires right { IsNode dag.old b _width }
     ensures keeps { Keeps dag.old dag.new }
-    ensures makes { IfOk result (λ r. Makes dag.new r 1 (λ e. bit (nat_eq (number_at e dag.old a) (number_at e dag.old b)))) }
+    ensures makes { IfOk result (λ r. Makes dag.new r 1
+        (λ e. bit (nat_eq (number_at e dag.old a) (number_at e dag.old b)))) }
 {
     let number = put(
         dag,
@@ -89,7 +91,8 @@ fn question(dag: &mut Dag, leaf: &Leaf, mask: u64, value: u64) -> Result<u64, Al
     requires mask { mask < 2 ^ leaf.now.width }
     requires value { value < 2 ^ leaf.now.width }
     ensures keeps { Keeps dag.old dag.new }
-    ensures makes { IfOk result (λ r. Makes dag.new r 1 (λ e. bit (same_within mask (number_at e dag.old leaf.now.node) value))) }
+    ensures makes { IfOk result (λ r. Makes dag.new r 1
+        (λ e. bit (same_within mask (number_at e dag.old leaf.now.node) value))) }
 {
     let cover = constant(dag, leaf.width, mask)?;
     let bits = common(dag, leaf.width, leaf.node, cover)?;

@@ -25,7 +25,8 @@ fn add_left<'a>(all: &mut Vec<Part<'a>>, alloc: Global, left: &'a Lval) -> Resul
 
 // The parts of what stands on the left at one place of a statement.
 fn add_piece<'a>(all: &mut Vec<Part<'a>>, alloc: Global, piece: Piece<'a>) -> Result<(), AllocError>
-    ensures { OnOk result (map part_meant all.new.items ≡ map part_meant all.old.items ++ piece_parts (piece_meant piece.entry)) }
+    ensures { OnOk result (map part_meant all.new.items ≡ map part_meant all.old.items ++ piece_parts
+        (piece_meant piece.entry)) }
 {
     match piece {
         Piece::Test(_) => Ok(()),

@@ -15,7 +15,8 @@ use vlog_tree_runs::Flat;
 fn all_cycles(alloc: Global, flat: &Flat, cycles: &[Rows<u64>]) -> Result<bool, AllocError>
     requires can { CanElaborate flat.now }
     requires values { All (AreValues flat.now.signals) cycles.now }
-    ensures { IfOk result (λ b. IsTrue b ↔ ((t : ℕ) → t < length cycles.now → IsCycle flat.now (cycle_at flat.now.signals cycles.now t))) }
+    ensures { IfOk result (λ b. IsTrue b ↔
+        ((t : ℕ) → t < length cycles.now → IsCycle flat.now (cycle_at flat.now.signals cycles.now t))) }
 {
     for i in 0..cycles.len() {
         let holds = is_cycle(alloc, flat, cycles[i].as_slice())?;
@@ -30,7 +31,9 @@ fn all_cycles(alloc: Global, flat: &Flat, cycles: &[Rows<u64>]) -> Result<bool, 
 fn all_follow(alloc: Global, flat: &Flat, cycles: &[Rows<u64>]) -> Result<bool, AllocError>
     requires can { CanElaborate flat.now }
     requires values { All (AreValues flat.now.signals) cycles.now }
-    ensures { IfOk result (λ b. IsTrue b ↔ ((t : ℕ) → t + 1 < length cycles.now → Follows flat.now (cycle_at flat.now.signals cycles.now t) (cycle_at flat.now.signals cycles.now (t + 1)))) }
+    ensures { IfOk result (λ b. IsTrue b ↔
+        ((t : ℕ) → t + 1 < length cycles.now → Follows flat.now (cycle_at flat.now.signals cycles.now t)
+        (cycle_at flat.now.signals cycles.now (t + 1)))) }
 {
     for i in 1..cycles.len() {
         let holds = follows(alloc, flat, cycles[i - 1].as_slice(), cycles[i].as_slice())?;

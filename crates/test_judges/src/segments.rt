@@ -41,7 +41,8 @@ fn is_window(alloc: Global, set: &Sound, end: usize, rows: &[Rows<u64>]) -> Resu
 fn meets_invariants(alloc: Global, set: &Sound, rows: &[Rows<u64>]) -> Result<bool, AllocError>
     requires trace { IsTrace set.now rows.now }
     requires some { 0 < length rows.now }
-    ensures { IfOk result (λ b. b ≡ list_all (λ (rule : Rule). holds (meaning_of set.now) rule.formula rows.now) set.now.invariants) }
+    ensures { IfOk result (λ b. b ≡ list_all
+        (λ (rule : Rule). holds (meaning_of set.now) rule.formula rows.now) set.now.invariants) }
 {
     for rule in set.set().invariants.as_slice() {
         let met = holds(alloc, set, &rule.formula, rows)?;

@@ -36,7 +36,9 @@ impl Twins<'_> {
         requires leaves { AreLeaves self.now.set.now.names dag.old rows.now }
         ensures keeps { IfOk result (λ _. Keeps dag.old dag.new) }
         ensures width { IfOk result (λ i. HasWidth dag.new i 1) }
-        ensures node { IfOk result (λ i. (f : Naming → List Row) → Shows self.now.set.now.names dag.old rows.now f → Tests dag.new i (λ e. any_from span.from (span.to - span.from) (λ t. holds (meaning_of self.now.set.now) formula.now (drop t (f e))))) }
+        ensures node { IfOk result (λ i. (f : Naming → List Row) → Shows self.now.set.now.names dag.old rows.now f →
+            Tests dag.new i (λ e. any_from span.from (span.to - span.from)
+            (λ t. holds (meaning_of self.now.set.now) formula.now (drop t (f e))))) }
     {
         let mut any = constant(dag, false)?;
         for t in span.from..span.to {
@@ -62,7 +64,8 @@ impl Twins<'_> {
         requires leaves { AreLeaves self.now.set.now.names dag.old rows.now }
         ensures keeps { IfOk result (λ _. Keeps dag.old dag.new) }
         ensures width { IfOk result (λ i. HasWidth dag.new i 1) }
-        ensures node { IfOk result (λ i. (f : Naming → List Row) → Shows self.now.set.now.names dag.old rows.now f → Tests dag.new i (λ e. ends_at (meaning_of self.now.set.now) self.now.set.now at n (f e))) }
+        ensures node { IfOk result (λ i. (f : Naming → List Row) → Shows self.now.set.now.names dag.old rows.now f →
+            Tests dag.new i (λ e. ends_at (meaning_of self.now.set.now) self.now.set.now at n (f e))) }
     {
         let property = property_of(self.set, at);
         match &property.length.until {

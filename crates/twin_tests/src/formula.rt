@@ -34,7 +34,8 @@ pub fn formula_node(
     requires leaves { AreLeaves set.now.names dag.old rows.now }
     ensures keeps { Keeps dag.old dag.new }
     ensures wide { IfOk result (λ i. IsWide dag.new i) }
-    ensures node { IfOk result (λ i. (f : Naming → List Row) → Shows set.now.names dag.old rows.now f → Counts dag.new i (λ e. (meaning_of set.now).value formula.now (f e))) }
+    ensures node { IfOk result (λ i. (f : Naming → List Row) → Shows set.now.names dag.old rows.now f →
+        Counts dag.new i (λ e. (meaning_of set.now).value formula.now (f e))) }
 {
     let count = largest(formula) as usize + 1;
     let leaves = leaves_of(
@@ -62,7 +63,8 @@ pub fn test_node(
     requires leaves { AreLeaves set.now.names dag.old rows.now }
     ensures keeps { IfOk result (λ _. Keeps dag.old dag.new) }
     ensures width { IfOk result (λ i. HasWidth dag.new i 1) }
-    ensures node { IfOk result (λ i. (f : Naming → List Row) → Shows set.now.names dag.old rows.now f → Tests dag.new i (λ e. holds (meaning_of set.now) formula.now (f e))) }
+    ensures node { IfOk result (λ i. (f : Naming → List Row) → Shows set.now.names dag.old rows.now f →
+        Tests dag.new i (λ e. holds (meaning_of set.now) formula.now (f e))) }
 {
     let value = formula_node(alloc, dag, set, rows, formula)?;
     nonzero(dag, value)
@@ -81,7 +83,8 @@ pub fn all_node(
     requires leaves { AreLeaves set.now.names dag.old rows.now }
     ensures keeps { IfOk result (λ _. Keeps dag.old dag.new) }
     ensures width { IfOk result (λ i. HasWidth dag.new i 1) }
-    ensures node { IfOk result (λ i. (f : Naming → List Row) → Shows set.now.names dag.old rows.now f → Tests dag.new i (λ e. all_hold (meaning_of set.now) formulas.now (f e))) }
+    ensures node { IfOk result (λ i. (f : Naming → List Row) → Shows set.now.names dag.old rows.now f →
+        Tests dag.new i (λ e. all_hold (meaning_of set.now) formulas.now (f e))) }
 {
     let mut all = constant(dag, true)?;
     for formula in formulas {
@@ -112,7 +115,9 @@ pub fn throughout_node(
     requires leaves { AreLeaves set.now.names dag.old rows.now }
     ensures keeps { IfOk result (λ _. Keeps dag.old dag.new) }
     ensures width { IfOk result (λ i. HasWidth dag.new i 1) }
-    ensures node { IfOk result (λ i. (f : Naming → List Row) → Shows set.now.names dag.old rows.now f → Tests dag.new i (λ e. all_below (length (f e) - largest_offset formula.now) (λ t. holds (meaning_of set.now) formula.now (drop t (f e))))) }
+    ensures node { IfOk result (λ i. (f : Naming → List Row) → Shows set.now.names dag.old rows.now f →
+        Tests dag.new i (λ e. all_below (length (f e) - largest_offset formula.now)
+        (λ t. holds (meaning_of set.now) formula.now (drop t (f e))))) }
 {
     let count = rows.len().saturating_sub(largest(formula) as usize);
     let mut all = constant(dag, true)?;
@@ -135,7 +140,8 @@ pub fn constraints_node(
     requires leaves { AreLeaves set.now.names dag.old rows.now }
     ensures keeps { IfOk result (λ _. Keeps dag.old dag.new) }
     ensures width { IfOk result (λ i. HasWidth dag.new i 1) }
-    ensures node { IfOk result (λ i. (f : Naming → List Row) → Shows set.now.names dag.old rows.now f → Tests dag.new i (λ e. meets_constraints (meaning_of set.now) set.now (f e))) }
+    ensures node { IfOk result (λ i. (f : Naming → List Row) → Shows set.now.names dag.old rows.now f →
+        Tests dag.new i (λ e. meets_constraints (meaning_of set.now) set.now (f e))) }
 {
     let mut all = constant(dag, true)?;
     for rule in set.constraints.as_slice() {

@@ -44,7 +44,9 @@ fn met_nodes(
     requires shows { Shows set.now.names dag.old rows.now (λ e. rows_from set.now.names e side 0 (length rows.now)) }
     ensures keeps { IfOk result (λ _. Keeps dag.old dag.new) }
     ensures count { IfOk result (λ met. length met.items ≡ length rows.now) }
-    ensures met { IfOk result (λ met. (end d : ℕ) → end < length met.items → Tests dag.new (get_or met.items end d) (λ e. meets_constraints (meaning_of set.now) set.now (named_rows set.now e side end))) }
+    ensures met { IfOk result (λ met. (end d : ℕ) → end < length met.items →
+        Tests dag.new (get_or met.items end d) (λ e. meets_constraints (meaning_of set.now) set.now
+        (named_rows set.now e side end))) }
 {
     let mut met = Vec::new(alloc);
     for end in 0..rows.len() {
@@ -91,7 +93,8 @@ pub fn largest_window(set: &Set) -> u8
 pub fn frames_of(alloc: Global, dag: &mut Dag, set: &Set) -> Result<Frames, AllocError>
     requires { HasStructure set.now }
     ensures grows { IfOk result (λ _. Grows dag.old dag.new) }
-    ensures frees { IfOk result (λ _. AddsFrees (λ n. IsWindowWord set.now.names 0 n ⊎ IsWindowWord set.now.names 1 n) dag.old dag.new) }
+    ensures frees { IfOk result (λ _. AddsFrees (λ n. IsWindowWord set.now.names 0 n ⊎
+        IsWindowWord set.now.names 1 n) dag.old dag.new) }
     ensures frames { IfOk result (λ frames. AreFrames set.now dag.new frames) }
 {
     let window = largest_window(set);

@@ -34,7 +34,8 @@ fn domain_node(
     requires leaves { AreLeaves set.now.names dag.old rows.now }
     ensures keeps { IfOk result (λ _. Keeps dag.old dag.new) }
     ensures width { IfOk result (λ i. HasWidth dag.new i 1) }
-    ensures node { IfOk result (λ i. (f : Naming → List Row) → Shows set.now.names dag.old rows.now f → Tests dag.new i (λ e. in_domain (meaning_of set.now) set.now output (f e))) }
+    ensures node { IfOk result (λ i. (f : Naming → List Row) → Shows set.now.names dag.old rows.now f →
+        Tests dag.new i (λ e. in_domain (meaning_of set.now) set.now output (f e))) }
 {
     let names = set.names.as_slice();
     match &names[output].domain {
@@ -80,7 +81,10 @@ impl Twins<'_> {
         requires second_leaves { AreLeaves self.now.set.now.names dag.old pair.second.now }
         ensures keeps { IfOk result (λ _. Keeps dag.old dag.new) }
         ensures width { IfOk result (λ i. HasWidth dag.new i 1) }
-        ensures node { IfOk result (λ i. (f g : Naming → List Row) → Shows self.now.set.now.names dag.old pair.entry.first.now f → Shows self.now.set.now.names dag.old pair.entry.second.now g → Tests dag.new i (λ e. same_hands (meaning_of self.now.set.now) self.now.set.now at (f e) (g e))) }
+        ensures node { IfOk result (λ i. (f g : Naming → List Row) →
+            Shows self.now.set.now.names dag.old pair.entry.first.now f →
+            Shows self.now.set.now.names dag.old pair.entry.second.now g →
+            Tests dag.new i (λ e. same_hands (meaning_of self.now.set.now) self.now.set.now at (f e) (g e))) }
     {
         let mut all = constant(dag, true)?;
         for formula in property_of(self.set, at).hand.as_slice() {
@@ -107,7 +111,10 @@ impl Twins<'_> {
         requires second_leaves { AreLeaves self.now.set.now.names dag.old pair.second.now }
         ensures keeps { IfOk result (λ _. Keeps dag.old dag.new) }
         ensures width { IfOk result (λ i. HasWidth dag.new i 1) }
-        ensures node { IfOk result (λ i. (f g : Naming → List Row) → Shows self.now.set.now.names dag.old pair.entry.first.now f → Shows self.now.set.now.names dag.old pair.entry.second.now g → Tests dag.new i (λ e. determined (meaning_of self.now.set.now) self.now.set.now output (f e) (g e))) }
+        ensures node { IfOk result (λ i. (f g : Naming → List Row) →
+            Shows self.now.set.now.names dag.old pair.entry.first.now f →
+            Shows self.now.set.now.names dag.old pair.entry.second.now g →
+            Tests dag.new i (λ e. determined (meaning_of self.now.set.now) self.now.set.now output (f e) (g e))) }
     {
         let here = domain_node(self.alloc, dag, self.set, output, pair.first)?;
         let there = domain_node(self.alloc, dag, self.set, output, pair.second)?;
@@ -139,7 +146,12 @@ impl Twins<'_> {
         requires second_leaves { AreLeaves self.now.set.now.names dag.old pair.second.now }
         ensures keeps { IfOk result (λ _. Keeps dag.old dag.new) }
         ensures width { IfOk result (λ i. HasWidth dag.new i 1) }
-        ensures node { IfOk result (λ i. (f g : Naming → List Row) → Shows self.now.set.now.names dag.old pair.entry.first.now f → Shows self.now.set.now.names dag.old pair.entry.second.now g → Tests dag.new i (λ e. any_from span.from (span.to - span.from) (λ t. not (determined (meaning_of self.now.set.now) self.now.set.now output (drop t (f e)) (drop t (g e)))))) }
+        ensures node { IfOk result (λ i. (f g : Naming → List Row) →
+            Shows self.now.set.now.names dag.old pair.entry.first.now f →
+            Shows self.now.set.now.names dag.old pair.entry.second.now g →
+            Tests dag.new i (λ e. any_from span.from (span.to - span.from)
+            (λ t. not (determined (meaning_of self.now.set.now) self.now.set.now output (drop t (f e))
+            (drop t (g e)))))) }
     {
         let mut any = constant(dag, false)?;
         for t in span.from..span.to {
@@ -174,7 +186,12 @@ impl Twins<'_> {
         requires second_leaves { AreLeaves self.now.set.now.names dag.old pair.second.now }
         ensures keeps { IfOk result (λ _. Keeps dag.old dag.new) }
         ensures width { IfOk result (λ i. HasWidth dag.new i 1) }
-        ensures node { IfOk result (λ i. (f g : Naming → List Row) → Shows self.now.set.now.names dag.old pair.entry.first.now f → Shows self.now.set.now.names dag.old pair.entry.second.now g → Tests dag.new i (λ e. list_any (λ (cover : Cover). any_from cover.from (cover_end cover.to n - cover.from) (λ t. not (determined (meaning_of self.now.set.now) self.now.set.now cover.output (drop t (f e)) (drop t (g e))))) (property_at self.now.set.now at).covers)) }
+        ensures node { IfOk result (λ i. (f g : Naming → List Row) →
+            Shows self.now.set.now.names dag.old pair.entry.first.now f →
+            Shows self.now.set.now.names dag.old pair.entry.second.now g →
+            Tests dag.new i (λ e. list_any (λ (cover : Cover). any_from cover.from (cover_end cover.to n - cover.from)
+            (λ t. not (determined (meaning_of self.now.set.now) self.now.set.now cover.output (drop t (f e))
+            (drop t (g e))))) (property_at self.now.set.now at).covers)) }
     {
         let mut any = constant(dag, false)?;
         for cover in property_of(self.set, at).covers.as_slice() {

@@ -70,7 +70,8 @@ impl Twins<'_> {
         ensures keeps { IfOk result (λ _. Keeps nodes.old.dag nodes.new.dag) }
         ensures made { IfOk result (λ _. AreMade self.now.set.now nodes.new.dag nodes.new.made.items) }
         ensures width { IfOk result (λ i. HasWidth nodes.new.dag i 1) }
-        ensures node { IfOk result (λ i. Tests nodes.new.dag i (λ e. any_end self.now.set.now (property_of (line_of line)) (λ n. end_test self.now.set.now line n e))) }
+        ensures node { IfOk result (λ i. Tests nodes.new.dag i
+            (λ e. any_end self.now.set.now (property_of (line_of line)) (λ n. end_test self.now.set.now line n e))) }
     {
         let property = property_of(self.set, line.property() as usize);
         let low = property.length.low as usize;
@@ -92,7 +93,8 @@ impl Twins<'_> {
         ensures keeps { IfOk result (λ _. Keeps nodes.old.dag nodes.new.dag) }
         ensures made { IfOk result (λ _. AreMade self.now.set.now nodes.new.dag nodes.new.made.items) }
         ensures width { IfOk result (λ i. HasWidth nodes.new.dag i 1) }
-        ensures node { IfOk result (λ i. Tests nodes.new.dag i (line_test (meaning_of self.now.set.now) self.now.set.now (line_of line))) }
+        ensures node { IfOk result (λ i. Tests nodes.new.dag i
+            (line_test (meaning_of self.now.set.now) self.now.set.now (line_of line))) }
     {
         match line {
             SetLine::End(p) => {

@@ -49,7 +49,8 @@ fn edge_line(kind: OfEdge, p: u32, q: u32) -> SetLine
 // A line for each property.
 fn push_all(lines: &mut Vec<SetLine>, set: &Set, kind: OfProperty) -> Result<(), AllocError>
     requires { length set.now.operations < 2 ^ 31 }
-    ensures { OnOk result (map line_of lines.new.items ≡ map line_of lines.old.items ++ map (property_line kind) (numbers_from 0 (suc (length set.now.operations)))) }
+    ensures { OnOk result (map line_of lines.new.items ≡ map line_of lines.old.items ++ map (property_line kind)
+        (numbers_from 0 (suc (length set.now.operations)))) }
 {
     for p in 0..set.operations.as_slice().len() + 1 {
         lines.push(property_line(kind, p as u32))?;
@@ -60,7 +61,8 @@ fn push_all(lines: &mut Vec<SetLine>, set: &Set, kind: OfProperty) -> Result<(),
 // A line for each operation that ends where a condition holds.
 fn push_untils(lines: &mut Vec<SetLine>, set: &Set, kind: OfProperty) -> Result<(), AllocError>
     requires { length set.now.operations < 2 ^ 31 }
-    ensures { OnOk result (map line_of lines.new.items ≡ map line_of lines.old.items ++ map (property_line kind) (until_operations set.now)) }
+    ensures { OnOk result (map line_of lines.new.items ≡ map line_of lines.old.items ++ map (property_line kind)
+        (until_operations set.now)) }
 {
     for p in 1..set.operations.as_slice().len() + 1 {
         if property_of(set, p).length.until.is_some() {
@@ -72,7 +74,8 @@ fn push_untils(lines: &mut Vec<SetLine>, set: &Set, kind: OfProperty) -> Result<
 
 // A line for each successor of a property.
 fn push_next(lines: &mut Vec<SetLine>, kind: OfEdge, p: u32, next: &[u32]) -> Result<(), AllocError>
-    ensures { OnOk result (map line_of lines.new.items ≡ map line_of lines.old.items ++ map (edge_line kind p) next.now) }
+    ensures { OnOk result (map line_of lines.new.items ≡ map line_of lines.old.items ++ map
+        (edge_line kind p) next.now) }
 {
     for q in next {
         lines.push(edge_line(kind, p, *q))?;
@@ -83,7 +86,8 @@ fn push_next(lines: &mut Vec<SetLine>, kind: OfEdge, p: u32, next: &[u32]) -> Re
 // A line for each edge.
 fn push_edges(lines: &mut Vec<SetLine>, set: &Set, kind: OfEdge) -> Result<(), AllocError>
     requires { length set.now.operations < 2 ^ 31 }
-    ensures { OnOk result (map line_of lines.new.items ≡ map line_of lines.old.items ++ edge_lines set.now (edge_line kind)) }
+    ensures { OnOk result (map line_of lines.new.items ≡ map line_of lines.old.items ++ edge_lines set.now
+        (edge_line kind)) }
 {
     for p in 0..set.operations.as_slice().len() + 1 {
         push_next(lines, kind, p as u32, property_of(set, p).next.as_slice())?;

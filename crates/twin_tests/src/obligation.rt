@@ -16,7 +16,8 @@ use word_dag::{Dag, Ob, extract};
 /// free words of one name, side and cycle have one length, it has each of them once.
 pub fn obligation_of(alloc: Global, dag: &Dag, root: u64) -> Result<Ob, AllocError>
     requires { HasWidth dag.now root 1 }
-    ensures of_line { IfOk result (λ ob. (m : Meaning) (set : Set) (line : Line) → HasLength set line → IsTestOf (line_test m set line) dag.now root → IsOf m set line ob.nodes ob.root) }
+    ensures of_line { IfOk result (λ ob. (m : Meaning) (set : Set) (line : Line) → HasLength set line →
+        IsTestOf (line_test m set line) dag.now root → IsOf m set line ob.nodes ob.root) }
     ensures words { IfOk result (λ ob. HasOneWidthEach dag.now → HasOneWordEach ob.nodes) }
 {
     extract(alloc, dag, root)

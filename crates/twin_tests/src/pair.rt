@@ -32,7 +32,9 @@ impl Twins<'_> {
         requires frame { IsFrame self.now.set.now dag.old frame.now }
         ensures keeps { IfOk result (λ _. Keeps dag.old dag.new) }
         ensures width { IfOk result (λ i. HasWidth dag.new i 1) }
-        ensures node { IfOk result (λ i. Tests dag.new i (λ e. opens (meaning_of self.now.set.now) self.now.set.now at (named_rows self.now.set.now e frame.now.side end))) }
+        ensures node { IfOk result (λ i. Tests dag.new i
+            (λ e. opens (meaning_of self.now.set.now) self.now.set.now at
+            (named_rows self.now.set.now e frame.now.side end))) }
     {
         let starts = starts_node(self.alloc, dag, self.set, at, rows_to(frame, end))?;
         let met = frame.met[end];
@@ -49,7 +51,9 @@ impl Twins<'_> {
         requires frames { AreFrames self.now.set.now dag.old self.now.frames }
         ensures keeps { IfOk result (λ _. Keeps dag.old dag.new) }
         ensures width { IfOk result (λ i. HasWidth dag.new i 1) }
-        ensures node { IfOk result (λ i. Tests dag.new i (λ e. pairs (meaning_of self.now.set.now) self.now.set.now at (named_rows self.now.set.now e 0 end) (named_rows self.now.set.now e 1 end))) }
+        ensures node { IfOk result (λ i. Tests dag.new i
+            (λ e. pairs (meaning_of self.now.set.now) self.now.set.now at (named_rows self.now.set.now e 0 end)
+            (named_rows self.now.set.now e 1 end))) }
     {
         let first = self.opens_node(dag, at, &self.frames.first, end)?;
         let second = self.opens_node(dag, at, &self.frames.second, end)?;
@@ -85,7 +89,9 @@ impl Twins<'_> {
         requires frames { AreFrames self.now.set.now dag.old self.now.frames }
         ensures keeps { IfOk result (λ _. Keeps dag.old dag.new) }
         ensures width { IfOk result (λ i. HasWidth dag.new i 1) }
-        ensures node { IfOk result (λ i. Tests dag.new i (λ e. pairs_to (meaning_of self.now.set.now) self.now.set.now at n (named_rows self.now.set.now e 0 end) (named_rows self.now.set.now e 1 end))) }
+        ensures node { IfOk result (λ i. Tests dag.new i
+            (λ e. pairs_to (meaning_of self.now.set.now) self.now.set.now at n (named_rows self.now.set.now e 0 end)
+            (named_rows self.now.set.now e 1 end))) }
     {
         let pairs = self.pairs_node(dag, at, end)?;
         let first = self.ends_node(dag, at, n, rows_to(&self.frames.first, end))?;

@@ -39,7 +39,8 @@ fn any_assumed_node(
     requires leaves { AreLeaves set.now.names dag.old rows.now }
     ensures keeps { IfOk result (λ _. Keeps dag.old dag.new) }
     ensures width { IfOk result (λ i. HasWidth dag.new i 1) }
-    ensures node { IfOk result (λ i. (f : Naming → List Row) → Shows set.now.names dag.old rows.now f → Tests dag.new i (λ e. list_any (λ q. assumed (meaning_of set.now) set.now q (f e)) properties.now)) }
+    ensures node { IfOk result (λ i. (f : Naming → List Row) → Shows set.now.names dag.old rows.now f →
+        Tests dag.new i (λ e. list_any (λ q. assumed (meaning_of set.now) set.now q (f e)) properties.now)) }
 {
     let mut any = constant(dag, false)?;
     for property in properties {
@@ -88,7 +89,9 @@ impl Twins<'_> {
         requires frames { AreFrames self.now.set.now dag.old self.now.frames }
         ensures keeps { IfOk result (λ _. Keeps dag.old dag.new) }
         ensures width { IfOk result (λ i. HasWidth dag.new i 1) }
-        ensures node { IfOk result (λ i. Tests dag.new i (λ e. violates_split (meaning_of self.now.set.now) self.now.set.now p n (named_rows self.now.set.now e 0 (split_end self.now.set.now p n)))) }
+        ensures node { IfOk result (λ i. Tests dag.new i
+            (λ e. violates_split (meaning_of self.now.set.now) self.now.set.now p n
+            (named_rows self.now.set.now e 0 (split_end self.now.set.now p n)))) }
     {
         let property = property_of(self.set, p);
         let next = property.next.as_slice();
@@ -120,7 +123,10 @@ impl Twins<'_> {
         ensures keeps { IfOk result (λ _. Keeps nodes.old.dag nodes.new.dag) }
         ensures made { IfOk result (λ _. AreMade self.now.set.now nodes.new.dag nodes.new.made.items) }
         ensures width { IfOk result (λ i. HasWidth nodes.new.dag i 1) }
-        ensures node { IfOk result (λ i. Tests nodes.new.dag i (λ e. violates_choose (meaning_of self.now.set.now) self.now.set.now p q n (named_rows self.now.set.now e 0 (edge_end self.now.set.now p q n)) (named_rows self.now.set.now e 1 (edge_end self.now.set.now p q n)))) }
+        ensures node { IfOk result (λ i. Tests nodes.new.dag i
+            (λ e. violates_choose (meaning_of self.now.set.now) self.now.set.now p q n
+            (named_rows self.now.set.now e 0 (edge_end self.now.set.now p q n))
+            (named_rows self.now.set.now e 1 (edge_end self.now.set.now p q n)))) }
     {
         let end = edge_end(self.set, p, q, n);
         let pairs = self.atom_node(nodes, Atom::new(Predicate::Pairs, p, n, end))?;
@@ -149,7 +155,10 @@ impl Twins<'_> {
         ensures keeps { IfOk result (λ _. Keeps nodes.old.dag nodes.new.dag) }
         ensures made { IfOk result (λ _. AreMade self.now.set.now nodes.new.dag nodes.new.made.items) }
         ensures width { IfOk result (λ i. HasWidth nodes.new.dag i 1) }
-        ensures node { IfOk result (λ i. Tests nodes.new.dag i (λ e. violates_hand (meaning_of self.now.set.now) self.now.set.now p q n (named_rows self.now.set.now e 0 (edge_end self.now.set.now p q n)) (named_rows self.now.set.now e 1 (edge_end self.now.set.now p q n)))) }
+        ensures node { IfOk result (λ i. Tests nodes.new.dag i
+            (λ e. violates_hand (meaning_of self.now.set.now) self.now.set.now p q n
+            (named_rows self.now.set.now e 0 (edge_end self.now.set.now p q n))
+            (named_rows self.now.set.now e 1 (edge_end self.now.set.now p q n)))) }
     {
         let end = edge_end(self.set, p, q, n);
         let pairs = self.atom_node(nodes, Atom::new(Predicate::Pairs, p, n, end))?;
@@ -173,7 +182,10 @@ impl Twins<'_> {
         ensures keeps { IfOk result (λ _. Keeps nodes.old.dag nodes.new.dag) }
         ensures made { IfOk result (λ _. AreMade self.now.set.now nodes.new.dag nodes.new.made.items) }
         ensures width { IfOk result (λ i. HasWidth nodes.new.dag i 1) }
-        ensures node { IfOk result (λ i. Tests nodes.new.dag i (λ e. violates_determine (meaning_of self.now.set.now) self.now.set.now p n (named_rows self.now.set.now e 0 (window_of self.now.set.now p)) (named_rows self.now.set.now e 1 (window_of self.now.set.now p)))) }
+        ensures node { IfOk result (λ i. Tests nodes.new.dag i
+            (λ e. violates_determine (meaning_of self.now.set.now) self.now.set.now p n
+            (named_rows self.now.set.now e 0 (window_of self.now.set.now p))
+            (named_rows self.now.set.now e 1 (window_of self.now.set.now p)))) }
     {
         let end = property_of(self.set, p).window as usize;
         let first = rows_to(&self.frames.first, end);
@@ -199,7 +211,9 @@ impl Twins<'_> {
         requires frame { IsFrame self.now.set.now dag.old frame.now }
         ensures keeps { IfOk result (λ _. Keeps dag.old dag.new) }
         ensures width { IfOk result (λ i. HasWidth dag.new i 1) }
-        ensures node { IfOk result (λ i. Tests dag.new i (λ e. ends_at (meaning_of self.now.set.now) self.now.set.now p n (named_rows self.now.set.now e frame.now.side (window_of self.now.set.now p)))) }
+        ensures node { IfOk result (λ i. Tests dag.new i
+            (λ e. ends_at (meaning_of self.now.set.now) self.now.set.now p n
+            (named_rows self.now.set.now e frame.now.side (window_of self.now.set.now p)))) }
     {
         let end = property_of(self.set, p).window as usize;
         self.ends_node(dag, p, n, rows_to(frame, end))

@@ -41,7 +41,8 @@ pub fn assumed_node(
     requires leaves { AreLeaves set.now.names dag.old rows.now }
     ensures keeps { IfOk result (λ _. Keeps dag.old dag.new) }
     ensures width { IfOk result (λ i. HasWidth dag.new i 1) }
-    ensures node { IfOk result (λ i. (f : Naming → List Row) → Shows set.now.names dag.old rows.now f → Tests dag.new i (λ e. assumed (meaning_of set.now) set.now at (f e))) }
+    ensures node { IfOk result (λ i. (f : Naming → List Row) → Shows set.now.names dag.old rows.now f →
+        Tests dag.new i (λ e. assumed (meaning_of set.now) set.now at (f e))) }
 {
     if at == 0 {
         return constant(dag, true);
@@ -63,7 +64,8 @@ pub fn starts_node(
     requires leaves { AreLeaves set.now.names dag.old rows.now }
     ensures keeps { IfOk result (λ _. Keeps dag.old dag.new) }
     ensures width { IfOk result (λ i. HasWidth dag.new i 1) }
-    ensures node { IfOk result (λ i. (f : Naming → List Row) → Shows set.now.names dag.old rows.now f → Tests dag.new i (λ e. starts (meaning_of set.now) set.now at (f e))) }
+    ensures node { IfOk result (λ i. (f : Naming → List Row) → Shows set.now.names dag.old rows.now f →
+        Tests dag.new i (λ e. starts (meaning_of set.now) set.now at (f e))) }
 {
     let assumed = assumed_node(alloc, dag, set, at, rows)?;
     let formulas = property_of(set, at).commit.as_slice();

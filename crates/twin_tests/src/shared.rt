@@ -98,7 +98,8 @@ impl Nodes {
 
     // The node of an atom, where it was made last.
     fn found(&self, atom: Atom) -> Option<u64>
-        ensures { (set : Set) → AreMade set self.now.dag self.now.made.items → IfSome result (λ i. Tests self.now.dag i (atom_test set atom)) }
+        ensures { (set : Set) → AreMade set self.now.dag self.now.made.items →
+            IfSome result (λ i. Tests self.now.dag i (atom_test set atom)) }
     {
         let place = place(atom);
         if place >= self.made.len() {
@@ -113,7 +114,8 @@ impl Nodes {
     // Notes the node of an atom.
     fn note(&mut self, atom: Atom, node: u64)
         ensures dag { self.new.dag ≡ self.old.dag }
-        ensures made { (set : Set) → Tests self.old.dag node (atom_test set atom) → AreMade set self.old.dag self.old.made.items → AreMade set self.new.dag self.new.made.items }
+        ensures made { (set : Set) → Tests self.old.dag node (atom_test set atom) →
+            AreMade set self.old.dag self.old.made.items → AreMade set self.new.dag self.new.made.items }
     {
         let place = place(atom);
         if place < self.made.len() {

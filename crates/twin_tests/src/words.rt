@@ -34,7 +34,8 @@ pub fn both(dag: &mut Dag, a: u64, b: u64) -> Result<u64, AllocError>
     requires second { HasWidth dag.old b 1 }
     ensures keeps { IfOk result (λ _. Keeps dag.old dag.new) }
     ensures width { IfOk result (λ i. HasWidth dag.new i 1) }
-    ensures node { IfOk result (λ i. (f g : Naming → Bool) → Tests dag.old a f → Tests dag.old b g → Tests dag.new i (λ e. f e && g e)) }
+    ensures node { IfOk result (λ i. (f g : Naming → Bool) → Tests dag.old a f → Tests dag.old b g →
+        Tests dag.new i (λ e. f e && g e)) }
 {
     dag.add(Node::Two {
         op: Op::And,
@@ -51,7 +52,8 @@ pub fn either(dag: &mut Dag, a: u64, b: u64) -> Result<u64, AllocError>
     requires second { HasWidth dag.old b 1 }
     ensures keeps { IfOk result (λ _. Keeps dag.old dag.new) }
     ensures width { IfOk result (λ i. HasWidth dag.new i 1) }
-    ensures node { IfOk result (λ i. (f g : Naming → Bool) → Tests dag.old a f → Tests dag.old b g → Tests dag.new i (λ e. f e || g e)) }
+    ensures node { IfOk result (λ i. (f g : Naming → Bool) → Tests dag.old a f → Tests dag.old b g →
+        Tests dag.new i (λ e. f e || g e)) }
 {
     dag.add(Node::Two {
         op: Op::Or,
@@ -79,7 +81,8 @@ pub fn same(dag: &mut Dag, a: u64, b: u64) -> Result<u64, AllocError>
     requires second { HasWidth dag.old b 1 }
     ensures keeps { IfOk result (λ _. Keeps dag.old dag.new) }
     ensures width { IfOk result (λ i. HasWidth dag.new i 1) }
-    ensures node { IfOk result (λ i. (f g : Naming → Bool) → Tests dag.old a f → Tests dag.old b g → Tests dag.new i (λ e. same (f e) (g e))) }
+    ensures node { IfOk result (λ i. (f g : Naming → Bool) → Tests dag.old a f → Tests dag.old b g →
+        Tests dag.new i (λ e. same (f e) (g e))) }
 {
     dag.add(Node::Two {
         op: Op::Eq,
@@ -112,7 +115,8 @@ pub fn equal(dag: &mut Dag, a: u64, b: u64) -> Result<u64, AllocError>
     requires second { IsWide dag.old b }
     ensures keeps { IfOk result (λ _. Keeps dag.old dag.new) }
     ensures width { IfOk result (λ i. HasWidth dag.new i 1) }
-    ensures node { IfOk result (λ i. (f g : Naming → ℕ) → Counts dag.old a f → Counts dag.old b g → Tests dag.new i (λ e. f e == g e)) }
+    ensures node { IfOk result (λ i. (f g : Naming → ℕ) → Counts dag.old a f → Counts dag.old b g →
+        Tests dag.new i (λ e. f e == g e)) }
 {
     let width = width_at(dag, a).max(width_at(dag, b));
     let a = widened(dag, a, width)?;

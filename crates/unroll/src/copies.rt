@@ -14,7 +14,8 @@ use word_dag::{Dag, Node};
 // The node with the copies of its operands. A free word has none.
 fn inner(node: &Node, copies: &[u64]) -> Option<Node>
     requires { Each (λ a. a < length copies.now) (operands node.now) }
-    ensures { MatchOption result (is_free node.now ≡ true) (λ n. (is_free node.now ≡ false) × (n ≡ renumbered (slice_index copies.now) node.now)) }
+    ensures { MatchOption result (is_free node.now ≡ true) (λ n. (is_free node.now ≡ false) ×
+        (n ≡ renumbered (slice_index copies.now) node.now)) }
 {
     match node {
         Node::Free { .. } => None,
@@ -57,7 +58,8 @@ fn copy_node(dag: &mut Dag, node: &Node, copies: &[u64], leaf: u64) -> Result<u6
     requires fits { FitsNode (map width_of dag.old) (renumbered (slice_index copies.now) node.now) }
     ensures keeps { IfOk result (λ _. Keeps dag.old dag.new) }
     ensures leaf { IfOk result (λ i. is_free node.now ≡ true → (i ≡ leaf) × (dag.new ≡ dag.old)) }
-    ensures inner { IfOk result (λ i. is_free node.now ≡ false → Adds dag.old dag.new (renumbered (slice_index copies.now) node.now) i) }
+    ensures inner { IfOk result (λ i. is_free node.now ≡ false →
+        Adds dag.old dag.new (renumbered (slice_index copies.now) node.now) i) }
 {
     match inner(node, copies) {
         Some(node) => dag.add(node),
@@ -76,7 +78,8 @@ pub fn copy_nodes(
     requires { FitLeaves design.now dag.old leaves.now }
     ensures keeps { IfOk result (λ _. Keeps dag.old dag.new) }
     ensures fit { IfOk result (λ copies. FitCopies design.now dag.new copies.items) }
-    ensures copies { IfOk result (λ copies. (f : Naming → Cycle) → AreLeaves design.now dag.old leaves.now f → AreCopies design.now dag.new copies.items f) }
+    ensures copies { IfOk result (λ copies. (f : Naming → Cycle) → AreLeaves design.now dag.old leaves.now f →
+        AreCopies design.now dag.new copies.items f) }
 {
     let nodes = design.dag().nodes();
     let mut copies = Vec::with_capacity(alloc, nodes.len())?;

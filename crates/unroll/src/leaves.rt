@@ -46,9 +46,11 @@ fn free_node(
     requires some { 0 < width }
     requires most { width ≤ 64 }
     ensures grows { IfOk result (λ _. Grows dag.old dag.new) }
-    ensures frees { IfOk result (λ _. AddsFrees (λ n. n ≡ Free name.now width 0 (cycle_number moment.resets moment.position)) dag.old dag.new) }
+    ensures frees { IfOk result (λ _. AddsFrees
+        (λ n. n ≡ Free name.now width 0 (cycle_number moment.resets moment.position)) dag.old dag.new) }
     ensures node { IfOk result (λ i. IsNode dag.new i width) }
-    ensures word { IfOk result (λ i. IsWordAt dag.new i width (λ e. e name.now 0 (cycle_number moment.resets moment.position))) }
+    ensures word { IfOk result (λ i. IsWordAt dag.new i width
+        (λ e. e name.now 0 (cycle_number moment.resets moment.position))) }
 {
     dag.add(Node::Free {
         name: Text::copy(alloc, name)?,
@@ -77,9 +79,12 @@ fn input_node(
     requires some { 0 < input.now.width }
     requires most { input.now.width ≤ 64 }
     ensures grows { IfOk result (λ _. Grows dag.old dag.new) }
-    ensures frees { IfOk result (λ _. AddsFrees (λ n. n ≡ Free input.now.name input.now.width 0 (cycle_number moment.resets moment.position)) dag.old dag.new) }
+    ensures frees { IfOk result (λ _. AddsFrees
+        (λ n. n ≡ Free input.now.name input.now.width 0 (cycle_number moment.resets moment.position)) dag.old dag.new) }
     ensures node { IfOk result (λ i. IsNode dag.new i input.now.width) }
-    ensures word { IfOk result (λ i. IsWordAt dag.new i input.now.width (λ e. if bytes_eq input.now.name set.now.reset then level set.now (nat_lt moment.position moment.resets) else e input.now.name 0 (cycle_number moment.resets moment.position))) }
+    ensures word { IfOk result (λ i. IsWordAt dag.new i input.now.width
+        (λ e. if bytes_eq input.now.name set.now.reset then level set.now
+        (nat_lt moment.position moment.resets) else e input.now.name 0 (cycle_number moment.resets moment.position))) }
 {
     if input.name.bytes() == set.reset.bytes() {
         let value = level(set, moment.position < moment.resets);
@@ -103,9 +108,12 @@ fn register_node(
     requires fits { Fits bound.now.design bound.now.set }
     requires before { CopiedBefore bound.now.design bound.now.set moment.resets moment.position dag.old copies.now }
     ensures grows { IfOk result (λ _. Grows dag.old dag.new) }
-    ensures frees { IfOk result (λ _. AddsFrees (λ n. n ≡ Free register.now.name register.now.width 0 (cycle_number moment.resets moment.position)) dag.old dag.new) }
+    ensures frees { IfOk result (λ _. AddsFrees
+        (λ n. n ≡ Free register.now.name register.now.width 0
+        (cycle_number moment.resets moment.position)) dag.old dag.new) }
     ensures node { IfOk result (λ i. IsNode dag.new i register.now.width) }
-    ensures word { IfOk result (λ i. IsWordAt dag.new i register.now.width (λ e. held bound.now.design bound.now.set moment.resets e moment.position register.now.name)) }
+    ensures word { IfOk result (λ i. IsWordAt dag.new i register.now.width
+        (λ e. held bound.now.design bound.now.set moment.resets e moment.position register.now.name)) }
 {
     if moment.position > 0 {
         return Ok(copies[register.next as usize]);
@@ -147,7 +155,8 @@ fn put_inputs(
 ) -> Result<(), AllocError>
     requires design { IsDesign bound.now.design }
     requires fits { Fits bound.now.design bound.now.set }
-    requires leaves { ShowLeaves bound.now.design bound.now.set moment.resets moment.position dag.old leaves.old (map source bound.now.design.registers) }
+    requires leaves { ShowLeaves bound.now.design bound.now.set moment.resets moment.position dag.old leaves.old
+        (map source bound.now.design.registers) }
     ensures grows { OnOk result (Grows dag.old dag.new) }
     ensures frees { OnOk result (AddsFrees (IsSourceWord bound.now.design) dag.old dag.new) }
     ensures leaves { OnOk result (ShowLeaves bound.now.design bound.now.set moment.resets moment.position dag.new leaves.new (sources bound.now.design)) }
@@ -173,7 +182,8 @@ pub fn leaves_of(
     ensures grows { IfOk result (λ _. Grows dag.old dag.new) }
     ensures frees { IfOk result (λ _. AddsFrees (IsSourceWord bound.now.design) dag.old dag.new) }
     ensures fit { IfOk result (λ leaves. FitLeaves bound.now.design dag.new leaves.items) }
-    ensures leaves { IfOk result (λ leaves. AreLeaves bound.now.design dag.new leaves.items (λ e. held bound.now.design bound.now.set moment.resets e moment.position)) }
+    ensures leaves { IfOk result (λ leaves. AreLeaves bound.now.design dag.new leaves.items
+        (λ e. held bound.now.design bound.now.set moment.resets e moment.position)) }
 {
     let count = bound.design().dag().count() as usize;
     let mut leaves = vec![in alloc; 0; count]?;

@@ -29,7 +29,8 @@ pub fn base_node(
     requires leaves { AreLeaves set.now.names dag.old rows.now }
     ensures keeps { IfOk result (λ _. Keeps dag.old dag.new) }
     ensures width { IfOk result (λ i. HasWidth dag.new i 1) }
-    ensures node { IfOk result (λ i. (f : Naming → List Row) → Shows set.now.names dag.old rows.now f → Tests dag.new i (λ e. violates_base (meaning_of set.now) set.now at (f e))) }
+    ensures node { IfOk result (λ i. (f : Naming → List Row) → Shows set.now.names dag.old rows.now f →
+        Tests dag.new i (λ e. violates_base (meaning_of set.now) set.now at (f e))) }
 {
     let met = constraints_node(alloc, dag, set, rows)?;
     let fails = fails_node(alloc, dag, set, at, rows)?;
@@ -49,7 +50,9 @@ pub fn begins_node(
     requires leaves { AreLeaves set.now.names dag.old rows.now }
     ensures keeps { IfOk result (λ _. Keeps dag.old dag.new) }
     ensures width { IfOk result (λ i. HasWidth dag.new i 1) }
-    ensures node { IfOk result (λ i. (f : Naming → List Row) → Shows set.now.names dag.old rows.now f → Tests dag.new i (λ e. meets_constraints (meaning_of set.now) set.now (f e) && meets_invariants (meaning_of set.now) set.now (f e))) }
+    ensures node { IfOk result (λ i. (f : Naming → List Row) → Shows set.now.names dag.old rows.now f →
+        Tests dag.new i (λ e. meets_constraints (meaning_of set.now) set.now (f e) &&
+        meets_invariants (meaning_of set.now) set.now (f e))) }
 {
     let met = constraints_node(alloc, dag, set, rows)?;
     let invariants = invariants_node(alloc, dag, set, rows)?;
@@ -70,7 +73,8 @@ pub fn step_node(
     requires leaves { AreLeaves set.now.names dag.old rows.now }
     ensures keeps { IfOk result (λ _. Keeps dag.old dag.new) }
     ensures width { IfOk result (λ i. HasWidth dag.new i 1) }
-    ensures node { IfOk result (λ i. (f : Naming → List Row) → Shows set.now.names dag.old rows.now f → Tests dag.new i (λ e. violates_step (meaning_of set.now) set.now at (f e))) }
+    ensures node { IfOk result (λ i. (f : Naming → List Row) → Shows set.now.names dag.old rows.now f →
+        Tests dag.new i (λ e. violates_step (meaning_of set.now) set.now at (f e))) }
 {
     let begins = begins_node(alloc, dag, set, rows)?;
     let fails = fails_node(alloc, dag, set, at, rows_after(rows, 1))?;
@@ -90,7 +94,8 @@ pub fn reset_node(
     requires leaves { AreLeaves set.now.names dag.old rows.now }
     ensures keeps { IfOk result (λ _. Keeps dag.old dag.new) }
     ensures width { IfOk result (λ i. HasWidth dag.new i 1) }
-    ensures node { IfOk result (λ i. (f : Naming → List Row) → Shows set.now.names dag.old rows.now f → Tests dag.new i (λ e. violates_reset (meaning_of set.now) set.now (f e))) }
+    ensures node { IfOk result (λ i. (f : Naming → List Row) → Shows set.now.names dag.old rows.now f →
+        Tests dag.new i (λ e. violates_reset (meaning_of set.now) set.now (f e))) }
 {
     let met = constraints_node(alloc, dag, set, rows)?;
     let broken = broken_node(alloc, dag, set, 0, rows)?;
@@ -111,7 +116,8 @@ pub fn operation_node(
     requires leaves { AreLeaves set.now.names dag.old rows.now }
     ensures keeps { IfOk result (λ _. Keeps dag.old dag.new) }
     ensures width { IfOk result (λ i. HasWidth dag.new i 1) }
-    ensures node { IfOk result (λ i. (f : Naming → List Row) → Shows set.now.names dag.old rows.now f → Tests dag.new i (λ e. violates_operation (meaning_of set.now) set.now at (f e))) }
+    ensures node { IfOk result (λ i. (f : Naming → List Row) → Shows set.now.names dag.old rows.now f →
+        Tests dag.new i (λ e. violates_operation (meaning_of set.now) set.now at (f e))) }
 {
     let begins = begins_node(alloc, dag, set, rows)?;
     let assumed = assumed_node(alloc, dag, set, at, rows)?;

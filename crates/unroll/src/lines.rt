@@ -33,7 +33,8 @@ fn push_lines(
     count: u32,
 ) -> Result<(), AllocError>
     requires { from + count < 2 ^ 32 }
-    ensures { OnOk result (map line_of lines.new.items ≡ map line_of lines.old.items ++ map (numbered_line kind) (numbers_from from count)) }
+    ensures { OnOk result (map line_of lines.new.items ≡ map line_of lines.old.items ++ map (numbered_line kind)
+        (numbers_from from count)) }
 {
     for at in 0..count {
         lines.push(numbered_line(kind, from + at))?;

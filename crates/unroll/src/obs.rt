@@ -38,7 +38,8 @@ fn line_node(
     requires segments { (d : Parts) × AreSegments d set.now dag.old segments.now }
     ensures keeps { IfOk result (λ _. Keeps dag.old dag.new) }
     ensures width { IfOk result (λ i. HasWidth dag.new i 1) }
-    ensures node { IfOk result (λ i. (d : Parts) → AreSegments d set.now dag.old segments.now → Tests dag.new i (line_test d (meaning_of set.now) set.now (line_of line))) }
+    ensures node { IfOk result (λ i. (d : Parts) → AreSegments d set.now dag.old segments.now →
+        Tests dag.new i (line_test d (meaning_of set.now) set.now (line_of line))) }
 {
     match line {
         DesignLine::Base(i) => {
@@ -94,7 +95,8 @@ fn named_ob(
     requires segments { (d : Parts) × AreSegments d set.now dag.old segments.now }
     requires words { HasOneWidthEach dag.old }
     ensures keeps { IfOk result (λ _. Keeps dag.old dag.new) }
-    ensures named { IfOk result (λ named. (d : Parts) → IsDesign d → Fits d set.now → AreSegments d set.now dag.old segments.now → IsNamedOf d set.now (line_of line) named) }
+    ensures named { IfOk result (λ named. (d : Parts) → IsDesign d → Fits d set.now →
+        AreSegments d set.now dag.old segments.now → IsNamedOf d set.now (line_of line) named) }
 {
     let root = line_node(alloc, dag, set, line, segments)?;
     let ob = extract(alloc, dag, root)?;
@@ -107,7 +109,8 @@ fn named_ob(
 /// words are the registers' in a segment's first cycle and the inputs' in each of its cycles, the reset cycles among
 /// them; the reset is a constant.
 pub fn design_obs(alloc: Global, bound: &Bound) -> Result<Vec<Named>, AllocError>
-    ensures { IfOk result (λ obs. AllZip (IsNamedOf bound.now.design bound.now.set) (design_lines bound.now.set) obs.items) }
+    ensures { IfOk result (λ obs. AllZip (IsNamedOf bound.now.design bound.now.set)
+        (design_lines bound.now.set) obs.items) }
 {
     // the nodes of a design fit
     let _fit = bound.design().dag();

@@ -26,7 +26,8 @@ pub fn invariants_node(
     requires leaves { AreLeaves set.now.names dag.old rows.now }
     ensures keeps { IfOk result (λ _. Keeps dag.old dag.new) }
     ensures width { IfOk result (λ i. HasWidth dag.new i 1) }
-    ensures node { IfOk result (λ i. (f : Naming → List Row) → Shows set.now.names dag.old rows.now f → Tests dag.new i (λ e. meets_invariants (meaning_of set.now) set.now (f e))) }
+    ensures node { IfOk result (λ i. (f : Naming → List Row) → Shows set.now.names dag.old rows.now f →
+        Tests dag.new i (λ e. meets_invariants (meaning_of set.now) set.now (f e))) }
 {
     let mut all = constant(dag, true)?;
     for rule in set.invariants.as_slice() {
@@ -50,7 +51,8 @@ pub fn fails_node(
     requires leaves { AreLeaves set.now.names dag.old rows.now }
     ensures keeps { IfOk result (λ _. Keeps dag.old dag.new) }
     ensures width { IfOk result (λ i. HasWidth dag.new i 1) }
-    ensures node { IfOk result (λ i. (f : Naming → List Row) → Shows set.now.names dag.old rows.now f → Tests dag.new i (λ e. fails (meaning_of set.now) (slice_get set.now.invariants at) (f e))) }
+    ensures node { IfOk result (λ i. (f : Naming → List Row) → Shows set.now.names dag.old rows.now f →
+        Tests dag.new i (λ e. fails (meaning_of set.now) (slice_get set.now.invariants at) (f e))) }
 {
     match set.invariants.as_slice().get(at as usize) {
         Some(rule) => {
@@ -75,7 +77,8 @@ pub fn broken_node(
     requires leaves { AreLeaves set.now.names dag.old rows.now }
     ensures keeps { IfOk result (λ _. Keeps dag.old dag.new) }
     ensures width { IfOk result (λ i. HasWidth dag.new i 1) }
-    ensures node { IfOk result (λ i. (f : Naming → List Row) → Shows set.now.names dag.old rows.now f → Tests dag.new i (λ e. not (committed (meaning_of set.now) set.now at (f e)))) }
+    ensures node { IfOk result (λ i. (f : Naming → List Row) → Shows set.now.names dag.old rows.now f →
+        Tests dag.new i (λ e. not (committed (meaning_of set.now) set.now at (f e)))) }
 {
     let formulas = property_of(set, at).commit.as_slice();
     let holds = all_node(alloc, dag, set, rows, formulas)?;

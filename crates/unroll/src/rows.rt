@@ -41,7 +41,8 @@ fn cycle_nodes(
     requires { CopiedBefore bound.now.design bound.now.set moment.resets moment.position dag.old before.now }
     ensures grows { IfOk result (λ _. Grows dag.old dag.new) }
     ensures frees { IfOk result (λ _. AddsFrees (IsSourceWord bound.now.design) dag.old dag.new) }
-    ensures copied { IfOk result (λ copies. CopiedBefore bound.now.design bound.now.set moment.resets (suc moment.position) dag.new copies.items) }
+    ensures copied { IfOk result (λ copies. CopiedBefore bound.now.design bound.now.set moment.resets
+        (suc moment.position) dag.new copies.items) }
 {
     let leaves = leaves_of(alloc, dag, bound, moment, before)?;
     copy_nodes(alloc, dag, bound.design(), leaves.as_slice())
@@ -97,7 +98,8 @@ pub fn segment_nodes(
     requires small { resets + count < 2 ^ 8 }
     ensures grows { IfOk result (λ _. Grows dag.old dag.new) }
     ensures frees { IfOk result (λ _. AddsFrees (IsSourceWord bound.now.design) dag.old dag.new) }
-    ensures rows { IfOk result (λ rows. Shows bound.now.set.names dag.new rows.items (λ e. rows_from bound.now.design bound.now.set resets e resets count)) }
+    ensures rows { IfOk result (λ rows. Shows bound.now.set.names dag.new rows.items
+        (λ e. rows_from bound.now.design bound.now.set resets e resets count)) }
 {
     // the nodes of a design fit
     let _fit = bound.design().dag();

@@ -19,12 +19,14 @@ pub fn runs_have_values()
 
 /// The test of a line holds exactly at values whose segment violates the line.
 pub fn tests_are_exact()
-    ensures { (d : Parts) (m : Meaning) (set : Set) → IsDesign d → Fits d set → (line : Line) → TestIsExact d m set line }
+    ensures { (d : Parts) (m : Meaning) (set : Set) → IsDesign d → Fits d set → (line : Line) →
+        TestIsExact d m set line }
 {}
 
 /// Nodes whose root is the test of a line at all values are an obligation of the line.
 pub fn tests_are_of_lines()
-    ensures { (d : Parts) (m : Meaning) (set : Set) → IsDesign d → Fits d set → (line : Line) → TestsAreOfLines d m set line }
+    ensures { (d : Parts) (m : Meaning) (set : Set) → IsDesign d → Fits d set → (line : Line) →
+        TestsAreOfLines d m set line }
 {}
 
 /// Where a segment violates a line of the design, some values name such a segment; and a segment that values name so is

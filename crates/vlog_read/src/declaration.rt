@@ -26,7 +26,8 @@ pub fn read_declared<T: Part>(
     depth: usize,
 ) -> Result<Found<Declared<T>>, ReadFault>
     requires { depth ≤ 500 }
-    ensures { Finds tokens.now (declared_height T.height) (SpellsDeclared tokens.now (T.spells tokens.now)) (ReadsDeclared tokens.now (T.spells tokens.now)) at depth result }
+    ensures { Finds tokens.now (declared_height T.height) (SpellsDeclared tokens.now (T.spells tokens.now))
+        (ReadsDeclared tokens.now (T.spells tokens.now)) at depth result }
 {
     let shape = read_shape(alloc, tokens, at, depth)?;
     let items = match up_to_end::<T>(alloc, tokens, shape.end, depth) {

@@ -48,7 +48,8 @@ fn port_group(
 ) -> Result<Found<HeaderPort>, ReadFault>
     requires here { IsWord tokens.now at (codes "input") ⊎ IsWord tokens.now at (codes "output") }
     requires low { depth ≤ 500 }
-    ensures found { Finds tokens.now header_port_height (SpellsHeaderPort tokens.now) (Before (SpellsHeaderPort tokens.now) (Follows tokens.now)) at depth result }
+    ensures found { Finds tokens.now header_port_height (SpellsHeaderPort tokens.now)
+        (Before (SpellsHeaderPort tokens.now) (Follows tokens.now)) at depth result }
     ensures forward { IfOk result (λ found. at < found.end) }
 {
     let kind = port_kind(tokens, at)?;
@@ -104,7 +105,10 @@ pub fn header_parameters(
     depth: usize,
 ) -> Result<Found<Option<Items<HeaderParameter>>>, ReadFault>
     requires { depth ≤ 500 }
-    ensures { Finds tokens.now (highest_of (highest header_parameter_height)) (Maybe (AfterHash tokens.now (SpellsParameters tokens.now))) (Before (Maybe (AfterHash tokens.now (SpellsParameters tokens.now))) (NoSign (codes "#") tokens.now)) at depth result }
+    ensures { Finds tokens.now (highest_of (highest header_parameter_height))
+        (Maybe (AfterHash tokens.now (SpellsParameters tokens.now)))
+        (Before (Maybe (AfterHash tokens.now (SpellsParameters tokens.now)))
+        (NoSign (codes "#") tokens.now)) at depth result }
 {
     if !is_sign(tokens, at, b"#") {
         return Ok(Found {
@@ -140,7 +144,8 @@ fn read_ports(
     depth: usize,
 ) -> Result<Found<Ports>, ReadFault>
     requires { depth ≤ 500 }
-    ensures { Finds tokens.now ports_height (SpellsPorts tokens.now) (Before (SpellsPorts tokens.now) (Closes tokens.now)) at depth result }
+    ensures { Finds tokens.now ports_height (SpellsPorts tokens.now)
+        (Before (SpellsPorts tokens.now) (Closes tokens.now)) at depth result }
 {
     if is_direction(tokens, at) {
         let list = comma_list::<HeaderPort>(alloc, tokens, at, depth)?;
@@ -166,7 +171,8 @@ pub fn header_ports(
     depth: usize,
 ) -> Result<Found<Option<Ports>>, ReadFault>
     requires { depth ≤ 500 }
-    ensures { Finds tokens.now (highest_of ports_height) (SpellsHeader tokens.now) (Before (SpellsHeader tokens.now) (λ j. IsSign tokens.now j (codes ";"))) at depth result }
+    ensures { Finds tokens.now (highest_of ports_height) (SpellsHeader tokens.now)
+        (Before (SpellsHeader tokens.now) (λ j. IsSign tokens.now j (codes ";"))) at depth result }
 {
     if !is_sign(tokens, at, b"(") {
         return Ok(Found {

@@ -21,7 +21,8 @@ fn connected(
     depth: usize,
 ) -> Result<Found<Option<Expr>>, ReadFault>
     requires { depth ≤ 500 }
-    ensures { Finds tokens.now (highest_of height) (InParens tokens.now (Maybe (Spells false tokens.now))) (InParens tokens.now (Maybe (Spells false tokens.now))) at depth result }
+    ensures { Finds tokens.now (highest_of height) (InParens tokens.now (Maybe (Spells false tokens.now)))
+        (InParens tokens.now (Maybe (Spells false tokens.now))) at depth result }
 {
     if !is_sign(tokens, at, b"(") {
         return Err(ReadFault::Syntax(at));
@@ -81,7 +82,8 @@ fn read_args(
     depth: usize,
 ) -> Result<Found<Args>, ReadFault>
     requires { depth ≤ 500 }
-    ensures { Finds tokens.now args_height (SpellsArgs tokens.now) (Before (SpellsArgs tokens.now) (Closes tokens.now)) at depth result }
+    ensures { Finds tokens.now args_height (SpellsArgs tokens.now)
+        (Before (SpellsArgs tokens.now) (Closes tokens.now)) at depth result }
 {
     if is_sign(tokens, at, b".") {
         let list = comma_list::<Connection>(alloc, tokens, at, depth)?;
@@ -107,7 +109,8 @@ fn connections(
     depth: usize,
 ) -> Result<Found<Option<Args>>, ReadFault>
     requires { depth ≤ 500 }
-    ensures { Finds tokens.now (highest_of args_height) (InParens tokens.now (Maybe (SpellsArgs tokens.now))) (InParens tokens.now (Maybe (SpellsArgs tokens.now))) at depth result }
+    ensures { Finds tokens.now (highest_of args_height) (InParens tokens.now (Maybe (SpellsArgs tokens.now)))
+        (InParens tokens.now (Maybe (SpellsArgs tokens.now))) at depth result }
 {
     if !is_sign(tokens, at, b"(") {
         return Err(ReadFault::Syntax(at));
@@ -163,7 +166,9 @@ pub fn overrides(
     depth: usize,
 ) -> Result<Found<Option<Args>>, ReadFault>
     requires { depth ≤ 500 }
-    ensures { Finds tokens.now (highest_of args_height) (Maybe (AfterHash tokens.now (SpellsArgs tokens.now))) (Before (Maybe (AfterHash tokens.now (SpellsArgs tokens.now))) (NoSign (codes "#") tokens.now)) at depth result }
+    ensures { Finds tokens.now (highest_of args_height) (Maybe (AfterHash tokens.now (SpellsArgs tokens.now)))
+        (Before (Maybe (AfterHash tokens.now (SpellsArgs tokens.now)))
+        (NoSign (codes "#") tokens.now)) at depth result }
 {
     if !is_sign(tokens, at, b"#") {
         return Ok(Found {

@@ -19,7 +19,8 @@ pub fn comma_list<T: Part>(
     depth: usize,
 ) -> Result<Found<Items<T>>, ReadFault>
     requires { depth ≤ 500 }
-    ensures found { Finds tokens.now (highest T.height) (Separated (Comma tokens.now) (T.spells tokens.now)) (Before (Separated (Comma tokens.now) (T.spells tokens.now)) (Closes tokens.now)) at depth result }
+    ensures found { Finds tokens.now (highest T.height) (Separated (Comma tokens.now) (T.spells tokens.now))
+        (Before (Separated (Comma tokens.now) (T.spells tokens.now)) (Closes tokens.now)) at depth result }
     ensures forward { IfOk result (λ found. at < found.end) }
 {
     let first = T::read(alloc, tokens, at, depth)?;
@@ -55,7 +56,8 @@ pub fn or_list<T: Part>(
     depth: usize,
 ) -> Result<Found<Items<T>>, ReadFault>
     requires { depth ≤ 500 }
-    ensures found { Finds tokens.now (highest T.height) (Separated (OrComma tokens.now) (T.spells tokens.now)) (Before (Separated (OrComma tokens.now) (T.spells tokens.now)) (Closes tokens.now)) at depth result }
+    ensures found { Finds tokens.now (highest T.height) (Separated (OrComma tokens.now) (T.spells tokens.now))
+        (Before (Separated (OrComma tokens.now) (T.spells tokens.now)) (Closes tokens.now)) at depth result }
     ensures forward { IfOk result (λ found. at < found.end) }
 {
     let first = T::read(alloc, tokens, at, depth)?;
@@ -84,7 +86,8 @@ pub fn up_to_end<T: Part>(
     depth: usize,
 ) -> Result<Found<Items<T>>, ReadFault>
     requires { depth ≤ 500 }
-    ensures { Finds tokens.now (highest T.height) (UpToEnd tokens.now (T.spells tokens.now)) (UpToEnd tokens.now (T.spells tokens.now)) at depth result }
+    ensures { Finds tokens.now (highest T.height) (UpToEnd tokens.now (T.spells tokens.now))
+        (UpToEnd tokens.now (T.spells tokens.now)) at depth result }
 {
     let list = comma_list::<T>(alloc, tokens, at, depth)?;
     if !is_sign(tokens, list.end, b";") {

@@ -29,6 +29,7 @@ pub trait Part: Sized + Drop {
         depth: usize,
     ) -> Result<Found<Self>, ReadFault>
         requires { depth ≤ 500 }
-        ensures found { Finds tokens.now height (spells tokens.now) (Before (spells tokens.now) (Follows tokens.now)) at depth result }
+        ensures found { Finds tokens.now height (spells tokens.now)
+            (Before (spells tokens.now) (Follows tokens.now)) at depth result }
         ensures forward { IfOk result (λ found. at < found.end) };
 }

@@ -116,7 +116,8 @@ pub fn maybe_range(
     depth: usize,
 ) -> Result<Found<Option<Range>>, ReadFault>
     requires low { depth ≤ 500 }
-    ensures { Finds tokens.now (highest_of range_height) (Maybe (SpellsRange tokens.now)) (Before (Maybe (SpellsRange tokens.now)) (NoSign (codes "[") tokens.now)) at depth result }
+    ensures { Finds tokens.now (highest_of range_height) (Maybe (SpellsRange tokens.now))
+        (Before (Maybe (SpellsRange tokens.now)) (NoSign (codes "[") tokens.now)) at depth result }
 {
     if !is_sign(tokens, at, b"[") {
         return Ok(Found {
@@ -141,7 +142,8 @@ pub fn read_shape(
     depth: usize,
 ) -> Result<Found<Shape>, ReadFault>
     requires low { depth ≤ 500 }
-    ensures { Finds tokens.now shape_height (SpellsShape tokens.now) (Before (SpellsShape tokens.now) (Plain tokens.now)) at depth result }
+    ensures { Finds tokens.now shape_height (SpellsShape tokens.now)
+        (Before (SpellsShape tokens.now) (Plain tokens.now)) at depth result }
 {
     if !is_word(tokens, at, b"signed") {
         let range = maybe_range(alloc, tokens, at, depth)?;
@@ -173,7 +175,8 @@ pub fn read_value(
     depth: usize,
 ) -> Result<Found<Expr>, ReadFault>
     requires low { depth ≤ 500 }
-    ensures { Finds tokens.now height (SpellsValue tokens.now) (Before (SpellsValue tokens.now) (Follows tokens.now)) at depth result }
+    ensures { Finds tokens.now height (SpellsValue tokens.now)
+        (Before (SpellsValue tokens.now) (Follows tokens.now)) at depth result }
 {
     if !is_sign(tokens, at, b"=") {
         return Err(ReadFault::Syntax(at));
@@ -194,7 +197,8 @@ fn maybe_value(
     depth: usize,
 ) -> Result<Found<Option<Expr>>, ReadFault>
     requires low { depth ≤ 500 }
-    ensures { Finds tokens.now (highest_of height) (Maybe (SpellsValue tokens.now)) (Before (Maybe (SpellsValue tokens.now)) (Follows tokens.now)) at depth result }
+    ensures { Finds tokens.now (highest_of height) (Maybe (SpellsValue tokens.now))
+        (Before (Maybe (SpellsValue tokens.now)) (Follows tokens.now)) at depth result }
 {
     if !is_sign(tokens, at, b"=") {
         return Ok(Found {

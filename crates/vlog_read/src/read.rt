@@ -13,7 +13,8 @@ use vlog_tree::{Module, Token};
 // A fault with the place of a byte, of one with the place of a token.
 fn by_bytes(tokens: &[Token], fault: ReadFault) -> ReadFault
     ensures refused { (ts : List Token) → RefusesTokens ts fault → RefusesTokens ts result }
-    ensures within { (ts : List Token) (size : ℕ) → RefusesTokens ts fault → LieWithin size tokens.now → NamesByte size result }
+    ensures within { (ts : List Token) (size : ℕ) → RefusesTokens ts fault → LieWithin size tokens.now →
+        NamesByte size result }
 {
     match fault {
         ReadFault::Syntax(at) => ReadFault::Syntax(byte_of(tokens, at)),

@@ -63,7 +63,8 @@ fn fingerprint(name: &[u8], offset: u32) -> u64
 
 // Puts in the place of a fingerprint that has none yet. On an error nothing changes.
 fn note(first: &mut HashMap<u64, usize>, print: u64, place: usize) -> Result<(), AllocError>
-    ensures ok { OnOk result ((p : ℕ) → get nat_eq first.new p ≡ option_or (get nat_eq first.old p) (if nat_eq print p then Some place else None)) }
+    ensures ok { OnOk result ((p : ℕ) → get nat_eq first.new p ≡ option_or (get nat_eq first.old p)
+        (if nat_eq print p then Some place else None)) }
     ensures err { OnErr result ((p : ℕ) → get nat_eq first.new p ≡ get nat_eq first.old p) }
 {
     if !first.contains_key(&print) {

@@ -181,7 +181,8 @@ pub fn evaluated(
     valuation: &Valuation,
 ) -> Result<Option<(Word, bool)>, AllocError>
     ensures some { IfOk result (λ o. IfSome o (λ own. HasOwn valuation.now expr.now own.0 own.1)) }
-    ensures none { IfOk result (λ o. IfNone o (IsFormed valuation.now expr.now → IsDefined valuation.now expr.now (width_of valuation.now expr.now) (sign_of valuation.now expr.now) → ⊥)) }
+    ensures none { IfOk result (λ o. IfNone o (IsFormed valuation.now expr.now →
+        IsDefined valuation.now expr.now (width_of valuation.now expr.now) (sign_of valuation.now expr.now) → ⊥)) }
 {
     let tree = folded(alloc, expr, valuation)?;
     let own = checked_own_value(&tree, valuation);

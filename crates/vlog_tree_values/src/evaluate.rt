@@ -209,7 +209,8 @@ fn bound(expr: &Expr, span: Span, valuation: &Valuation) -> Option<i128>
 #[cycle(evaluation)]
 fn taken(expr: &Expr, valuation: &Valuation) -> Option<Own>
     ensures some { IfSome result (λ o. HasOwn valuation.now expr.now o.word o.signed) }
-    ensures none { IfNone result (IsFormed valuation.now expr.now → IsTrue (own_defined (operand_of valuation.now expr.now)) → ⊥) }
+    ensures none { IfNone result (IsFormed valuation.now expr.now →
+        IsTrue (own_defined (operand_of valuation.now expr.now)) → ⊥) }
 {
     let (width, signed) = shape_of(expr, valuation)?;
     let word = value_at(expr, (width, signed), valuation)?;
@@ -220,7 +221,8 @@ fn taken(expr: &Expr, valuation: &Valuation) -> Option<Own>
 #[cycle(evaluation)]
 fn row_width(items: &[Expr], valuation: &Valuation) -> Option<u8>
     ensures some { IfSome result (λ n. HasRow valuation.now items.now n) }
-    ensures none { IfNone result (each_formed valuation.now items.now → (each_row valuation.now items.now).width ≤ 64 → ⊥) }
+    ensures none { IfNone result (each_formed valuation.now items.now → (each_row valuation.now items.now).width ≤ 64 →
+        ⊥) }
 {
     let mut width = 0;
     for item in items {
@@ -358,7 +360,8 @@ fn appended(width: u8, number: u64, low: Word) -> u64
 
 // So many copies of a word, if there is at least one and they fit 64 bits.
 fn copies(count: i128, word: Word) -> Option<Word>
-    ensures some { IfSome result (λ w. (w.width ≡ natural count * word.width) × (w.value ≡ copy_number (natural count) word.width word.value)) }
+    ensures some { IfSome result (λ w. (w.width ≡ natural count * word.width) ×
+        (w.value ≡ copy_number (natural count) word.width word.value)) }
     ensures none { IfNone result (IsLength (natural count * word.width) → ⊥) }
 {
     // a word has at least one bit
@@ -392,7 +395,8 @@ fn whole(vector: Constant) -> Word
 // The bit of a vector, or the word of a memory, that an index names.
 fn selected(name: &Name, vector: Constant, index: Own, valuation: &Valuation) -> Word
     requires { IsLength vector.width }
-    ensures { result ≡ select_word valuation.now name.now vector (integer index.signed index.word.width index.word.value) index.word.value }
+    ensures { result ≡ select_word valuation.now name.now vector
+        (integer index.signed index.word.width index.word.value) index.word.value }
 {
     let depth = depth_of(name, valuation);
     if depth == 0 {
@@ -408,7 +412,11 @@ fn selected(name: &Name, vector: Constant, index: Own, valuation: &Valuation) ->
 // The bit of a vector that an index names.
 fn bit_at(vector: Constant, index: Own) -> Word
     requires { IsLength vector.width }
-    ensures { result ≡ record { width = 1; value = bits_of vector (integer index.signed index.word.width index.word.value) 1 } }
+    ensures { result ≡ record {
+      width = 1;
+      value = bits_of vector
+          (integer index.signed index.word.width index.word.value) 1;
+    } }
 {
     bits(vector, integer(index.word, index.signed), 1)
 }
@@ -416,8 +424,10 @@ fn bit_at(vector: Constant, index: Own) -> Word
 // The bits of a vector that a part-select names.
 fn part(vector: Constant, span: Span, a: Own, b: Own) -> Option<Word>
     requires { IsLength vector.width }
-    ensures some { IfSome result (λ w. w ≡ part_word vector span (integer a.signed a.word.width a.word.value) (integer b.signed b.word.width b.word.value)) }
-    ensures none { IfNone result (FitsPart vector span (integer a.signed a.word.width a.word.value) (integer b.signed b.word.width b.word.value) → ⊥) }
+    ensures some { IfSome result (λ w. w ≡ part_word vector span (integer a.signed a.word.width a.word.value)
+        (integer b.signed b.word.width b.word.value)) }
+    ensures none { IfNone result (FitsPart vector span (integer a.signed a.word.width a.word.value)
+        (integer b.signed b.word.width b.word.value) → ⊥) }
 {
     let a = integer(a.word, a.signed);
     let b = integer(b.word, b.signed);
@@ -453,7 +463,8 @@ pub fn value(expr: &Expr, length: u8, signed: bool, valuation: &Valuation) -> Wo
 /// The value of an expression by itself.
 pub fn own_value(expr: &Expr, valuation: &Valuation) -> Word
     requires formed { IsFormed valuation.now expr.now }
-    requires defined { IsDefined valuation.now expr.now (width_of valuation.now expr.now) (sign_of valuation.now expr.now) }
+    requires defined { IsDefined valuation.now expr.now (width_of valuation.now expr.now)
+        (sign_of valuation.now expr.now) }
     ensures width { result.width ≡ width_of valuation.now expr.now }
     ensures value { result.value ≡ own_value valuation.now expr.now }
 {
@@ -511,7 +522,8 @@ pub fn checked_value(expr: &Expr, length: u8, signed: bool, valuation: &Valuatio
 /// The value of an expression by itself, and its sign; none where it isn't well formed or a divisor is 0.
 pub fn checked_own_value(expr: &Expr, valuation: &Valuation) -> Option<(Word, bool)>
     ensures some { IfSome result (λ own. HasOwn valuation.now expr.now own.0 own.1) }
-    ensures none { IfNone result (IsFormed valuation.now expr.now → IsDefined valuation.now expr.now (width_of valuation.now expr.now) (sign_of valuation.now expr.now) → ⊥) }
+    ensures none { IfNone result (IsFormed valuation.now expr.now →
+        IsDefined valuation.now expr.now (width_of valuation.now expr.now) (sign_of valuation.now expr.now) → ⊥) }
 {
     let own = taken(expr, valuation)?;
     Some((own.word, own.signed))

@@ -166,7 +166,11 @@ pub fn shifted(op: Binary, a: Word, b: Word, signed: bool) -> Word
 
 #[tactic(auto, using(crate::proofs::Signs::sar_is, crate::proofs::Signs::shr_is))]
 fn moved_down(a: Word, b: Word, signed: bool) -> Word
-    ensures { result ≡ record { width = a.width; value = shift_of Binary.ArithmeticShr a.width signed a.value (min b.value a.width) } }
+    ensures { result ≡ record {
+      width = a.width;
+      value = shift_of Binary.ArithmeticShr a.width signed a.value
+          (min b.value a.width);
+    } }
 {
     // a word's number fits its width
     let _fits = a.value();
@@ -271,7 +275,11 @@ pub fn quotient(op: Binary, a: Word, b: Word, signed: bool) -> Word
     requires family { family_of op ≡ Family.Division }
     requires same { a.width ≡ b.width }
     requires divisor { b.value ≢ 0 }
-    ensures { result ≡ record { width = a.width; value = cut a.width (quotient_of op (integer signed a.width a.value) (integer signed b.width b.value)) } }
+    ensures { result ≡ record {
+      width = a.width;
+      value = cut a.width
+          (quotient_of op (integer signed a.width a.value) (integer signed b.width b.value));
+    } }
 {
     let dividend = integer(a, signed);
     let divisor = integer(b, signed);
@@ -401,7 +409,12 @@ pub fn joined(op: Binary, here: (u8, bool), sign: bool, left: Word, right: Word)
     requires some { 1 ≤ here.0 }
     requires most { here.0 ≤ 64 }
     requires fits { PlacesFit (family_of op) here.0 left.width right.width }
-    ensures some { IfSome result (λ w. (is_joined (family_of op) true true right.value ≡ true) × (w ≡ record { width = here.0; value = joined_number (family_of op) op here.0 here.1 left.width sign left.value right.value })) }
+    ensures some { IfSome result (λ w. (is_joined (family_of op) true true right.value ≡ true) ×
+        (w ≡ record {
+          width = here.0;
+          value = joined_number
+              (family_of op) op here.0 here.1 left.width sign left.value right.value;
+        })) }
     ensures none { IfNone result (is_joined (family_of op) true true right.value ≡ false) }
 {
     match family_of(op) {
@@ -420,7 +433,8 @@ pub fn joined(op: Binary, here: (u8, bool), sign: bool, left: Word, right: Word)
 fn divided(op: Binary, left: Word, right: Word, signed: bool) -> Option<Word>
     requires family { family_of op ≡ Family.Division }
     requires same { left.width ≡ right.width }
-    ensures some { IfSome result (λ w. (nat_eq right.value 0 ≡ false) × (w ≡ record { width = left.width; value = joined_number Family.Division op left.width signed left.width signed left.value right.value })) }
+    ensures some { IfSome result (λ w. (nat_eq right.value 0 ≡ false) ×
+        (w ≡ record { width = left.width; value = joined_number Family.Division op left.width signed left.width signed left.value right.value })) }
     ensures none { IfNone result (nat_eq right.value 0 ≡ true) }
 {
     if right.value() == 0 {

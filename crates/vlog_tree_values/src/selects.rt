@@ -70,7 +70,8 @@ fn fixed_width(vector: Constant, a: i128, b: i128) -> Option<i128>
     requires high { a <ℤ pos (2 ^ 64) }
     requires low_too { negsuc (2 ^ 64) ≤ℤ b }
     requires high_too { b <ℤ pos (2 ^ 64) }
-    ensures some { IfSome result (λ n. (pos vector.low ≤ℤ b) × (a <ℤ pos (vector.low + vector.width)) × (n ≡ (a -ℤ b) +ℤ pos 1)) }
+    ensures some { IfSome result (λ n. (pos vector.low ≤ℤ b) × (a <ℤ pos (vector.low + vector.width)) ×
+        (n ≡ (a -ℤ b) +ℤ pos 1)) }
     ensures none { IfNone result ((pos vector.low ≤ℤ b) × (a <ℤ pos (vector.low + vector.width)) → ⊥) }
 {
     let low = i128::from(vector.low);

@@ -43,7 +43,8 @@ fn put_start(
     kind: &[u8],
     width: u8,
 ) -> Result<(), AllocError>
-    ensures { OnOk result (out.new.items ≡ out.old.items ++ (decimal number ++ (32 ∷ (kind.now ++ 32 ∷ decimal width)))) }
+    ensures { OnOk result (out.new.items ≡ out.old.items ++
+        (decimal number ++ (32 ∷ (kind.now ++ 32 ∷ decimal width)))) }
 {
     let digits = number.to_string(alloc)?;
     out.extend_from_slice(digits.as_bytes())?;
@@ -61,7 +62,8 @@ fn put_line(
     width: u8,
     operands: &[u64],
 ) -> Result<(), AllocError>
-    ensures { OnOk result (out.new.items ≡ out.old.items ++ line (decimal number) (kind.now ∷ decimal width ∷ map decimal operands.now)) }
+    ensures { OnOk result (out.new.items ≡ out.old.items ++ line (decimal number)
+        (kind.now ∷ decimal width ∷ map decimal operands.now)) }
 {
     put_start(alloc, out, number, kind, width)?;
     put_numbers(alloc, out, operands)?;
@@ -80,7 +82,8 @@ fn put_free(
     side: u8,
     cycle: i16,
 ) -> Result<(), AllocError>
-    ensures { OnOk result (out.new.items ≡ out.old.items ++ line (decimal number) (codes "free" ∷ decimal width ∷ name.now ∷ decimal side ∷ signed_decimal cycle ∷ [])) }
+    ensures { OnOk result (out.new.items ≡ out.old.items ++ line (decimal number)
+        (codes "free" ∷ decimal width ∷ name.now ∷ decimal side ∷ signed_decimal cycle ∷ [])) }
 {
     put_start(alloc, out, number, b"free", width)?;
     put(out, name.bytes())?;
