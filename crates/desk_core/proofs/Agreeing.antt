@@ -20,8 +20,8 @@ use Rattle.unroll_binding.specs.Binding.{Pair}
 use Rattle.desk_core_reports.specs.declared.book.Line.{Line as Told}
 use Rattle.desk_core_reports.specs.declared.book.Verdict.{Verdict}
 use Rattle.desk_core_reports.specs.declared.book.Verdict.TheVariants as v
-use Rattle.desk_core_reports.specs.declared.which.Which.{Which}
-use Rattle.desk_core_reports.specs.declared.which.Which.TheVariants as w
+use Rattle.desk_core_commands.specs.declared.which.Which.{Which}
+use Rattle.desk_core_commands.specs.declared.which.Which.TheVariants as w
 use Rattle.desk_core_reports.specs.Lines.{all_proved, is_proved}
 use Rattle.desk_core_reports.specs.Reports.{last_line, line_text, report_text, verdict_word}
 use Rattle.desk_core_goals.specs.Decided.{AreAsked, IsLineOf, IsOnlyLine, Says}

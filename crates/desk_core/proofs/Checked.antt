@@ -8,7 +8,7 @@ use Rattle.proof_store.specs.Stored.{Told}
 use Rattle.proof_store.specs.declared.fault.StoreFault.{StoreFault}
 use Rattle.desk_core_reports.specs.declared.book.Book.{Book}
 use Rattle.desk_core_reports.specs.declared.report.Report.{Report}
-use Rattle.desk_core_reports.specs.declared.which.Which.TheVariants as w
+use Rattle.desk_core_commands.specs.declared.which.Which.TheVariants as w
 use Rattle.desk_core_faults.specs.declared.fault.CheckFault.{CheckFault}
 use Rattle.desk_core_goals.specs.Settled.{AddsProofsOf, AreSettled}
 use Rattle.desk_core_commands.specs.declared.command.Answer.{Answer}

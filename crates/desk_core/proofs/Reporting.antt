@@ -8,7 +8,7 @@ use Rattle.desk_core_faults.specs.declared.fault.CheckFault.TheVariants as f
 use Rattle.desk_core_stages.specs.Stages.{IsBoundOf, Refuses as StageRefuses}
 use Rattle.desk_core_reports.specs.declared.book.Line.{Line as Told}
 use Rattle.desk_core_reports.specs.declared.report.Report.{Report}
-use Rattle.desk_core_reports.specs.declared.which.Which.{Which}
+use Rattle.desk_core_commands.specs.declared.which.Which.{Which}
 use Rattle.desk_core_goals.specs.Decided.{AreDecided}
 use Rattle.desk_core_goals.specs.Settled.{AddsProofsOf, AreObsOf}
 use Rattle.unroll_laws.proofs.Existing.{bound_modules_run}

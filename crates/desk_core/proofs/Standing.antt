@@ -15,7 +15,7 @@ use Rattle.word_dag.specs.Nodes.{Parts}
 use Rattle.proof_store.specs.Stored.{AddsProofs}
 use Rattle.desk_core_reports.specs.declared.book.Line.{Line}
 use Rattle.desk_core_reports.specs.declared.report.Report.{Report}
-use Rattle.desk_core_reports.specs.declared.which.Which.TheVariants as w
+use Rattle.desk_core_commands.specs.declared.which.Which.TheVariants as w
 use Rattle.desk_core_reports.specs.Lines.{all_proved}
 use Rattle.desk_core_reports.specs.Reports.{last_line, line_text, report_text}
 use Rattle.desk_core_commands.specs.declared.command.Answer.{Answer}

@@ -4,7 +4,7 @@ use Rattle.std.specs.List.{AllZip}
 use Rattle.desk_core_reports.specs.declared.book.Line.{Line as Told}
 use Rattle.desk_core_reports.specs.declared.book.Verdict.TheVariants as v
 use Rattle.desk_core_reports.specs.declared.report.Report.{Report}
-use Rattle.desk_core_reports.specs.declared.which.Which.{Which}
+use Rattle.desk_core_commands.specs.declared.which.Which.{Which}
 use Rattle.desk_core.specs.Checks.{IsReport}
 
 abbrev pub IsUnspent : Told → Type 0

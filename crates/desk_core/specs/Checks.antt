@@ -12,7 +12,7 @@ use Rattle.desk_core_faults.specs.declared.fault.CheckFault.TheVariants as f
 use Rattle.desk_core_stages.specs.Stages.{IsBoundOf, Refuses as StageRefuses}
 use Rattle.desk_core_reports.specs.declared.book.Line.{Line as Told}
 use Rattle.desk_core_reports.specs.declared.report.Report.{Report}
-use Rattle.desk_core_reports.specs.declared.which.Which.{Which}
+use Rattle.desk_core_commands.specs.declared.which.Which.{Which}
 use Rattle.desk_core_reports.specs.Reports.{is_complete, report_text}
 use Rattle.desk_core_goals.specs.declared.fault.LineFault.{LineFault}
 use Rattle.desk_core_goals.specs.declared.fault.LineFault.TheVariants as l

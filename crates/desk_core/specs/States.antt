@@ -6,7 +6,7 @@ use Rattle.outside.specs.declared.rows.Sign.{Sign}
 use Rattle.outside.specs.Tables.{Tables, sign_number}
 use Rattle.desk_core_reports.specs.declared.book.Line.{Line}
 use Rattle.desk_core_reports.specs.declared.report.Report.{Report}
-use Rattle.desk_core_reports.specs.declared.which.Which.TheVariants as w
+use Rattle.desk_core_commands.specs.declared.which.Which.TheVariants as w
 use Rattle.desk_core.specs.Blocks.{traces_from}
 use Rattle.desk_core.specs.Checks.{IsReport}
 use Rattle.desk_core.specs.Steps.{HasTexts}

@@ -11,7 +11,7 @@ use Rattle.desk_core_stages.specs.Texts.{RefusesModules, RefusesSet, SpellsSomeM
 use Rattle.proof_store.specs.Stored.{AddsProofs}
 use Rattle.desk_core_reports.specs.declared.book.Book.{Book}
 use Rattle.desk_core_reports.specs.declared.report.Report.{Report}
-use Rattle.desk_core_reports.specs.declared.which.Which.TheVariants as w
+use Rattle.desk_core_commands.specs.declared.which.Which.TheVariants as w
 use Rattle.desk_core_goals.specs.Settled.{AreSettled}
 use Rattle.desk_core_commands.specs.declared.command.Answer.{Answer}
 use Rattle.desk_core_commands.specs.declared.command.Answer.TheVariants as a

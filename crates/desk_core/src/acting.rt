@@ -11,8 +11,7 @@ use crate::blocks::{put_module, put_set, refused_by, report_of_block, trace_of_b
 use crate::checker::Checker;
 use crate::listing::{list_blocks, list_signs};
 use crate::signing::sign_off;
-use desk_core_commands::{Answer, Command, DeskFault};
-use desk_core_reports::Which;
+use desk_core_commands::{Answer, Command, DeskFault, Which};
 use helper_box::Helper;
 use outside::{Block, Gate, Keeper};
 use proof_store::StoreFault;

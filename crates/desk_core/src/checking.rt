@@ -8,9 +8,10 @@ ghost use Rattle.desk_core.specs.Checkers.{IsSame};
 ghost use Rattle.desk_core.specs.Checks.{AreObsOfTexts, IsReport, IsReportOf, Refuses, RefusesAsked, check_fault_of};
 
 use crate::checker::Checker;
+use desk_core_commands::Which;
 use desk_core_faults::CheckFault;
 use desk_core_goals::{LineFault, decide_lines};
-use desk_core_reports::{Book, Report, Which, report_of};
+use desk_core_reports::{Book, Report, report_of};
 use desk_core_stages::bound_of;
 use helper_box::Helper;
 use outside::{Gate, Keeper};

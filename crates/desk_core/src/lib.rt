@@ -13,6 +13,7 @@ mod signing;
 
 pub use checker::Checker;
 pub use checking::check_fault_of;
-pub use desk_core_reports::{Book, Line, Report, Verdict, Which};
+pub use desk_core_commands::Which;
+pub use desk_core_reports::{Book, Line, Report, Verdict};
 pub use law::{commands_repeat, empty_tables_are_a_desk, reports_agree, sign_offs_mean};
 pub use proof_store::{Prover, Settings};

@@ -14,7 +14,7 @@ use Rattle.word_dag.specs.declared.ob.Named.{Named}
 use Rattle.twin_tests_laws.specs.Names.{line_name}
 use Rattle.unroll_binding.specs.Binding.{Pair}
 use Rattle.proof_store.specs.declared.goal.Goal.{Goal}
-use Rattle.desk_core_reports.specs.declared.which.Which.{Which}
+use Rattle.desk_core_commands.specs.declared.which.Which.{Which}
 use Rattle.desk_core_goals.specs.Obligations.{IsObOf, all_lines, line_at}
 use Rattle.desk_core_goals.specs.Asked.{AsksOne, IsGoalNamed, IsGoalOf, LacksLine, LacksName, has_name}
 use Rattle.desk_core_goals.specs.declared.fault.LineFault.{LineFault}

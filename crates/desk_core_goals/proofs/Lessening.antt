@@ -18,8 +18,8 @@ use Rattle.unroll_binding.specs.Binding.{Pair}
 use Rattle.least_trace.specs.declared.ends.LeastEnd.{LeastEnd}
 use Rattle.desk_core_reports.specs.declared.book.Book.{Book}
 use Rattle.desk_core_reports.specs.declared.book.Line.{Line as Entered}
-use Rattle.desk_core_reports.specs.declared.which.Which.{Which}
-use Rattle.desk_core_reports.specs.declared.which.Which.TheVariants as w
+use Rattle.desk_core_commands.specs.declared.which.Which.{Which}
+use Rattle.desk_core_commands.specs.declared.which.Which.TheVariants as w
 use Rattle.desk_core_goals.specs.Asked.{line_of}
 use Rattle.desk_core_goals.specs.Decided.{AreAsked, IsOnlyLine, Tells}
 use Rattle.desk_core_goals.specs.Least.{HasLeast, IsLeastOf, IsReplaced, Lessens}

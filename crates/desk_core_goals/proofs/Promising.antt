@@ -18,8 +18,8 @@ use Rattle.unroll_laws.proofs.Promised.{design_lines_hold, reports_sign_off}
 use Rattle.desk_core_reports.specs.declared.book.Line.{Line as Told}
 use Rattle.desk_core_reports.specs.declared.book.Verdict.{Verdict}
 use Rattle.desk_core_reports.specs.declared.book.Verdict.TheVariants as v
-use Rattle.desk_core_reports.specs.declared.which.Which.{Which}
-use Rattle.desk_core_reports.specs.declared.which.Which.TheVariants as w
+use Rattle.desk_core_commands.specs.declared.which.Which.{Which}
+use Rattle.desk_core_commands.specs.declared.which.Which.TheVariants as w
 use Rattle.desk_core_reports.specs.Lines.{all_proved, is_proved}
 use Rattle.desk_core_reports.specs.Reports.{is_complete}
 use Rattle.desk_core_goals.specs.Obligations.{IsBroken}

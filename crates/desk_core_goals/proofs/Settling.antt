@@ -16,7 +16,7 @@ use Rattle.proof_store.specs.declared.goal.Goal.{Goal}
 use Rattle.proof_store.proofs.Placed.{same_obs}
 use Rattle.desk_core_reports.specs.declared.book.Book.{Book}
 use Rattle.desk_core_reports.specs.declared.book.Line.{Line as Entered}
-use Rattle.desk_core_reports.specs.declared.which.Which.{Which}
+use Rattle.desk_core_commands.specs.declared.which.Which.{Which}
 use Rattle.desk_core_goals.specs.Asked.{Asks}
 use Rattle.desk_core_goals.specs.Settled.{AddsProofsOf, AreObsOf, AreSettled, ended_of, line_ob}
 use Rattle.desk_core_goals.proofs.LinesTold.{length_zipped}

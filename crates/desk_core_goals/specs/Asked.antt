@@ -10,8 +10,8 @@ use Rattle.unroll_binding.specs.Binding.{Pair}
 use Rattle.job_pool.specs.Shown.{IsShown}
 use Rattle.proof_store.specs.declared.goal.Decided.{Decided}
 use Rattle.proof_store.specs.declared.goal.Goal.{Goal}
-use Rattle.desk_core_reports.specs.declared.which.Which.{Which}
-use Rattle.desk_core_reports.specs.declared.which.Which.TheVariants as w
+use Rattle.desk_core_commands.specs.declared.which.Which.{Which}
+use Rattle.desk_core_commands.specs.declared.which.Which.TheVariants as w
 use Rattle.desk_core_goals.specs.Obligations.{IsObOf}
 use Rattle.desk_core_goals.specs.declared.fault.LineFault.{LineFault}
 use Rattle.desk_core_goals.specs.declared.fault.LineFault.TheVariants as f

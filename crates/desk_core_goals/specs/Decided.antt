@@ -15,8 +15,8 @@ use Rattle.proof_store.specs.declared.goal.Decided.{Decided}
 use Rattle.desk_core_reports.specs.declared.book.Line.{Line as Told}
 use Rattle.desk_core_reports.specs.declared.book.Verdict.{Verdict}
 use Rattle.desk_core_reports.specs.declared.book.Verdict.TheVariants as v
-use Rattle.desk_core_reports.specs.declared.which.Which.{Which}
-use Rattle.desk_core_reports.specs.declared.which.Which.TheVariants as w
+use Rattle.desk_core_commands.specs.declared.which.Which.{Which}
+use Rattle.desk_core_commands.specs.declared.which.Which.TheVariants as w
 use Rattle.desk_core_reports.specs.Lines.{verdict_of}
 use Rattle.desk_core_goals.specs.Obligations.{IsBroken, IsObOf, all_lines}
 use Rattle.desk_core_goals.specs.Traces.{IsTraceOf, ShowsModules, is_on_design}

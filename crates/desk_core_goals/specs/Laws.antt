@@ -12,7 +12,7 @@ use Rattle.elab_step_design.specs.Designs.{HasRunsOf}
 use Rattle.unroll_binding.specs.Binding.{Pair}
 use Rattle.unroll_laws.specs.Promises.{HoldsInRuns, SignsOff}
 use Rattle.desk_core_reports.specs.declared.book.Line.{Line as Told}
-use Rattle.desk_core_reports.specs.declared.which.Which.{Which}
+use Rattle.desk_core_commands.specs.declared.which.Which.{Which}
 use Rattle.desk_core_reports.specs.Reports.{is_complete}
 use Rattle.desk_core_goals.specs.Decided.{AreAsked, IsDecidedOn, IsLineOf, ProvesDesignLines}
 

@@ -14,8 +14,8 @@ use Rattle.least_trace.specs.Least.{IsFoundEnd, IsLeastEnd}
 use Rattle.proof_store.specs.declared.goal.Decided.{Decided}
 use Rattle.desk_core_reports.specs.declared.book.Book.{Book}
 use Rattle.desk_core_reports.specs.declared.book.Line.{Line as Told}
-use Rattle.desk_core_reports.specs.declared.which.Which.{Which}
-use Rattle.desk_core_reports.specs.declared.which.Which.TheVariants as w
+use Rattle.desk_core_commands.specs.declared.which.Which.{Which}
+use Rattle.desk_core_commands.specs.declared.which.Which.TheVariants as w
 
 -- the values that a search for the least ones ended with
 abbrev pub values_of : LeastEnd → List ℕ

@@ -11,7 +11,7 @@ use Rattle.proof_store.specs.declared.goal.Goal.{Goal}
 use Rattle.proof_store.specs.Stored.{AddsProofs, StoresNew, Told}
 use Rattle.desk_core_reports.specs.declared.book.Book.{Book}
 use Rattle.desk_core_reports.specs.declared.book.Line.{Line as Entered}
-use Rattle.desk_core_reports.specs.declared.which.Which.{Which}
+use Rattle.desk_core_commands.specs.declared.which.Which.{Which}
 use Rattle.proof_store.specs.declared.fault.StoreFault.{StoreFault}
 use Rattle.proof_store.specs.declared.fault.StoreFault.TheVariants as s
 use Rattle.desk_core_goals.specs.declared.fault.LineFault.{LineFault}

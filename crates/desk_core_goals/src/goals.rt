@@ -9,7 +9,7 @@ ghost use Rattle.desk_core_goals.specs.Asked.{AreGoalsOf, Asks, AsksOne, IsGoalN
 
 use crate::fault::LineFault;
 use crate::{ob_of_line, obs_of_all, obs_of_design};
-use desk_core_reports::Which;
+use desk_core_commands::Which;
 use outside::Text;
 use proof_store::Goal;
 use set_tree::{Line, Set};

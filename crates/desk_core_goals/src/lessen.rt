@@ -4,7 +4,7 @@ ghost use Rattle.std.specs.List.{All, AllZip};
 ghost use Rattle.job_pool.specs.Shown.{IsShown};
 ghost use Rattle.desk_core_goals.specs.Least.{IsLeastOf, IsLessened, IsReplaced, Lessens, asks_least, values_of};
 
-use desk_core_reports::Which;
+use desk_core_commands::Which;
 use job_pool::Evidence;
 use least_trace::{LeastEnd, least};
 use proof_store::Decided;

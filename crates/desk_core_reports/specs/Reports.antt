@@ -4,8 +4,8 @@ use Rattle.std.specs.List.{flat_map}
 use Rattle.desk_core_reports.specs.declared.book.Line.{Line}
 use Rattle.desk_core_reports.specs.declared.book.Verdict.{Verdict}
 use Rattle.desk_core_reports.specs.declared.book.Verdict.TheVariants as v
-use Rattle.desk_core_reports.specs.declared.which.Which.{Which}
-use Rattle.desk_core_reports.specs.declared.which.Which.TheVariants as w
+use Rattle.desk_core_commands.specs.declared.which.Which.{Which}
+use Rattle.desk_core_commands.specs.declared.which.Which.TheVariants as w
 use Rattle.desk_core_reports.specs.Lines.{all_proved}
 
 abbrev pub verdict_word : Verdict → List ℕ

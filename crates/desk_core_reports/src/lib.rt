@@ -3,8 +3,6 @@
 
 mod book;
 mod report;
-mod which;
 
 pub use book::{Book, Line, Verdict, verdict_of};
 pub use report::{Report, all_proved, report_of};
-pub use which::Which;

@@ -1,9 +1,10 @@
 // What standard error says of a refusal, and of a counterexample. The status and what went to standard output stand
 // before, and don't depend on it.
 use crate::files::read_again;
+use desk_core_commands::Which;
 use desk_core_faults::CheckFault;
 use desk_core_goals::all_lines;
-use desk_core_reports::{Book, Which};
+use desk_core_reports::Book;
 use desk_core_stages::bound_of;
 use outside::Text;
 use replay::Shown;

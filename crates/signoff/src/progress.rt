@@ -1,7 +1,7 @@
 // What standard error is to say while lines are decided, and at the end.
 use crate::files::read_again;
+use desk_core_commands::Which;
 use desk_core_goals::all_lines;
-use desk_core_reports::Which;
 use desk_core_stages::bound_of;
 use set_tree::Line;
 use signoff_objects::Told;

@@ -26,8 +26,8 @@ use Rattle.desk_core_faults.specs.Texts.{fault_line, status_of}
 use Rattle.desk_core_reports.specs.declared.book.Book.{Book}
 use Rattle.desk_core_reports.specs.declared.book.Verdict.{Verdict}
 use Rattle.desk_core_reports.specs.declared.report.Report.{Report}
-use Rattle.desk_core_reports.specs.declared.which.Which.{Which}
-use Rattle.desk_core_reports.specs.declared.which.Which.TheVariants as w
+use Rattle.desk_core_commands.specs.declared.which.Which.{Which}
+use Rattle.desk_core_commands.specs.declared.which.Which.TheVariants as w
 use Rattle.desk_core_goals.specs.Settled.{AddsProofsOf}
 use Rattle.desk_core_reports.specs.Lines.{is_proved}
 use Rattle.desk_core.specs.Checks.{AreObsOfTexts, IsReport, Refuses}

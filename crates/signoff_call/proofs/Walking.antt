@@ -41,8 +41,8 @@ use Rattle.desk_core_goals.specs.declared.keep_fault.KeepFault.TheVariants as k
 use Rattle.desk_core_goals.specs.Keeping.{IsClausesText, IsProvedGoal, KeepsProof, RefusesProof}
 use Rattle.desk_core_reports.specs.declared.book.Book.{Book}
 use Rattle.desk_core_reports.specs.declared.report.Report.{Report}
-use Rattle.desk_core_reports.specs.declared.which.Which.{Which}
-use Rattle.desk_core_reports.specs.declared.which.Which.TheVariants as w
+use Rattle.desk_core_commands.specs.declared.which.Which.{Which}
+use Rattle.desk_core_commands.specs.declared.which.Which.TheVariants as w
 use Rattle.desk_core_goals.specs.Decided.{AreDecided}
 use Rattle.desk_core_goals.specs.Least.{HasLeast}
 use Rattle.desk_core_goals.specs.Settled.{AddsProofsOf, AreObsOf, AreSettled}

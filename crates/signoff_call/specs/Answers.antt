@@ -12,8 +12,8 @@ use Rattle.desk_core_reports.specs.declared.book.Line.{Line}
 use Rattle.desk_core_reports.specs.declared.book.Verdict.{Verdict}
 use Rattle.desk_core_reports.specs.declared.book.Verdict.TheVariants as v
 use Rattle.desk_core_reports.specs.declared.report.Report.{Report}
-use Rattle.desk_core_reports.specs.declared.which.Which.{Which}
-use Rattle.desk_core_reports.specs.declared.which.Which.TheVariants as w
+use Rattle.desk_core_commands.specs.declared.which.Which.{Which}
+use Rattle.desk_core_commands.specs.declared.which.Which.TheVariants as w
 use Rattle.desk_core_reports.specs.Lines.{is_proved}
 use Rattle.desk_core_reports.specs.Reports.{last_line}
 use Rattle.signoff_call.specs.declared.answer.Answer.{Answer}

@@ -30,8 +30,8 @@ use Rattle.proof_store.specs.Provers.{asked_by, kept_by}
 use Rattle.desk_core_reports.specs.declared.book.Book.{Book}
 use Rattle.desk_core_reports.specs.declared.book.Line.{Line as Told}
 use Rattle.desk_core_reports.specs.declared.report.Report.{Report}
-use Rattle.desk_core_reports.specs.declared.which.Which.{Which}
-use Rattle.desk_core_reports.specs.declared.which.Which.TheVariants as w
+use Rattle.desk_core_commands.specs.declared.which.Which.{Which}
+use Rattle.desk_core_commands.specs.declared.which.Which.TheVariants as w
 use Rattle.desk_core_goals.specs.Least.{HasLeast}
 use Rattle.desk_core_goals.specs.Settled.{AddsProofsOf, AreSettled}
 use Rattle.desk_core.specs.declared.checker.Checker.{Checker}

@@ -7,7 +7,7 @@ ghost use Rattle.clause_check_texts.specs.Faults.{fault_text as proof_fault_text
 ghost use Rattle.desk_core_goals.specs.declared.keep_fault.KeepFault.{KeepFault as Faults};
 ghost use Rattle.desk_core_goals.specs.declared.keep_fault.KeepFault.TheVariants as k;
 ghost use Rattle.proof_store.specs.Provers.{kept_by};
-ghost use Rattle.desk_core_reports.specs.declared.which.Which.TheVariants as w;
+ghost use Rattle.desk_core_commands.specs.declared.which.Which.TheVariants as w;
 ghost use Rattle.signoff_call.specs.Answers.{refusal};
 ghost use Rattle.signoff_call.specs.Bound.{AcceptsBound, AddsTwiceTo, IsRefusalOf, SaysBound};
 ghost use Rattle.signoff_call.specs.Run.{HasSame};
@@ -16,9 +16,9 @@ ghost use Rattle.signoff_call.specs.Tasks.{AddsTwice, AnswersAccept, Reports, st
 use crate::answer::{Answer, refusal, reported, turned_down};
 use clause_check_texts::{ProofFault, fault_text};
 use desk_core::Checker;
+use desk_core_commands::Which;
 use desk_core_faults::CheckFault;
 use desk_core_goals::{KeepFault, keep_proof};
-use desk_core_reports::Which;
 use desk_core_stages::bound_of;
 use helper_box::Helper;
 use outside::{Gate, Keeper, Text};

@@ -7,7 +7,7 @@ ghost use Rattle.desk_core_goals.specs.Settled.{AddsProofsOf, AreObsOf};
 ghost use Rattle.desk_core.specs.Checks.{AreObsOfTexts};
 ghost use Rattle.path_machine.specs.Texts.{fault_text};
 ghost use Rattle.proof_store.specs.Provers.{kept_by};
-ghost use Rattle.desk_core_reports.specs.declared.which.Which.TheVariants as w;
+ghost use Rattle.desk_core_commands.specs.declared.which.Which.TheVariants as w;
 ghost use Rattle.signoff_call.specs.Answers.{refusal};
 ghost use Rattle.signoff_call.specs.Bound.{SaysBound, SaysMachine, SaysPath, WalksBound};
 ghost use Rattle.signoff_call.specs.Run.{HasSame};
@@ -15,7 +15,8 @@ ghost use Rattle.signoff_call.specs.Tasks.{AnswersMachine, AnswersWalk, machine_
 
 use crate::answer::{Answer, done, refusal, reported, turned_down};
 use desk_core::Checker;
-use desk_core_reports::{Report, Which};
+use desk_core_commands::Which;
+use desk_core_reports::Report;
 use desk_core_stages::bound_of;
 use helper_box::Helper;
 use outside::{Gate, Keeper, Text};

@@ -12,7 +12,7 @@ ghost use Rattle.proof_store.specs.Provers.{kept_by};
 ghost use Rattle.desk_core.specs.Checks.{AreObsOfTexts};
 ghost use Rattle.meet_lines.specs.Meetings.{AreObsOfTexts as AreMeetObsOfTexts};
 ghost use Rattle.demo_gen.specs.Texts.{module_text, set_text};
-ghost use Rattle.desk_core_reports.specs.declared.which.Which.TheVariants as w;
+ghost use Rattle.desk_core_commands.specs.declared.which.Which.TheVariants as w;
 
 use crate::accepting::accepted_in;
 use crate::answer::{Answer, met, reported, turned_down};
@@ -22,7 +22,8 @@ use crate::paths::{machine_of, walk_of};
 use crate::waves::wave_of_texts;
 use demo_gen::{module_text, set_text};
 use desk_core::Checker;
-use desk_core_reports::{Book, Line, Report, Verdict, Which};
+use desk_core_commands::Which;
+use desk_core_reports::{Book, Line, Report, Verdict};
 use helper_box::Helper;
 use least_trace::LeastEnd;
 use meet_lines::meet;

@@ -4,7 +4,7 @@ ghost use Rattle.outside.specs.Faults.{Rose};
 ghost use Rattle.desk_core_goals.specs.Settled.{AddsProofsOf, AreObsOf};
 ghost use Rattle.desk_core.specs.Checks.{AreObsOfTexts};
 ghost use Rattle.proof_store.specs.Provers.{kept_by};
-ghost use Rattle.desk_core_reports.specs.declared.which.Which.TheVariants as w;
+ghost use Rattle.desk_core_commands.specs.declared.which.Which.TheVariants as w;
 ghost use Rattle.signoff_call.specs.Bound.{SaysBound, SaysWave};
 ghost use Rattle.signoff_call.specs.Run.{HasSame};
 ghost use Rattle.signoff_call.specs.Tasks.{AnswersWave, stores_between};
@@ -12,7 +12,8 @@ ghost use Rattle.signoff_call.specs.Waves.{first_waved};
 
 use crate::answer::{Answer, reported, turned_down};
 use desk_core::Checker;
-use desk_core_reports::{Line, Which};
+use desk_core_commands::Which;
+use desk_core_reports::Line;
 use desk_core_stages::bound_of;
 use helper_box::Helper;
 use outside::{Gate, Keeper, Text};

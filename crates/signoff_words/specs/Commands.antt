@@ -6,7 +6,7 @@ use Rattle.signoff_words.specs.declared.action.Action.{Action}
 use Rattle.signoff_words.specs.declared.action.Action.TheVariants.{Texts, Demo, Serve, Migrate}
 use Rattle.signoff_words.specs.declared.action.Verb.{Verb}
 use Rattle.signoff_words.specs.declared.action.Verb.TheVariants.{Ops, Check, Trace, Least, Wave, Meet, Machine, Walk, Lines, Clauses, Accept}
-use Rattle.desk_core_reports.specs.declared.which.Which.TheVariants as w
+use Rattle.desk_core_commands.specs.declared.which.Which.TheVariants as w
 use Rattle.signoff_words.specs.declared.action.Command.{Command}
 use Rattle.signoff_words.specs.declared.action.Command.TheVariants as c
 use Rattle.signoff_words.specs.declared.action.Form.{Form}

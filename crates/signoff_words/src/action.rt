@@ -1,5 +1,5 @@
 // Commands.
-use desk_core_reports::Which;
+use desk_core_commands::Which;
 use outside::Text;
 
 /// What is done with two texts.

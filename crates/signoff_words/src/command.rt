@@ -7,7 +7,7 @@ use crate::action::{Acceptance, Action, Command, Form, Job, Service, Task, Verb,
 use crate::choices::choices_in;
 use crate::chosen::Chosen;
 use crate::number::number_within;
-use desk_core_reports::Which;
+use desk_core_commands::Which;
 use outside::Text;
 use std::alloc::{AllocError, Global};
 

@@ -1,4 +1,4 @@
-use Rattle.desk_core_reports.specs.declared.which.Which.TheVariants as w
+use Rattle.desk_core_commands.specs.declared.which.Which.TheVariants as w
 use Rattle.desk_core.specs.Checks.{Refuses}
 use Rattle.desk_core.proofs.Reporting.{stage_refuses}
 use Rattle.signoff_call.proofs.Answering.{adds_none, turned_answered}

@@ -1,6 +1,6 @@
 use Rattle.std.proofs.Common.{◌∙◌, ap}
 use Rattle.set_tree.specs.declared.set.Set.{Set}
-use Rattle.desk_core_reports.specs.declared.which.Which.TheVariants as w
+use Rattle.desk_core_commands.specs.declared.which.Which.TheVariants as w
 use Rattle.signoff_call.specs.Tasks.{machine_shown}
 use Rattle.signoff_call.specs.Bound.{SaysMachine}
 use Rattle.signoff_call.proofs.Walking.{says_machine, says_report}

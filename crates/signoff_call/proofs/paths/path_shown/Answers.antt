@@ -3,7 +3,7 @@ use Rattle.set_tree.specs.declared.set.Set.{Set}
 use Rattle.set_tree.specs.Formulas.{meaning_of}
 use Rattle.set_tree.specs.Paths.{IsPath}
 use Rattle.path_machine.specs.Texts.{path_text}
-use Rattle.desk_core_reports.specs.declared.which.Which.TheVariants as w
+use Rattle.desk_core_commands.specs.declared.which.Which.TheVariants as w
 use Rattle.signoff_call.specs.Bound.{SaysPath}
 use Rattle.signoff_call.specs.Tasks.{signed_text}
 use Rattle.signoff_call.proofs.Walking.{says_path, says_report}

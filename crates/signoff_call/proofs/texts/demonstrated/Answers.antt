@@ -2,7 +2,7 @@ use Rattle.std.proofs.Common.{◌≡◌, refl, ℕ, List, ap, ◌∙◌, subst, 
 use Rattle.demo_gen.specs.Texts.{module_text, set_text}
 use Rattle.desk_core_faults.specs.declared.fault.CheckFault.{CheckFault}
 use Rattle.desk_core_reports.specs.declared.book.Verdict.{Verdict}
-use Rattle.desk_core_reports.specs.declared.which.Which.TheVariants as w
+use Rattle.desk_core_commands.specs.declared.which.Which.TheVariants as w
 use Rattle.desk_core_goals.specs.Settled.{AddsProofsOf}
 use Rattle.desk_core.specs.Checks.{AreObsOfTexts, IsReport, Refuses}
 use Rattle.signoff_call.specs.Answers.{reported}
