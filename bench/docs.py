@@ -11,7 +11,7 @@ new folder, which has the examples and bin/signoff, one document after another. 
     ``` file=NAME behind="TEXT"     the block is inserted in NAME, behind the first line that has TEXT
     ``` shows=NAME                  the block is what the file NAME has
 
-It ends with status 1 where something differs, also an example and its copy in crates/signoff_runs/data.
+It ends with status 1 where something differs, also an example and its copy in crates/test_runs/data.
 """
 import difflib
 import filecmp
@@ -101,7 +101,7 @@ def true_document(lines, folder):
 
 def differing_copies():
     """The examples of which the program that plays the scripts has another copy."""
-    copies = f"{TOP}/crates/signoff_runs/data"
+    copies = f"{TOP}/crates/test_runs/data"
     names = set(os.listdir(f"{TOP}/examples")) & set(os.listdir(copies))
     return sorted(filecmp.cmpfiles(f"{TOP}/examples", copies, names, shallow=False)[1])
 
@@ -127,7 +127,7 @@ def main(words):
             with open(f"{TOP}/{name}", "w", encoding="utf-8") as it:
                 it.write("\n".join(true))
     for name in differing_copies():
-        print(f"examples/{name} and crates/signoff_runs/data/{name} differ")
+        print(f"examples/{name} and crates/test_runs/data/{name} differ")
         differ += 1
     sys.exit(1 if differ and not write else 0)
 

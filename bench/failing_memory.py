@@ -18,12 +18,12 @@ refused where it ended with an error that tells want of memory, or an assertion 
 another answer than with ample memory: a reply 507, say. All else, as a fault or a hang, is 'other'. Both are told below the table. Which tests make which
 calls:
 
-    read_modules                  verilog_rows:modules
-    read_set                      property_rows:sets, property_rows:lines, property_rows:windows
-    read_steps                    deciding_rows:records
-    settle                        deciding_rows:settling
+    read_modules                  test_verilog:modules
+    read_set                      test_sets:sets, test_sets:lines, test_sets:windows
+    read_steps                    test_deciding:records
+    settle                        test_deciding:settling
     check                         none: `program` runs it
-    act, serve_one                none but desk_rows:connections, which has those of the connection below them; `desk` runs both
+    act, serve_one                none but test_desk:connections, which has those of the connection below them; `desk` runs both
 """
 import argparse
 import collections
@@ -36,8 +36,8 @@ import tempfile
 import time
 
 TOP = os.path.dirname(os.path.dirname(os.path.abspath(__file__)))
-CRATES = ["verilog_rows", "property_rows", "deciding_rows", "signoff_rows", "desk_rows"]
-CALLS = ["verilog_rows:modules", "property_rows:sets", "deciding_rows:records", "deciding_rows:settling", "desk_rows:connections"]
+CRATES = ["test_verilog", "test_sets", "test_deciding", "test_signoff", "test_desk"]
+CALLS = ["test_verilog:modules", "test_sets:sets", "test_deciding:records", "test_deciding:settling", "test_desk:connections"]
 OUTCOME = re.compile(r"^test (\S+) \.\.\. (ok|FAILED)$")
 READS = [("GET", it, b"") for it in ("/blocks", "/blocks/b/report", "/signoffs")]
 HOWS = ("refused", "passed", "another answer", "other")

@@ -1,7 +1,7 @@
 #!/usr/bin/env python3
 """The desk's page: puts its files into the program, and goes through it in a browser.
 
-page.py carry [--check]                  writes crates/http_reply/src/page_files.rt, whose constants are the files of crates/http_reply/page;
+page.py carry [--check]                  writes crates/desk_http_reply/src/page_files.rt, whose constants are the files of crates/desk_http_reply/page;
                                          with --check it only looks whether they agree
 page.py visit FOLDER [--program FILE]    serves a new desk, goes through it with headless Chromium (DevTools protocol over a pipe), and leaves
                                          pictures in the folder; --program takes another build than that of bin/signoff
@@ -20,7 +20,7 @@ import tempfile
 import time
 
 TOP = os.path.dirname(os.path.dirname(os.path.abspath(__file__)))
-CRATE = f"{TOP}/crates/http_reply"
+CRATE = f"{TOP}/crates/desk_http_reply"
 FILES = {"PAGE_HTML": "page.html", "PAGE_CSS": "page.css", "PAGE_JS": "page.js"}
 PATIENCE = 120
 
