@@ -12,8 +12,7 @@ M is a file of Verilog modules, S a file with a set of operation properties.
   wave M S LINE       decide one line, and put its counterexample as a waveform
   lines M S           put the names of the report's lines
   meet M S [NAME]     say whether anything meets reset and each operation
-  machine M S         put the operations of a signed-off set as a machine, or
-                      with --dot as a graph in Graphviz's language
+  machine M S         put the operations of a signed-off set as a machine
   walk M S ROWS       put the path of operations of a run, by its rows of inputs
   clauses M S LINE    put the clauses of a line for other solvers, in DIMACS
   accept M S LINE PROOF --store FILE
@@ -28,9 +27,11 @@ Options, anywhere behind the command, as --budget 5 or --budget=5:
   --workers W         lines decided side by side, 1 to 64 (4)
   --store FILE        file in which proofs are kept for the next check (none)
   --progress          tell on standard error how the work goes
+  --dot               machine: put it as a graph in Graphviz's language
   --timeout S         serve: seconds for a request and a reply, 1 to 3,600 (10)
   --replied           serve: count connections that got a reply alone
-lines, clauses, demo and migrate take no option, accept takes --store alone.
+lines, clauses, demo and migrate take no option, accept takes --store alone,
+and serve no --store. bin/signoff --memory MB COMMAND .. bounds the memory.
 
 Status:
    0  all is proved, or met, or served      1  a line is refuted, or unmet
@@ -43,7 +44,7 @@ Status:
 ";
 
 const VERSION: &[u8] =
-    b"signoff, an interval property checker for Verilog blocks; `signoff --help` says how it is called
+    b"signoff 1.0.0, an interval property checker for Verilog blocks; `signoff --help` says how it is called
 ";
 
 /// What the program is.
