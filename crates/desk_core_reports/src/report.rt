@@ -5,7 +5,7 @@ ghost use Rattle.desk_core_reports.specs.Lines.{all_proved, is_proved};
 ghost use Rattle.desk_core_reports.specs.Reports.{is_all, is_complete, last_line, line_text, report_text, verdict_word};
 
 use crate::book::{Line, Verdict};
-use crate::which::Which;
+use desk_core_commands::Which;
 use outside::Text;
 use std::alloc::{AllocError, Global};
 
