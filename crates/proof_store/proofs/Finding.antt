@@ -11,21 +11,21 @@ use Rattle.clause_check.specs.declared.formula.Step.{Step}
 use Rattle.job_pool.specs.declared.evidence.Evidence.{Evidence}
 use Rattle.proof_store.specs.Counts.{FirstRose}
 use Rattle.proof_store.specs.Helping.{Helps, ShowsEver}
-use Rattle.proof_store.specs.Lookups.{IsChecked, IsLookedUp, lacks_proof}
+use Rattle.proof_store.specs.Lookups.{Checked, IsChecked, IsLookedUp, lacks_proof}
 use Rattle.proof_store.specs.Places.{Finds, FindsOf, IsPlaced, asked_about, asked_for, found_each, found_of, open_of, opened, place_of, places_of}
-use Rattle.proof_store.specs.declared.checking.Checked.{Checked}
 use Rattle.proof_store.specs.declared.goal.Goal.{Goal}
 use Rattle.proof_store.specs.declared.placing.Found.{Found}
 use Rattle.proof_store.specs.declared.placing.Place.{Place}
 use Rattle.proof_store.specs.declared.placing.Place.TheVariants.{Done, Open}
+use Rattle.proof_store.proofs.Proving.{none_kept}
 
 -- ---- what is found of an obligation
 one_found : (tables : Option Tables) (ob : Parts) (kept : Option (Vec Step Global)) (helped : Option Evidence) → IsLookedUp tables ob kept → ShowsEver ob helped → Finds tables ob (found_of kept helped)
-one_found tables ob None None looked shown = record { shown = tt; kept = looked.kept; unsolved = tt }
-one_found tables ob None (Some evidence) looked shown = record { shown = shown; kept = looked.kept; unsolved = λ same. absurd (cc) }
-one_found tables ob (Some steps) helped looked shown = record { shown = looked.shown; kept = looked.kept; unsolved = λ same. absurd (cc) }
+one_found tables ob None None looked shown = record { shown = tt; kept = looked.kept; recorded = tt; unsolved = tt }
+one_found tables ob None (Some evidence) looked shown = record { shown = shown; kept = looked.kept; recorded = none_kept tables ob evidence looked.kept; unsolved = λ same. absurd (cc) }
+one_found tables ob (Some steps) helped looked shown = record { shown = looked.shown; kept = looked.kept; recorded = looked.recorded; unsolved = λ same. absurd (cc) }
 
-one_asked : (kept : Option (Vec Step Global)) (helped : Option Evidence) (checked : Checked) → checked.kept ≡ kept → asked_about (found_of kept helped) ≡ cond (lacks_proof checked) 1 0
+one_asked : (kept : Option (Vec Step Global)) (helped : Option Evidence) (checked : Checked) → checked.known ≡ kept → asked_about (found_of kept helped) ≡ cond (lacks_proof checked) 1 0
 one_asked None None checked is = sym (ap (λ (k : Option (Vec Step Global)). cond (is_none k) 1 0) is)
 one_asked None (Some evidence) checked is = sym (ap (λ (k : Option (Vec Step Global)). cond (is_none k) 1 0) is)
 one_asked (Some steps) helped checked is = sym (ap (λ (k : Option (Vec Step Global)). cond (is_none k) 1 0) is)
@@ -36,7 +36,7 @@ asked_each [] (h ∷ hs) helps = absurd helps
 asked_each (o ∷ os) [] helps = absurd helps
 asked_each (o ∷ os) (h ∷ hs) helps =
     sum_by-cons (λ (c : Checked). cond (lacks_proof c) 1 0) o os
-    ∙ (ap₂ (λ (a : ℕ) (b : ℕ). a + b) (sym (one_asked o.kept h o refl)) (asked_each os hs helps.1) ∙ sym (sum_by-cons asked_about (found_of o.kept h) (found_each os hs)))
+    ∙ (ap₂ (λ (a : ℕ) (b : ℕ). a + b) (sym (one_asked o.known h o refl)) (asked_each os hs helps.1) ∙ sym (sum_by-cons asked_about (found_of o.known h) (found_each os hs)))
 
 -- as often as helpers were asked, so many obligations are not kept
 pub found_rose : (obs slice : List Checked) (helped : List (Option Evidence)) (found : List (Option Found)) (xs ys zs : List ℕ) → slice ≡ obs → AllZip Helps slice helped → found ≡ found_each obs helped → ys ≡ xs
@@ -47,10 +47,10 @@ found_rose obs slice helped found xs ys zs slice_is helps found_is same rose =
 
 -- ---- one obligation after another
 pub found_more : (found more : List (Option Found)) (obs left : List Checked) (helped rest : List (Option Evidence)) (one : Checked) (evidence : Option Evidence) (f : Option Found) (all : List (Option Found)) → found ++ found_each obs helped ≡ all
-    → obs ≡ one ∷ left → helped ≡ evidence ∷ rest → f ≡ found_of one.kept evidence → more ≡ found ++ f ∷ [] → more ++ found_each left rest ≡ all
+    → obs ≡ one ∷ left → helped ≡ evidence ∷ rest → f ≡ found_of one.known evidence → more ≡ found ++ f ∷ [] → more ++ found_each left rest ≡ all
 found_more found more obs left helped rest one evidence f all are obs_is helped_is found_is pushed =
     ap (λ (fs : List (Option Found)). fs ++ found_each left rest) (pushed ∙ ap (λ (x : Option Found). found ++ x ∷ []) found_is)
-    ∙ (append_assoc found (found_of one.kept evidence ∷ []) (found_each left rest) ∙ (ap₂ (λ (os : List Checked) (hs : List (Option Evidence)). found ++ found_each os hs) (sym obs_is) (sym helped_is) ∙ are))
+    ∙ (append_assoc found (found_of one.known evidence ∷ []) (found_each left rest) ∙ (ap₂ (λ (os : List Checked) (hs : List (Option Evidence)). found ++ found_each os hs) (sym obs_is) (sym helped_is) ∙ are))
 
 none_left : (obs : List Checked) (helped : List (Option Evidence)) → (length obs ≡ 0) ⊎ (length helped ≡ 0) → found_each obs helped ≡ []
 none_left [] helped over = refl
@@ -67,7 +67,7 @@ module _ {L : Type 0} where
   finds_each tables (g ∷ gs) [] helped checked helps = absurd checked
   finds_each tables (g ∷ gs) (o ∷ os) [] checked helps = absurd helps
   finds_each tables (g ∷ gs) (o ∷ os) (h ∷ hs) checked helps =
-      (one_found tables g.ob o.kept h checked.0.looked (subst (λ (ob : Parts). ShowsEver ob h) checked.0.ob_is helps.0), finds_each tables gs os hs checked.1 helps.1)
+      (one_found tables g.ob o.known h checked.0.looked (subst (λ (ob : Parts). ShowsEver ob h) checked.0.ob_is helps.0), finds_each tables gs os hs checked.1 helps.1)
 
   pub found_finds : (tables : Option Tables) (goals : List (Goal L)) (obs slice : List Checked) (helped : List (Option Evidence)) (found : List (Option Found)) → slice ≡ obs → AllZip (IsChecked tables) goals obs → AllZip Helps slice helped
       → found ≡ found_each obs helped → AllZip (FindsOf tables) goals found
@@ -76,8 +76,8 @@ module _ {L : Type 0} where
 
   -- ---- the places of goals
   one_placed : (tables : Option Tables) (goal : Goal L) (found : Option Found) → FindsOf tables goal found → IsPlaced tables goal (place_of goal found)
-  one_placed tables goal None finds = record { shows = refl; kept = finds.kept }
-  one_placed tables goal (Some f) finds = record { shows = (λ budget. record { goal_is = refl; shown = finds.shown budget }, finds.unsolved); kept = finds.kept }
+  one_placed tables goal None finds = record { shows = refl; kept = finds.kept; recorded = tt }
+  one_placed tables goal (Some f) finds = record { shows = (λ budget. record { goal_is = refl; shown = finds.shown budget }, finds.unsolved); kept = finds.kept; recorded = finds.recorded }
 
   pub are_placed : (tables : Option Tables) (goals : List (Goal L)) (found : List (Option Found)) → AllZip (FindsOf tables) goals found → AllZip (IsPlaced tables) goals (places_of goals found)
   are_placed tables [] [] finds = tt

@@ -12,9 +12,8 @@ use Rattle.helper_box.specs.declared.claim.Claim.{Claim}
 use Rattle.job_pool.specs.declared.evidence.Evidence.{Evidence}
 use Rattle.proof_store.specs.Counts.{FirstRose}
 use Rattle.proof_store.specs.Helping.{Helps, IfReady, IsReady, Readies, ShowsEver, ShownOf, turns_of}
-use Rattle.proof_store.specs.Lookups.{lacks_proof}
+use Rattle.proof_store.specs.Lookups.{Checked, lacks_proof}
 use Rattle.proof_store.specs.Places.{Tells}
-use Rattle.proof_store.specs.declared.checking.Checked.{Checked}
 use Rattle.proof_store.specs.declared.helping.Ready.{Ready}
 use Rattle.proof_store.proofs.Asking.{rose_none, rose_on, rose_one}
 use Rattle.proof_store.proofs.Pieces.{all_zipped_on, before_all}
@@ -129,8 +128,8 @@ pub record HelpLoop (obs left : List Checked) (helped : List (Option Evidence)) 
   pub helps : AllZip Helps before helped
   pub rose : FirstRose (count_by lacks_proof before) xs ys
 
-pub help_start : (obs : List Checked) (helped : List (Option Evidence)) (xs : List ℕ) → helped ≡ [] → HelpLoop obs obs helped xs xs
-help_start obs helped xs none = record { before = []; split = refl; helps = subst (AllZip Helps []) (sym none) tt; rose = rose_none xs }
+pub help_start : (obs left : List Checked) (helped : List (Option Evidence)) (xs : List ℕ) → left ≡ obs → helped ≡ [] → HelpLoop obs left helped xs xs
+help_start obs left helped xs same none = record { before = []; split = sym same; helps = subst (AllZip Helps []) (sym none) tt; rose = rose_none xs }
 
 pub help_more : (obs now few left : List Checked) (helped more all : List (Option Evidence)) (xs ys zs : List ℕ) → HelpLoop obs now helped xs ys → now ≡ few ++ left → AllZip Helps few more → FirstRose (count_by lacks_proof few) ys zs → all ≡ helped ++ more
     → HelpLoop obs left all xs zs

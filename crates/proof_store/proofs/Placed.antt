@@ -12,7 +12,7 @@ use Rattle.job_pool.specs.Shown.{IsShown}
 use Rattle.job_pool.specs.declared.evidence.Evidence.{Evidence}
 use Rattle.job_pool.specs.declared.evidence.Evidence.TheVariants.{Derivation}
 use Rattle.job_pool.proofs.Sparing.{decides}
-use Rattle.proof_store.specs.Goals.{Ended, IsDecided, IsDecidedIfAmple, ended, from_helper, from_keeper, from_worker, is_helped, is_kept, is_solved, ob_of}
+use Rattle.proof_store.specs.Goals.{AsKept, Ended, IsDecided, IsDecidedIfAmple, KeptDecides, ended, from_helper, from_keeper, from_worker, is_helped, is_kept, is_solved, ob_of}
 use Rattle.proof_store.specs.Kept.{CountsKept, IsKept, IsProof}
 use Rattle.proof_store.specs.Places.{IsPlaced, Takes, TellsKept, asked_for, asked_of, filled, is_open, open_of, solved}
 use Rattle.proof_store.specs.Rows.{HasProofs}
@@ -23,7 +23,7 @@ use Rattle.proof_store.specs.declared.goal.Source.{Source}
 use Rattle.proof_store.specs.declared.goal.Source.TheVariants.{Kept, Helped, Solved}
 use Rattle.proof_store.specs.declared.placing.Place.{Place}
 use Rattle.proof_store.specs.declared.placing.Place.TheVariants.{Done, Open}
-use Rattle.proof_store.proofs.Proving.{decided_proof}
+use Rattle.proof_store.proofs.Proving.{decided_proof, none_kept}
 
 pub same_length : {A B : Type 0} (R : A → B → Type 0) (xs : List A) (ys : List B) → AllZip R xs ys → length ys ≡ length xs
 same_length R [] [] z = refl
@@ -71,22 +71,24 @@ module _ {L : Type 0} where
 
   -- ---- the open places filled
 
-  -- a goal is decided, and what is said to be kept is
+  -- a goal is decided, what is said to be kept is, and then a kept proof decides it
   pub record IsSettled (tables : Option Tables) (budget : ℕ) (goal : Goal L) (d : Decided L) : Type 0 where
     pub decided : IsDecided budget goal d
     pub kept : TellsKept tables goal.ob (is_kept d)
+    pub recorded : IfSome tables (λ t. AsKept t goal.ob d.evidence)
 
   pub filled_settled : (tables : Option Tables) (budget : ℕ) (goals : List (Goal L)) (places : List (Place L)) (ends : List Evidence) → AllZip (IsPlaced tables) goals places → AllZip (IsShown budget) (open_of goals places) ends
       → AllZip (IsSettled tables budget) goals (filled places (open_of goals places) ends)
   filled_settled tables budget [] [] ends z shown = tt
   filled_settled tables budget [] (p ∷ ps) ends z shown = absurd z
   filled_settled tables budget (g ∷ gs) [] ends z shown = absurd z
-  filled_settled tables budget (g ∷ gs) (Done d ∷ ps) ends z shown = (record { decided = z.0.shows.0 budget; kept = z.0.kept }, filled_settled tables budget gs ps ends z.1 shown)
+  filled_settled tables budget (g ∷ gs) (Done d ∷ ps) ends z shown = (record { decided = z.0.shows.0 budget; kept = z.0.kept; recorded = z.0.recorded }, filled_settled tables budget gs ps ends z.1 shown)
   filled_settled tables budget (g ∷ gs) (Open line ∷ ps) [] z shown = absurd shown
   filled_settled tables budget (g ∷ gs) (Open line ∷ ps) (e ∷ ends) z shown = (
     record {
       decided = record { goal_is = ap (λ (l : L). record { line = l; ob = g.ob }) z.0.shows; shown = shown.0 };
       kept = z.0.kept;
+      recorded = none_kept tables g.ob e z.0.kept;
     },
     filled_settled tables budget gs ps ends z.1 shown.1,
   )
@@ -179,6 +181,16 @@ module _ {L : Type 0} where
   pub counts_kept : (tables : Option Tables) (budget : ℕ) (goals : List (Goal L)) (ds : List (Decided L)) (many : ℕ) → AllZip (IsSettled tables budget) goals ds → many ≡ count_by is_kept ds → IfSome tables (λ t. CountsKept t (map ob_of goals) many)
   counts_kept None budget goals ds many z are = tt
   counts_kept (Some t) budget goals ds many z are = record { flags = map is_kept ds; each = kept_each t budget goals ds z; are = are ∙ sym (count_map ds) }
+
+  kept_all : (t : Tables) (budget : ℕ) (goals : List (Goal L)) (ds : List (Decided L)) → AllZip (IsSettled (Some t) budget) goals ds → AllZip (KeptDecides t) goals ds
+  kept_all t budget [] [] z = tt
+  kept_all t budget [] (d ∷ ds) z = absurd z
+  kept_all t budget (g ∷ gs) [] z = absurd z
+  kept_all t budget (g ∷ gs) (d ∷ ds) z = (record { source = z.0.kept; evidence = z.0.recorded }, kept_all t budget gs ds z.1)
+
+  pub kept_decide : (tables : Option Tables) (budget : ℕ) (goals : List (Goal L)) (ds : List (Decided L)) → AllZip (IsSettled tables budget) goals ds → IfSome tables (λ t. AllZip (KeptDecides t) goals ds)
+  kept_decide None budget goals ds z = tt
+  kept_decide (Some t) budget goals ds z = kept_all t budget goals ds z
 
   pub has_proofs : (tables : Option Tables) (budget : ℕ) (goals : List (Goal L)) (ds : List (Decided L)) → AllZip (IsSettled tables budget) goals ds → HasProofs (map ended ds)
   has_proofs tables budget [] [] z = All-nil (λ (d : Ended). (steps : Vec Step Global) → d.evidence ≡ Derivation steps → IsProof d.ob steps.items)

@@ -5,6 +5,7 @@ use Rattle.std.specs.List.{AllZip}
 use Rattle.std.specs.declared.alloc.Global.{Global}
 use Rattle.std.proofs.lemmas.Option.{same_Some}
 use Rattle.word_dag.specs.Nodes.{Parts}
+use Rattle.outside.specs.Tables.{Tables}
 use Rattle.clause_check.specs.declared.literal.Lit.{Lit}
 use Rattle.clause_check.specs.declared.formula.Cnf.{Cnf}
 use Rattle.clause_check.specs.declared.formula.Step.{Step}
@@ -18,9 +19,9 @@ use Rattle.proof_store_records.specs.Records.{IsRecord, content, contents}
 use Rattle.job_pool.specs.declared.evidence.Evidence.{Evidence}
 use Rattle.job_pool.specs.declared.evidence.Evidence.TheVariants as e
 use Rattle.job_pool.specs.Shown.{IsShown}
-use Rattle.proof_store.specs.Goals.{IsDecided}
+use Rattle.proof_store.specs.Goals.{AsKept, IsDecided}
 use Rattle.proof_store.specs.Kept.{IsBuilt, IsProof}
-use Rattle.proof_store.specs.Places.{Tells}
+use Rattle.proof_store.specs.Places.{Tells, TellsKept}
 use Rattle.proof_store.specs.declared.goal.Decided.{Decided}
 use Rattle.proof_store.specs.declared.goal.Goal.{Goal}
 
@@ -153,3 +154,8 @@ none_passes cnf bytes read found exact is refused steps reads refutes =
 pub not_passed : (cnf : Cnf) (steps : Vec Step Global) (given : List Step) (passed : Bool) → given ≡ steps.items → (IsTrue passed ↔ IsRefutation cnf given) → passed ≡ false → IsRefutation cnf steps.items → ⊥
 not_passed cnf steps given passed same tells off refutes =
     let on : passed ≡ true = tells.1 (subst (IsRefutation cnf) (sym same) refutes) in absurd (cc)
+
+-- where the tables are told to keep no proof, nothing is asked of the evidence
+pub none_kept : (tables : Option Tables) (ob : Parts) (evidence : Evidence) → TellsKept tables ob false → IfSome tables (λ t. AsKept t ob evidence)
+none_kept None ob evidence tells = tt
+none_kept (Some t) ob evidence tells = λ kept. let on : false ≡ true = tells.1 kept in absurd (cc)

@@ -1,5 +1,5 @@
 -- Rows that are put one after another.
-use Rattle.std.proofs.Common.{◌≡◌, ℕ, ◌+◌, ◌<◌, ⊎_elim, inr, List, [], ◌∷◌, ◌++◌, Option, Some, None, true, false, get_or, length, map, take, refl, sym, ap, ap₂, ◌∙◌, subst, arith, append_assoc, append-nil}
+use Rattle.std.proofs.Common.{◌≡◌, ℕ, ◌+◌, ◌<◌, ◌≤◌, ⊎_elim, inr, List, [], ◌∷◌, ◌++◌, Option, Some, None, true, false, get_or, length, map, take, refl, sym, ap, ap₂, ◌∙◌, subst, arith, append_assoc, append-nil}
 use Rattle.std.specs.Prelude.{All, IfSome, IsTrue, Vec, ◌↔◌}
 use Rattle.std.specs.List.{AllZip}
 use Rattle.std.specs.declared.alloc.Global.{Global}
@@ -19,6 +19,7 @@ use Rattle.proof_store.specs.Stored.{AddsProofs, Puts, StoresNew, Told, ended_ob
 use Rattle.proof_store.specs.declared.goal.Decided.{Decided}
 use Rattle.proof_store.specs.declared.keeping.Row.{Row}
 use Rattle.proof_store.specs.declared.putting.Outcome.{Outcome}
+use Rattle.proof_store.proofs.Pieces.{few_within}
 use Rattle.proof_store.proofs.Storing.{puts_row, told_left, told_none, told_past, told_put}
 
 -- ---- one row
@@ -95,12 +96,25 @@ pub record PutLoop (outcomes later : List Outcome) (rows : List (Option Row)) (b
   pub flags : IfSome before (λ t. All (TellsOutcome t) (left ++ later))
   pub proofs : HasProofs (map outcome_ended (left ++ later))
 
-pub put_start : (outcomes : List Outcome) (before : Option Tables) → IfSome before (λ t. All (TellsOutcome t) outcomes) → HasProofs (map outcome_ended outcomes) → PutLoop outcomes outcomes [] before before
-put_start outcomes before flags proofs = record { done = []; left = []; split = refl; are = tt; stores = told_none before; flags = flags; proofs = proofs }
+pub put_start : (outcomes later : List Outcome) (before : Option Tables) → later ≡ outcomes → IfSome before (λ t. All (TellsOutcome t) outcomes) → HasProofs (map outcome_ended outcomes) → PutLoop outcomes later [] before before
+put_start outcomes later before same flags proofs = record {
+  done = [];
+  left = [];
+  split = sym same;
+  are = tt;
+  stores = told_none before;
+  flags = subst (λ (os : List Outcome). IfSome before (λ t. All (TellsOutcome t) os)) (sym same) flags;
+  proofs = subst (λ (os : List Outcome). HasProofs (map outcome_ended os)) (sym same) proofs;
+}
 
 none_left : (left : List Outcome) → AllZip IsNewRow left [] → left ≡ []
 none_left [] are = refl
 none_left (o ∷ os) are = absurd are
+
+-- the next ones aren't more than all
+pub put_within : (outcomes all few later : List Outcome) (before now : Option Tables) → PutLoop outcomes all [] before now → all ≡ few ++ later → length few ≤ length outcomes
+put_within outcomes all few later before now loop split =
+    few_within outcomes loop.done all few later (loop.split ∙ ap (λ (os : List Outcome). loop.done ++ (os ++ all)) (none_left loop.left loop.are)) split
 
 -- the next ones, whose rows were made
 pub put_few : (outcomes few later all : List Outcome) (rows given : List (Option Row)) (before now : Option Tables) → PutLoop outcomes all [] before now → all ≡ few ++ later → AllZip IsNewRow few rows → given ≡ rows → PutLoop outcomes later given before now

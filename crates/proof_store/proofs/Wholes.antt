@@ -7,7 +7,7 @@ use Rattle.word_dag.specs.Nodes.{Parts}
 use Rattle.job_pool.specs.Shown.{IsShown}
 use Rattle.job_pool.specs.declared.evidence.Evidence.{Evidence}
 use Rattle.proof_store.specs.Counts.{FirstRose}
-use Rattle.proof_store.specs.Goals.{IsDecided, IsDecidedIfAmple, ended, is_helped, is_kept, is_solved, ob_of}
+use Rattle.proof_store.specs.Goals.{IsDecided, IsDecidedIfAmple, KeptDecides, ended, is_helped, is_kept, is_solved, ob_of}
 use Rattle.proof_store.specs.Kept.{CountsKept, IsKept}
 use Rattle.proof_store.specs.Places.{IsPlaced, asked_for, filled, is_open, open_of}
 use Rattle.proof_store.specs.Rows.{HasProofs}
@@ -15,7 +15,7 @@ use Rattle.proof_store.specs.Stored.{AddsProofs, Told, ended_ob}
 use Rattle.proof_store.specs.declared.goal.Decided.{Decided}
 use Rattle.proof_store.specs.declared.goal.Goal.{Goal}
 use Rattle.proof_store.specs.declared.placing.Place.{Place}
-use Rattle.proof_store.proofs.Placed.{all_ample, all_decided, counts_kept, filled_settled, flags_tell, has_proofs, open_length, open_within, parts, same_length, same_obs, tally}
+use Rattle.proof_store.proofs.Placed.{all_ample, all_decided, counts_kept, filled_settled, flags_tell, has_proofs, kept_decide, open_length, open_within, parts, same_length, same_obs, tally}
 
 pub asked_are : (asked helped worked h w : ℕ) → asked ≡ helped + worked → h ≡ helped → w ≡ worked → asked ≡ h + w
 asked_are asked helped worked h w are a b = omega (arith, are, a, b)
@@ -40,6 +40,7 @@ module _ {L : Type 0} where
       pub record Facts (ds all : List (Decided L)) : Type 0 where
         pub decided : AllZip (IsDecided budget) goals ds
         pub ample : AllZip (IsDecidedIfAmple budget) goals ds
+        pub kept_decides : IfSome tables (λ t. AllZip (KeptDecides t) goals ds)
         pub flags : IfSome tables (λ t. All (λ d. IsTrue (is_kept d) ↔ IsKept t d.goal.ob) all)
         pub proofs : HasProofs (map ended all)
         pub obs : map ended_ob (map ended all) ≡ map ob_of goals
@@ -60,6 +61,7 @@ module _ {L : Type 0} where
           let there : Facts made made = record {
             decided = all_decided tables budget goals made z;
             ample = all_ample tables budget goals made z;
+            kept_decides = kept_decide tables budget goals made z;
             flags = flags_tell tables budget goals made z;
             proofs = has_proofs tables budget goals made z;
             obs = same_obs budget goals made (all_decided tables budget goals made z);

@@ -5,8 +5,7 @@ use Rattle.job_pool.specs.Shown.{IsShown}
 use Rattle.job_pool.specs.declared.evidence.Evidence.{Evidence}
 use Rattle.helper_box.specs.Asked.{AreReady}
 use Rattle.proof_store.specs.Kept.{IsBuilt}
-use Rattle.proof_store.specs.Lookups.{lacks_proof}
-use Rattle.proof_store.specs.declared.checking.Checked.{Checked}
+use Rattle.proof_store.specs.Lookups.{Checked, lacks_proof}
 use Rattle.proof_store.specs.declared.helping.Ready.{Ready}
 
 -- it has the clauses of its obligation, with some variables for the bits of its free words, and claims of it that pass

@@ -9,13 +9,13 @@ use Rattle.helper_box.specs.declared.claim.Claim.TheVariants as claim
 use Rattle.job_pool.specs.Shown.{IsShown}
 use Rattle.job_pool.specs.declared.evidence.Evidence.{Evidence}
 use Rattle.job_pool.specs.declared.evidence.Evidence.TheVariants.{Derivation, Values}
-use Rattle.proof_store.specs.Goals.{IsDecided, from_keeper, is_kept}
+use Rattle.proof_store.specs.Goals.{AsKept, IsDecided, from_keeper, is_kept}
 use Rattle.proof_store.specs.Kept.{IsKept}
-use Rattle.proof_store.specs.declared.checking.Checked.{Checked}
 use Rattle.proof_store.specs.declared.goal.Decided.{Decided}
 use Rattle.proof_store.specs.declared.goal.Goal.{Goal}
 use Rattle.proof_store.specs.declared.goal.Source.{Source}
 use Rattle.proof_store.specs.declared.goal.Source.TheVariants.{Kept, Helped, Solved}
+use Rattle.proof_store.specs.declared.looking.Known.{Known}
 use Rattle.proof_store.specs.declared.placing.Found.{Found}
 use Rattle.proof_store.specs.declared.placing.Place.{Place}
 use Rattle.proof_store.specs.declared.placing.Place.TheVariants.{Done, Open}
@@ -39,6 +39,7 @@ found_kept (Some found) = from_keeper found.source
 pub record Finds (tables : Option Tables) (ob : Parts) (found : Option Found) : Type 0 where
   pub shown : IfSome found (λ f. (budget : ℕ) → IsShown budget ob f.evidence)
   pub kept : TellsKept tables ob (found_kept found)
+  pub recorded : IfSome found (λ f. IfSome tables (λ t. AsKept t ob f.evidence))
   pub unsolved : IfSome found (λ f. f.source ≡ Solved → ⊥)
 
 abbrev pub FindsOf : {L : Type 0} → Option Tables → Goal L → Option Found → Type 0
@@ -50,10 +51,10 @@ found_of (Some steps) helped = Some (record { evidence = Derivation steps; sourc
 found_of None None = None
 found_of None (Some evidence) = Some (record { evidence = evidence; source = Helped })
 
-abbrev pub found_each : List Checked → List (Option Evidence) → List (Option Found)
+abbrev pub found_each : List (Known (Option (Vec Step Global))) → List (Option Evidence) → List (Option Found)
 found_each [] helped = []
 found_each (c ∷ cs) [] = []
-found_each (c ∷ cs) (h ∷ hs) = found_of c.kept h ∷ found_each cs hs
+found_each (c ∷ cs) (h ∷ hs) = found_of c.known h ∷ found_each cs hs
 
 -- how often the first helper is asked: once about what isn't kept
 abbrev pub asked_of : Source → ℕ
@@ -88,10 +89,16 @@ abbrev pub place_kept : {L : Type 0} → Place L → Bool
 place_kept (Done d) = is_kept d
 place_kept (Open line) = false
 
+-- a goal that is done, and of which these tables keep a proof, is decided by that one
+abbrev pub PlaceAsKept : {L : Type 0} → Option Tables → Parts → Place L → Type 0
+PlaceAsKept tables ob (Done d) = IfSome tables (λ t. AsKept t ob d.evidence)
+PlaceAsKept tables ob (Open line) = Unit {0}
+
 -- the goal's place, which is that of a kept proof exactly where these tables keep one
 pub record IsPlaced {L : Type 0} (tables : Option Tables) (goal : Goal L) (place : Place L) : Type 0 where
   pub shows : Shows goal place
   pub kept : TellsKept tables goal.ob (place_kept place)
+  pub recorded : PlaceAsKept tables goal.ob place
 
 -- the obligation of an open goal goes to the end of those that are open
 abbrev pub opened : {L : Type 0} → Place L → Parts → List Parts → List Parts

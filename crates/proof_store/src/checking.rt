@@ -4,7 +4,7 @@ ghost use Rattle.std.specs.List.{AllZip};
 ghost use Rattle.proof_store.specs.Lookups.{Checks, ChecksRow};
 
 use crate::keeping::accepted;
-use crate::looking::Lookup;
+use crate::looking::Known;
 use clause_check::Step;
 use cnf_build::build;
 use job_pool::{Crew, Task};
@@ -13,21 +13,17 @@ use std::thread::Threads;
 use word_dag::Ob;
 
 // The steps of a row, where it is a record of a proof of its obligation.
-fn steps_of_row(alloc: Global, lookup: &Lookup<'_>) -> Result<Option<Vec<Step>>, AllocError>
-    ensures { IfOk result (ChecksRow lookup.now.ob.now lookup.now.row) }
+fn steps_of_row(
+    alloc: Global,
+    lookup: &Known<'_, Option<Vec<u8>>>,
+) -> Result<Option<Vec<Step>>, AllocError>
+    ensures { IfOk result (ChecksRow lookup.now.ob.now lookup.now.known) }
 {
-    let Some(bytes) = &lookup.row else {
+    let Some(bytes) = &lookup.known else {
         return Ok(None);
     };
     let built = build(alloc, lookup.ob)?;
     accepted(alloc, &built.cnf, bytes.as_slice())
-}
-
-/// An obligation, and the steps of its proof where one is kept.
-#[derive(Drop)]
-pub struct Checked<'a> {
-    pub ob: &'a Ob,
-    pub kept: Option<Vec<Step>>,
 }
 
 // Rows are read and checked.
@@ -36,16 +32,20 @@ struct Checking {
     alloc: Global,
 }
 
-impl<'a> Task<Lookup<'a>, Checked<'a>> for Checking {
+impl<'a> Task<Known<'a, Option<Vec<u8>>>, Known<'a, Option<Vec<Step>>>> for Checking {
     ghost use Rattle.proof_store.specs.Lookups.{Checks};
 
     ghost ends = { λ _. Checks };
 
-    fn end(&self, _number: u64, lookup: &Lookup<'a>) -> Result<Checked<'a>, AllocError> {
-        let kept = steps_of_row(self.alloc, lookup)?;
-        Ok(Checked {
+    fn end(
+        &self,
+        _number: u64,
+        lookup: &Known<'a, Option<Vec<u8>>>,
+    ) -> Result<Known<'a, Option<Vec<Step>>>, AllocError> {
+        let known = steps_of_row(self.alloc, lookup)?;
+        Ok(Known {
             ob: lookup.ob,
-            kept,
+            known,
         })
     }
 }
@@ -54,8 +54,8 @@ impl<'a> Task<Lookup<'a>, Checked<'a>> for Checking {
 /// checked by these workers.
 pub(crate) fn checked_all<'a, R: Threads + Sync>(
     crew: &Crew<'_, R>,
-    lookups: &[Lookup<'a>],
-) -> Result<Vec<Checked<'a>>, AllocError>
+    lookups: &[Known<'a, Option<Vec<u8>>>],
+) -> Result<Vec<Known<'a, Option<Vec<Step>>>>, AllocError>
     requires { length lookups.now < 2 ^ 32 }
     ensures { IfOk result (λ all. AllZip Checks lookups.now all.items) }
 {

@@ -7,10 +7,10 @@ ghost use Rattle.proof_store.specs.Helping.{Helps, IfReady, Readies, ShownOf, tu
 ghost use Rattle.proof_store.specs.Lookups.{lacks_proof};
 ghost use Rattle.proof_store.specs.Places.{Tells};
 
-use crate::checking::Checked;
 use crate::crews::fewer;
-use crate::weight::{Weighs, end_of_few, gates_of};
-use clause_check::Cnf;
+use crate::looking::Known;
+use crate::weight::{Weighs, few_at_a_time, gates_of};
+use clause_check::{Cnf, Step};
 use cnf_build::{Built, build};
 use helper_box::{Claim, Claims, Helper, claims_of, offer_ready};
 use job_pool::{Crew, Evidence, Task};
@@ -30,11 +30,11 @@ pub struct Ready<'a> {
 fn made_ready<'a, C: Claims>(
     alloc: Global,
     helpers: &[C],
-    checked: &Checked<'a>,
+    checked: &Known<'a, Option<Vec<Step>>>,
 ) -> Result<Option<Ready<'a>>, AllocError>
     ensures { IfOk result (Readies checked.now) }
 {
-    if checked.kept.is_some() {
+    if checked.known.is_some() {
         return Ok(None);
     }
     let Built { cnf, .. } = build(alloc, checked.ob)?;
@@ -53,12 +53,16 @@ struct Readying<'h, C> {
     helpers: &'h [C],
 }
 
-impl<'a, 'h, C: Claims> Task<Checked<'a>, Option<Ready<'a>>> for Readying<'h, C> {
+impl<'a, 'h, C: Claims> Task<Known<'a, Option<Vec<Step>>>, Option<Ready<'a>>> for Readying<'h, C> {
     ghost use Rattle.proof_store.specs.Helping.{Readies};
 
     ghost ends = { λ _. Readies };
 
-    fn end(&self, _number: u64, checked: &Checked<'a>) -> Result<Option<Ready<'a>>, AllocError> {
+    fn end(
+        &self,
+        _number: u64,
+        checked: &Known<'a, Option<Vec<Step>>>,
+    ) -> Result<Option<Ready<'a>>, AllocError> {
         made_ready(self.alloc, self.helpers, checked)
     }
 }
@@ -67,12 +71,12 @@ impl<'a, 'h, C: Claims> Task<Checked<'a>, Option<Ready<'a>>> for Readying<'h, C>
 fn ready_all<'a, R: Threads + Sync, H: Helper>(
     crew: &Crew<'_, R>,
     helpers: &[H],
-    obs: &[Checked<'a>],
+    obs: &[Known<'a, Option<Vec<Step>>>],
 ) -> Result<Vec<Option<Ready<'a>>>, AllocError>
     requires { length obs.now < 2 ^ 32 }
     ensures { IfOk result (λ all. AllZip Readies obs.now all.items) }
 {
-    let jobs = obs.iter().filter(|one| one.kept.is_none()).count();
+    let jobs = obs.iter().filter(|one| one.known.is_none()).count();
     let readying = Readying {
         alloc: crew.alloc,
         helpers,
@@ -132,7 +136,10 @@ fn ask_each<H: Helper>(
 }
 
 // What is shown of obligations without helpers.
-fn help_none(alloc: Global, obs: &[Checked<'_>]) -> Result<Vec<Option<Evidence>>, AllocError>
+fn help_none(
+    alloc: Global,
+    obs: &[Known<'_, Option<Vec<Step>>>],
+) -> Result<Vec<Option<Evidence>>, AllocError>
     ensures { IfOk result (λ helped. AllZip Helps obs.now helped.items) }
 {
     let mut helped = Vec::new(alloc);
@@ -146,7 +153,7 @@ fn help_none(alloc: Global, obs: &[Checked<'_>]) -> Result<Vec<Option<Evidence>>
 fn help_few<R: Threads + Sync, H: Helper>(
     crew: &Crew<'_, R>,
     helpers: &mut Vec<H>,
-    obs: &[Checked<'_>],
+    obs: &[Known<'_, Option<Vec<Step>>>],
 ) -> Result<Vec<Option<Evidence>>, AllocError>
     requires { length obs.now < 2 ^ 32 }
     ensures helped { IfOk result (λ helped. AllZip Helps obs.now helped.items) }
@@ -158,9 +165,9 @@ fn help_few<R: Threads + Sync, H: Helper>(
     ask_each(crew.alloc, helpers, all)
 }
 
-impl Weighs for Checked<'_> {
+impl Weighs for Known<'_, Option<Vec<Step>>> {
     fn weight(&self) -> u64 {
-        if self.kept.is_some() {
+        if self.known.is_some() {
             0
         } else {
             gates_of(self.ob)
@@ -173,7 +180,7 @@ impl Weighs for Checked<'_> {
 pub(crate) fn help_all<R: Threads + Sync, H: Helper>(
     crew: &Crew<'_, R>,
     helpers: &mut Vec<H>,
-    obs: &[Checked<'_>],
+    obs: &[Known<'_, Option<Vec<Step>>>],
 ) -> Result<Vec<Option<Evidence>>, AllocError>
     requires { length obs.now < 2 ^ 32 }
     ensures helped { IfOk result (λ helped. AllZip Helps obs.now helped.items) }
@@ -185,12 +192,9 @@ pub(crate) fn help_all<R: Threads + Sync, H: Helper>(
         return help_none(crew.alloc, obs);
     }
     let mut helped = Vec::new(crew.alloc);
-    let mut at = 0;
-    while at < obs.len() {
-        let end = end_of_few(obs, at, crew.workers);
-        let mut more = help_few(crew, helpers, &obs[at..end])?;
+    for few in few_at_a_time(crew, obs)? {
+        let mut more = help_few(crew, helpers, few)?;
         helped.append(&mut more)?;
-        at = end;
     }
     Ok(helped)
 }

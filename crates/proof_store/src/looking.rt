@@ -2,37 +2,24 @@
 // by side.
 ghost use Rattle.std.specs.Prelude.{◌≡◌, ◌^◌, ◌<◌, Err, IfOk, length};
 ghost use Rattle.std.specs.List.{AllZip};
-ghost use Rattle.proof_store.specs.Lookups.{HasRow, IsLookup, IsKeyed, IsQuery, Looks};
+ghost use Rattle.proof_store.specs.Lookups.{HasRow, IsKeyed, IsLookup, IsObOf, Looks};
 ghost use Rattle.proof_store.specs.Provers.{Rises};
 
 use crate::crews::fewer;
 use crate::fault::StoreFault;
 use crate::goal::Goal;
-use crate::weight::{Weighs, end_of_few};
+use crate::weight::{Weighs, few_at_a_time};
 use job_pool::{Crew, Task};
 use outside::Keeper;
 use std::alloc::{AllocError, Global};
 use std::thread::Threads;
 use word_dag::{Ob, text};
 
-/// An obligation, and the row that a keeper has under its text.
+/// An obligation, and what is known of the proof that is kept of it: nothing yet, its key, its row, or its steps.
 #[derive(Drop)]
-pub struct Lookup<'a> {
+pub struct Known<'a, X> {
     pub ob: &'a Ob,
-    pub row: Option<Vec<u8>>,
-}
-
-/// An obligation of which the row is looked for.
-#[derive(Drop)]
-pub struct Query<'a> {
-    pub ob: &'a Ob,
-}
-
-/// An obligation, and the key of its proof, which is its text.
-#[derive(Drop)]
-pub struct Keyed<'a> {
-    pub ob: &'a Ob,
-    pub key: Vec<u8>,
+    pub known: X,
 }
 
 // Texts are made.
@@ -41,47 +28,53 @@ struct Keying {
     alloc: Global,
 }
 
-impl<'a> Task<Query<'a>, Keyed<'a>> for Keying {
+impl<'a> Task<Known<'a, ()>, Known<'a, Vec<u8>>> for Keying {
     ghost use Rattle.proof_store.specs.Lookups.{IsKeyed};
 
     ghost ends = { λ _. IsKeyed };
 
-    fn end(&self, _number: u64, query: &Query<'a>) -> Result<Keyed<'a>, AllocError> {
-        let key = text(self.alloc, query.ob)?;
-        Ok(Keyed { ob: query.ob, key })
+    fn end(&self, _number: u64, sought: &Known<'a, ()>) -> Result<Known<'a, Vec<u8>>, AllocError> {
+        let known = text(self.alloc, sought.ob)?;
+        Ok(Known {
+            ob: sought.ob,
+            known,
+        })
     }
 }
 
-impl Weighs for Query<'_> {
+impl Weighs for Known<'_, ()> {
     fn weight(&self) -> u64 {
         self.ob.nodes().len() as u64
     }
 }
 
 // The obligations of goals.
-fn queries_of<'a, L: Drop>(
+fn obs_of<'a, L: Drop>(
     alloc: Global,
     goals: &'a [Goal<L>],
-) -> Result<Vec<Query<'a>>, AllocError>
-    ensures { IfOk result (λ all. AllZip IsQuery goals.now all.items) }
+) -> Result<Vec<Known<'a, ()>>, AllocError>
+    ensures { IfOk result (λ obs. AllZip IsObOf goals.now obs.items) }
 {
-    let mut all = Vec::new(alloc);
+    let mut obs = Vec::new(alloc);
     for goal in goals {
-        all.push(Query { ob: &goal.ob })?;
+        obs.push(Known {
+            ob: &goal.ob,
+            known: (),
+        })?;
     }
-    Ok(all)
+    Ok(obs)
 }
 
 // Makes the texts of obligations side by side.
 fn keyed_all<'a, R: Threads + Sync>(
     crew: &Crew<'_, R>,
-    queries: &[Query<'a>],
-) -> Result<Vec<Keyed<'a>>, AllocError>
-    requires { length queries.now < 2 ^ 32 }
-    ensures { IfOk result (λ all. AllZip IsKeyed queries.now all.items) }
+    obs: &[Known<'a, ()>],
+) -> Result<Vec<Known<'a, Vec<u8>>>, AllocError>
+    requires { length obs.now < 2 ^ 32 }
+    ensures { IfOk result (λ all. AllZip IsKeyed obs.now all.items) }
 {
-    let few = fewer(crew, queries.len());
-    let ran = few.run(queries, &Keying { alloc: crew.alloc })?;
+    let few = fewer(crew, obs.len());
+    let ran = few.run(obs, &Keying { alloc: crew.alloc })?;
     Ok(ran.ends)
 }
 
@@ -89,53 +82,39 @@ fn keyed_all<'a, R: Threads + Sync>(
 fn rows_under<'a, K: Keeper>(
     alloc: Global,
     keeper: &mut K,
-    all: Vec<Keyed<'a>>,
-) -> Result<Vec<Lookup<'a>>, StoreFault>
+    all: Vec<Known<'a, Vec<u8>>>,
+) -> Result<Vec<Known<'a, Option<Vec<u8>>>>, StoreFault>
     ensures lookups { IfOk result (λ lookups. AllZip (HasRow (K.tables keeper.old)) all.entry.items lookups.items) }
     ensures same { K.tables keeper.new ≡ K.tables keeper.old }
     ensures faults { Rises (result ≡ Err StoreFault.Keeper) (K.faults keeper.old) (K.faults keeper.new) }
 {
     let mut lookups = Vec::new(alloc);
     for keyed in all {
-        let row = keeper.proof(alloc, keyed.key.as_slice())?;
-        lookups.push(Lookup { ob: keyed.ob, row })?;
+        let row = keeper.proof(alloc, keyed.known.as_slice())?;
+        lookups.push(Known {
+            ob: keyed.ob,
+            known: row,
+        })?;
     }
     Ok(lookups)
-}
-
-// The rows of few obligations.
-fn look_up_few<'a, R: Threads + Sync, K: Keeper>(
-    crew: &Crew<'_, R>,
-    keeper: &mut K,
-    queries: &[Query<'a>],
-) -> Result<Vec<Lookup<'a>>, StoreFault>
-    requires { length queries.now < 2 ^ 32 }
-    ensures lookups { IfOk result (λ lookups. AllZip (Looks (K.tables keeper.old)) queries.now lookups.items) }
-    ensures same { K.tables keeper.new ≡ K.tables keeper.old }
-    ensures faults { Rises (result ≡ Err StoreFault.Keeper) (K.faults keeper.old) (K.faults keeper.new) }
-{
-    let all = keyed_all(crew, queries)?;
-    rows_under(crew.alloc, keeper, all)
 }
 
 // The rows of obligations.
 fn look_up_each<'a, R: Threads + Sync, K: Keeper>(
     crew: &Crew<'_, R>,
     keeper: &mut K,
-    queries: &[Query<'a>],
-) -> Result<Vec<Lookup<'a>>, StoreFault>
-    requires { length queries.now < 2 ^ 32 }
-    ensures lookups { IfOk result (λ lookups. AllZip (Looks (K.tables keeper.old)) queries.now lookups.items) }
+    obs: &[Known<'a, ()>],
+) -> Result<Vec<Known<'a, Option<Vec<u8>>>>, StoreFault>
+    requires { length obs.now < 2 ^ 32 }
+    ensures lookups { IfOk result (λ lookups. AllZip (Looks (K.tables keeper.old)) obs.now lookups.items) }
     ensures same { K.tables keeper.new ≡ K.tables keeper.old }
     ensures faults { Rises (result ≡ Err StoreFault.Keeper) (K.faults keeper.old) (K.faults keeper.new) }
 {
     let mut lookups = Vec::new(crew.alloc);
-    let mut at = 0;
-    while at < queries.len() {
-        let end = end_of_few(queries, at, crew.workers);
-        let mut more = look_up_few(crew, keeper, &queries[at..end])?;
+    for few in few_at_a_time(crew, obs)? {
+        let keyed = keyed_all(crew, few)?;
+        let mut more = rows_under(crew.alloc, keeper, keyed)?;
         lookups.append(&mut more)?;
-        at = end;
     }
     Ok(lookups)
 }
@@ -145,12 +124,12 @@ pub(crate) fn look_up_all<'a, R: Threads + Sync, K: Keeper, L: Drop>(
     crew: &Crew<'_, R>,
     keeper: &mut K,
     goals: &'a [Goal<L>],
-) -> Result<Vec<Lookup<'a>>, StoreFault>
+) -> Result<Vec<Known<'a, Option<Vec<u8>>>>, StoreFault>
     requires { length goals.now < 2 ^ 32 }
     ensures lookups { IfOk result (λ lookups. AllZip (IsLookup (K.tables keeper.old)) goals.now lookups.items) }
     ensures same { K.tables keeper.new ≡ K.tables keeper.old }
     ensures faults { Rises (result ≡ Err StoreFault.Keeper) (K.faults keeper.old) (K.faults keeper.new) }
 {
-    let queries = queries_of(crew.alloc, goals)?;
-    look_up_each(crew, keeper, queries.as_slice())
+    let obs = obs_of(crew.alloc, goals)?;
+    look_up_each(crew, keeper, obs.as_slice())
 }

@@ -7,12 +7,12 @@ ghost use Rattle.proof_store.specs.Lookups.{IsChecked};
 ghost use Rattle.proof_store.specs.Places.{FindsOf, IsPlaced, Takes, asked_about, asked_for, filled, found_each, found_of, is_open, open_of, opened, place_of, places_of};
 ghost use Rattle.proof_store.specs.Provers.{IsSame, Proceeds, Rises, asked_by, counts, kept_by};
 
-use crate::checking::{Checked, checked_all};
+use crate::checking::checked_all;
 use crate::crews::fewer;
 use crate::fault::StoreFault;
 use crate::goal::{Decided, Goal, Source};
 use crate::helping::help_all;
-use crate::looking::look_up_all;
+use crate::looking::{Known, look_up_all};
 use crate::prover::Prover;
 use clause_check::Step;
 use helper_box::Helper;
@@ -68,14 +68,14 @@ fn found_of(kept: Option<Vec<Step>>, helped: Option<Evidence>) -> Option<Found>
 // What is found of obligations, in order.
 fn found_each(
     alloc: Global,
-    obs: Vec<Checked<'_>>,
+    obs: Vec<Known<'_, Option<Vec<Step>>>>,
     helped: Vec<Option<Evidence>>,
 ) -> Result<Vec<Option<Found>>, AllocError>
     ensures { IfOk result (λ found. found.items ≡ found_each obs.entry.items helped.items) }
 {
     let mut found = Vec::new(alloc);
     for (one, evidence) in obs.into_iter().zip(helped) {
-        found.push(found_of(one.kept, evidence))?;
+        found.push(found_of(one.known, evidence))?;
     }
     Ok(found)
 }
@@ -141,7 +141,10 @@ impl<'a, 'k, 'h, R: Threads + Sync, K: Keeper, H: Helper, G: Gate + Sync> Prover
 
     // The obligations of goals in order, each with its proof that is kept: the keeper is asked for one row after
     // another, under texts that workers make, and then workers check the rows side by side.
-    fn look_up<'g, L: Drop>(&mut self, goals: &'g [Goal<L>]) -> Result<Vec<Checked<'g>>, StoreFault>
+    fn look_up<'g, L: Drop>(
+        &mut self,
+        goals: &'g [Goal<L>],
+    ) -> Result<Vec<Known<'g, Option<Vec<Step>>>>, StoreFault>
         requires jobs { length goals.now < 2 ^ 32 }
         ensures found { IfOk result (λ all. AllZip (IsChecked (kept_by K.tables self.old)) goals.now all.items) }
         ensures tables { kept_by K.tables self.new ≡ kept_by K.tables self.old }
@@ -152,7 +155,10 @@ impl<'a, 'k, 'h, R: Threads + Sync, K: Keeper, H: Helper, G: Gate + Sync> Prover
     {
         let crew = self.crew();
         let lookups = look_up_all(&crew, self.keeper, goals)?;
-        let rows = lookups.iter().filter(|lookup| lookup.row.is_some()).count();
+        let rows = lookups
+            .iter()
+            .filter(|lookup| lookup.known.is_some())
+            .count();
         Ok(checked_all(&fewer(&crew, rows), lookups.as_slice())?)
     }
 

@@ -12,7 +12,7 @@ use crate::crews::fewer;
 use crate::fault::StoreFault;
 use crate::goal::{Decided, Source};
 use crate::keeping::{Row, row_of};
-use crate::weight::{Weighs, end_of_few};
+use crate::weight::{Weighs, few_at_a_time};
 use job_pool::{Crew, Evidence, Task};
 use outside::Keeper;
 use std::alloc::{AllocError, Global};
@@ -129,14 +129,10 @@ fn put_each<R: Threads + Sync, K: Keeper>(
         (K.tables keeper.new) }
     ensures faults { Rises (result ≡ Err StoreFault.Keeper) (K.faults keeper.old) (K.faults keeper.new) }
 {
-    let mut at = 0;
-    while at < outcomes.len() {
-        let end = end_of_few(outcomes, at, crew.workers);
-        let rows = new_rows(crew, &outcomes[at..end])?;
-        for row in rows {
+    for few in few_at_a_time(crew, outcomes)? {
+        for row in new_rows(crew, few)? {
             put_row(crew.alloc, keeper, row)?;
         }
-        at = end;
     }
     Ok(())
 }

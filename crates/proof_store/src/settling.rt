@@ -3,7 +3,7 @@ ghost use Rattle.std.specs.Prelude.{◌≡◌, ◌+◌, ◌^◌, ◌<◌, Err, I
 ghost use Rattle.std.specs.List.{AllZip};
 ghost use Rattle.job_pool.specs.Shown.{IsShown};
 ghost use Rattle.proof_store.specs.Counts.{FirstRose, draws_of};
-ghost use Rattle.proof_store.specs.Goals.{IsDecided, IsDecidedIfAmple, ended, from_helper, from_keeper, from_worker, is_helped, is_kept, is_solved, ob_of};
+ghost use Rattle.proof_store.specs.Goals.{IsDecided, IsDecidedIfAmple, KeptDecides, ended, from_helper, from_keeper, from_worker, is_helped, is_kept, is_solved, ob_of};
 ghost use Rattle.proof_store.specs.Kept.{CountsKept};
 ghost use Rattle.proof_store.specs.Provers.{IsSame, Proceeds, asked_by, counts, kept_by};
 ghost use Rattle.proof_store.specs.Stored.{AddsProofs, StoresNew, Told};
@@ -114,6 +114,8 @@ impl<'a, 'k, 'h, R: Threads + Sync, K: Keeper, H: Helper, G: Gate + Sync> Prover
         ensures counts { IfOk result (λ s. s.kept + s.helped + s.solved ≡ length goals.items) }
         ensures kept { IfOk result (λ s. IfSome (kept_by K.tables self.old)
             (λ t. CountsKept t (map ob_of goals.items) s.kept)) }
+        ensures kept_decides { IfOk result (λ s. IfSome (kept_by K.tables self.old)
+            (λ t. AllZip (KeptDecides t) goals.items s.decided.items)) }
         ensures draws { IfOk result (λ s. s.draws.items ≡ draws_of s.solved self.old.settings.workers) }
 
         // What the keeper holds afterwards.

@@ -1,6 +1,10 @@
 // How much obligations weigh that are gone through at a time.
-ghost use Rattle.std.specs.Prelude.{◌<◌, ◌≤◌, length};
+ghost use Rattle.std.specs.Prelude.{◌≡◌, ◌<◌, ◌≤◌, IfOk, length};
+ghost use Rattle.std.specs.List.{flat_map};
 
+use job_pool::Crew;
+use std::alloc::AllocError;
+use std::thread::Threads;
 use word_dag::{Node, Ob, Op};
 
 // How many obligations are gone through at a time at most.
@@ -58,9 +62,9 @@ pub(crate) fn gates_of(ob: &Ob) -> u64 {
     gates
 }
 
-/// Where those end that are gone through at a time, from this one on: one for each worker, and more while they weigh
-/// little.
-pub(crate) fn end_of_few<T: Weighs>(all: &[T], at: usize, workers: u32) -> usize
+// Where those end that are gone through at a time, from this one on: one for each worker, and more while they weigh
+// little.
+fn end_of_few<T: Weighs>(all: &[T], at: usize, workers: u32) -> usize
     requires { at < length all.now }
     ensures more { at < result }
     ensures within { result ≤ length all.now }
@@ -73,4 +77,21 @@ pub(crate) fn end_of_few<T: Weighs>(all: &[T], at: usize, workers: u32) -> usize
         end += 1;
     }
     end
+}
+
+/// A list cut into those that are gone through at a time.
+pub(crate) fn few_at_a_time<'a, R: Threads + Sync, T: Weighs>(
+    crew: &Crew<'_, R>,
+    all: &'a [T],
+) -> Result<Vec<&'a [T]>, AllocError>
+    ensures { IfOk result (λ pieces. flat_map (λ few. few.now) pieces.items ≡ all.now) }
+{
+    let mut pieces = Vec::new(crew.alloc);
+    let mut at = 0;
+    while at < all.len() {
+        let end = end_of_few(all, at, crew.workers);
+        pieces.push(&all[at..end])?;
+        at = end;
+    }
+    Ok(pieces)
 }

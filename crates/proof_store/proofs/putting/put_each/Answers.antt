@@ -1,49 +1,51 @@
-use Rattle.std.proofs.Common.{◌≤◌, arith, drop, length-drop, refl, rules}
-use Rattle.std.proofs.lemmas.List.Folds.{drop_split}
+use Rattle.std.proofs.Common.{arith, refl, rules}
 use Rattle.std.specs.Vec.Iter.{into_iter_items}
-use Rattle.proof_store.proofs.Puts.{all_put, few_put, put_few, put_more, put_so_far, put_start}
+use Rattle.proof_store.proofs.Pieces.{joined, next_piece, no_pieces, pieces_start}
+use Rattle.proof_store.proofs.Puts.{all_put, few_put, put_few, put_more, put_so_far, put_start, put_within}
 use Rattle.proof_store.proofs.putting.put_each.Goals as goal
 
-pub loop-at-init : goal.loop-at-init
-loop-at-init g c = record {
-  within = omega arith;
-  puts = put_start c.args.outcomes.now (g.K.Keeper.tables c.args.keeper.now) c.requires.kept c.requires.proofs;
+pub loop-few-init : goal.loop-few-init
+loop-few-init g c = record {
+  puts = put_start c.args.outcomes.now _ (g.K.Keeper.tables c.args.keeper.now) (pieces_start c.args.outcomes.now c.in_ok-few-items.few-items.items (into_iter_items c.into_iter-few-iterator.result) c.in_ok-few-items.ensures (search rules)) c.requires.kept c.requires.proofs;
   later = omega arith;
 }
 
+pub new_rows-requires-after_bounds : goal.new_rows-requires-after_bounds
+new_rows-requires-after_bounds g c κs within =
+    let is = next_piece (into_iter_items c.loop-few.few-iterator) (into_iter_items c.next.new.self) c.in-Some.few (search rules) in
+    let short = put_within c.args.outcomes.now _ c.in-Some.few.now _ (g.K.Keeper.tables c.args.keeper.now) (g.K.Keeper.tables c.loop-few.keeper) c.loop-few.invariant.puts is in
+    omega (arith, c.requires.jobs, short)
+
 pub loop-row-init : goal.loop-row-init
 loop-row-init g c =
-    let outcomes = c.args.outcomes.now in
-    let further : c.loop-at.at ≤ c.end_of_few-end.result = omega (arith, c.end_of_few-end.ensures.more, c.end_of_few-end.ensures.within) in record {
-      puts = put_few outcomes _ (drop c.end_of_few-end.result outcomes) (drop c.loop-at.at outcomes) c.in_ok-rows.rows.items _ (g.K.Keeper.tables c.args.keeper.now) (g.K.Keeper.tables c.loop-at.keeper) c.loop-at.invariant.puts
-          (drop_split outcomes c.loop-at.at c.end_of_few-end.result further) c.in_ok-rows.ensures (search rules);
-      later = c.loop-at.invariant.later;
+    let is = next_piece (into_iter_items c.loop-few.few-iterator) (into_iter_items c.next.new.self) c.in-Some.few (search rules) in record {
+      puts = put_few c.args.outcomes.now c.in-Some.few.now (joined (into_iter_items c.next.new.self)) _ c.in_ok-row-items.row-items.items _ (g.K.Keeper.tables c.args.keeper.now) (g.K.Keeper.tables c.loop-few.keeper) c.loop-few.invariant.puts is c.in_ok-row-items.ensures (search rules);
+      later = c.loop-few.invariant.later;
     }
 
 pub loop-row-preserved : goal.loop-row-preserved
 loop-row-preserved g c = record {
-  puts = put_more c.args.outcomes.now (drop c.end_of_few-end.result c.args.outcomes.now) (into_iter_items c.loop-row.row-iterator) (into_iter_items c.next.new.self) c.in-Some.row (g.K.Keeper.tables c.args.keeper.now) (g.K.Keeper.tables c.loop-row.keeper)
+  puts = put_more c.args.outcomes.now _ (into_iter_items c.loop-row.row-iterator) (into_iter_items c.next-in-loop-row.new.self) c.in-Some-row.row (g.K.Keeper.tables c.args.keeper.now) (g.K.Keeper.tables c.loop-row.keeper)
       (g.K.Keeper.tables c.put_row.new.keeper) c.loop-row.invariant.puts (search rules) c.in_ok-put_row.ensures.ok;
   later = omega (arith, c.loop-row.invariant.later, c.in_ok-put_row.ensures.faults.later);
 }
 
-pub loop-at-preserved : goal.loop-at-preserved
-loop-at-preserved g c = record {
-  within = omega (arith, c.end_of_few-end.ensures.more, c.end_of_few-end.ensures.within);
-  puts = few_put c.args.outcomes.now (drop c.end_of_few-end.result c.args.outcomes.now) (into_iter_items c.loop-row.row-iterator) (g.K.Keeper.tables c.args.keeper.now) (g.K.Keeper.tables c.loop-row.keeper) c.loop-row.invariant.puts (search rules);
+pub loop-few-preserved : goal.loop-few-preserved
+loop-few-preserved g c = record {
+  puts = few_put c.args.outcomes.now _ (into_iter_items c.loop-row.row-iterator) (g.K.Keeper.tables c.args.keeper.now) (g.K.Keeper.tables c.loop-row.keeper) c.loop-row.invariant.puts (search rules);
   later = c.loop-row.invariant.later;
 }
 
-pub returns-in_err-rows-clause-left : goal.returns-in_err-rows-clause-left
-returns-in_err-rows-clause-left g c = put_so_far c.args.outcomes.now _ _ (g.K.Keeper.tables c.args.keeper.now) (g.K.Keeper.tables c.loop-at.keeper) _ c.loop-at.invariant.puts refl
+pub returns-in_err-row-items-clause-left : goal.returns-in_err-row-items-clause-left
+returns-in_err-row-items-clause-left g c = put_so_far c.args.outcomes.now _ _ (g.K.Keeper.tables c.args.keeper.now) (g.K.Keeper.tables c.loop-few.keeper) _ c.loop-few.invariant.puts refl
 
 pub returns-in_err-put_row-clause-left : goal.returns-in_err-put_row-clause-left
 returns-in_err-put_row-clause-left g c = put_so_far c.args.outcomes.now _ _ (g.K.Keeper.tables c.args.keeper.now) (g.K.Keeper.tables c.loop-row.keeper) _ c.loop-row.invariant.puts c.in_err-put_row.ensures.err
 
 pub returns-clause-ok : goal.returns-clause-ok
 returns-clause-ok g c =
-    all_put c.args.outcomes.now (drop c.loop-at.at c.args.outcomes.now) (g.K.Keeper.tables c.args.keeper.now) (g.K.Keeper.tables c.loop-at.keeper) c.loop-at.invariant.puts
-    (omega (arith, c.loop-at-test.false, length-drop c.loop-at.at c.args.outcomes.now))
+    all_put c.args.outcomes.now (joined (into_iter_items c.loop-few.few-iterator)) (g.K.Keeper.tables c.args.keeper.now) (g.K.Keeper.tables c.loop-few.keeper) c.loop-few.invariant.puts
+    (no_pieces (into_iter_items c.loop-few.few-iterator) (search rules))
 
 pub returns-clause-left : goal.returns-clause-left
-returns-clause-left g c = put_so_far c.args.outcomes.now _ _ (g.K.Keeper.tables c.args.keeper.now) (g.K.Keeper.tables c.loop-at.keeper) _ c.loop-at.invariant.puts refl
+returns-clause-left g c = put_so_far c.args.outcomes.now _ _ (g.K.Keeper.tables c.args.keeper.now) (g.K.Keeper.tables c.loop-few.keeper) _ c.loop-few.invariant.puts refl

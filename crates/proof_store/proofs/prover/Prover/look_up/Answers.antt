@@ -1,7 +1,6 @@
 use Rattle.std.proofs.Common.{List, ap, arith, length, subst}
 use Rattle.std.specs.List.{AllZip}
-use Rattle.proof_store.specs.Lookups.{Checks, IsLookup}
-use Rattle.proof_store.specs.declared.looking.Lookup.{Lookup}
+use Rattle.proof_store.specs.Lookups.{Checks, IsLookup, Lookup}
 use Rattle.proof_store.proofs.Lookups.{all_checked}
 use Rattle.proof_store.proofs.Placed.{same_length}
 use Rattle.proof_store.proofs.prover.Prover.look_up.Goals as goal

@@ -58,6 +58,11 @@ returns-clause-ample g c =
     let f = facts (g.K.Keeper.tables c.args.self.now.keeper.now) c.args.goals.items c.in_ok-placed.placed.places.items c.in_ok-placed.placed.rest.items c.as_slice.result.now c.in_ok-placed.ensures.placed c.in_ok-placed.ensures.rest c.as_slice.ensures.value c.args.self.now.settings.budget c.in_ok-ends.field-0.ends.items (subst (λ (s : Settings). AllZip (IsShown s.budget) c.as_slice.result.now c.in_ok-ends.field-0.ends.items) c.in_ok-placed.ensures.same.2 c.in_ok-ends.ensures.ends) c.in_ok-decided.decided.items c.as_slice-all.result.now c.in_ok-decided.ensures c.as_slice-all.ensures.value in
     f.ample
 
+pub returns-clause-kept_decides : goal.returns-clause-kept_decides
+returns-clause-kept_decides g c =
+    let f = facts (g.K.Keeper.tables c.args.self.now.keeper.now) c.args.goals.items c.in_ok-placed.placed.places.items c.in_ok-placed.placed.rest.items c.as_slice.result.now c.in_ok-placed.ensures.placed c.in_ok-placed.ensures.rest c.as_slice.ensures.value c.args.self.now.settings.budget c.in_ok-ends.field-0.ends.items (subst (λ (s : Settings). AllZip (IsShown s.budget) c.as_slice.result.now c.in_ok-ends.field-0.ends.items) c.in_ok-placed.ensures.same.2 c.in_ok-ends.ensures.ends) c.in_ok-decided.decided.items c.as_slice-all.result.now c.in_ok-decided.ensures c.as_slice-all.ensures.value in
+    f.kept_decides
+
 pub returns-clause-counts : goal.returns-clause-counts
 returns-clause-counts g c =
     let f = facts (g.K.Keeper.tables c.args.self.now.keeper.now) c.args.goals.items c.in_ok-placed.placed.places.items c.in_ok-placed.placed.rest.items c.as_slice.result.now c.in_ok-placed.ensures.placed c.in_ok-placed.ensures.rest c.as_slice.ensures.value c.args.self.now.settings.budget c.in_ok-ends.field-0.ends.items (subst (λ (s : Settings). AllZip (IsShown s.budget) c.as_slice.result.now c.in_ok-ends.field-0.ends.items) c.in_ok-placed.ensures.same.2 c.in_ok-ends.ensures.ends) c.in_ok-decided.decided.items c.as_slice-all.result.now c.in_ok-decided.ensures c.as_slice-all.ensures.value in

@@ -1,8 +1,0 @@
-use Rattle.std.proofs.Common.{take}
-use Rattle.std.specs.List.{AllZip}
-use Rattle.proof_store.specs.Lookups.{IsQuery}
-use Rattle.proof_store.proofs.looking.queries_of.Given as goal
-
--- the goals so far
-abbrev pub invariant-loop-goal : goal.invariant-loop-goal
-invariant-loop-goal g l = AllZip IsQuery (take l.goal-index l.goals) l.all.items
