@@ -2,6 +2,10 @@
 """How much of a folder of RTL bin/lower puts into the subset, as Markdown tables.
 
     lower.py FOLDER [PROGRAM]
+    lower.py --cases [LOWER]
+
+With --cases it runs the texts of bench/lowering instead, each of which says in its first lines what bin/lower makes of it (cases_of has the
+words); LOWER is another bin/lower. It ends with status 1 where one of them doesn't hold.
 
 As many modules at a time as there are processors. Each module of FOLDER with a clocked block is taken as a top, with the files in which the modules below it stand. PROGRAM is a build of
 signoff, by default the one that bin/signoff has: it tells which modules are read as they are, and which once they are lowered. Where there
@@ -17,11 +21,13 @@ import sys
 import tempfile
 
 TOP = os.path.dirname(os.path.dirname(os.path.abspath(__file__)))
-MOST_SECONDS = 20
+CASES = f"{TOP}/bench/lowering"
+MOST_SECONDS = 90
 REJECTED = 3
 SET = "block {top}; clock clk; reset rst high 1; input any; property reset {{ length 0; next all; }} operation all {{ length 1; next all; }}\n"
 CAUSES = [
-    ("does not contain module|is not part of the design", "a module below isn't in the folder"),
+    ("is missing|does not contain module", "a module below isn't in the folder"),
+    ("differs from the original|a difference from the original", "the comparison finds a difference"),
     ("^includes? file|[Ii]nclude", "an include file isn't in the folder"),
     ("is a latch", "a latch"),
     ("several clocks|both edges", "several clocks, or both edges of one"),
@@ -39,15 +45,15 @@ CAUSES = [
 
 
 def ended(command):
-    """Status and what stderr or stdout says last; a command that takes too long is ended with what it started, and has no status."""
+    """Status and the lines of stderr and stdout; a command that takes too long is ended with what it started, and has no status."""
     with subprocess.Popen(command, stdin=subprocess.DEVNULL, stdout=subprocess.PIPE, stderr=subprocess.STDOUT, text=True, errors="replace",
                           start_new_session=True) as it:
         try:
             said = it.communicate(timeout=MOST_SECONDS)[0].strip().split("\n")
         except subprocess.TimeoutExpired:
             os.killpg(it.pid, signal.SIGKILL)
-            return None, "seconds"
-    return it.returncode, said[-1]
+            return None, ["seconds"]
+    return it.returncode, said
 
 
 def texts_in(folder):
@@ -71,11 +77,11 @@ def modules_in(folder):
 
 
 def lowered(top, name, files, made):
-    """Whether bin/lower writes the module, or why it doesn't; the files of modules below are added as they are missed."""
+    """Whether bin/lower writes the module, and what it tells; the files of modules below are added as they are missed."""
     taken = [name]
     while True:
         status, said = ended([f"{TOP}/bin/lower", "-I", os.path.dirname(name), "-o", made, top] + taken)
-        missing = re.search(r"Module `\\+(\w+)'.* is not part of the design", said)
+        missing = re.search(r"module (\w+) is missing", said[-1])
         if not missing or files.get(missing.group(1), name) in taken:
             return status == 0, said
         taken.append(files[missing.group(1)])
@@ -102,20 +108,97 @@ class Judge:
             done, said = lowered(top, name, self.files, made)
             if done:
                 status, last = ended(["iverilog", "-g2005", "-t", "null", made])
-                done, said = status == 0, last if status is None else "iverilog rejects what was written"
+                counts.update(compared(said))
+                done, said = status == 0, last if status is None else ["iverilog rejects what was written"]
             counts["written"] += done
             if self.program:
                 counts["as it is"] += is_read(self.program, top, name, room)
                 if done and not is_read(self.program, top, made, room):
-                    done, said = False, "written, but signoff rejects it"
+                    done, said = False, ["written, but signoff rejects it"]
                 counts["lowered"] += done
         if not done:
-            print(f"{top} in {name}: {said}", file=sys.stderr)
-        return counts, None if done else cause_of(said)
+            print(f"{top} in {name}: {said[-1]}", file=sys.stderr)
+        return counts, None if done else cause_of("\n".join(said[-2:]))
+
+
+def compared(said):
+    """Whether some cycles of what was written were compared with the original."""
+    found = [int(it) for it in re.findall(r"compared with the original in iverilog: (\d+)", "\n".join(said))]
+    return ["compared" if found and found[0] else "not compared"]
 
 
 def cause_of(said):
     return next((cause for pattern, cause in CAUSES if re.search(pattern, said)), said)
+
+
+# ---- the cases
+
+def cases_of(folder):
+    """The texts with what their first lines say: the words of bin/lower (lower), its status (0 where none is told), lines that stderr has
+    (tells) or hasn't (silent), what the text has (writes) or hasn't (lacks), and its outputs after cycles with inputs (gives)."""
+    for name in sorted(os.listdir(folder)):
+        if name.endswith((".v", ".sv")):
+            with open(f"{folder}/{name}", encoding="utf-8") as it:
+                said = re.findall(r"^// (lower|status|tells|silent|writes|lacks|gives): *(.*)$", it.read(), flags=re.M)
+            yield name, [value for key, value in said if key == "lower"][0], [it for it in said if it[0] != "lower"]
+
+
+def bench_of(text, steps, expected):
+    """A test bench that gives a module inputs, a clock edge after each step but the last, and prints its outputs."""
+    top, ports = re.match(r"module (\S+)\((.*)\);", text).groups()
+    ports = re.findall(r"(input|output) (?:wire|reg) (\[\d+:0\] )?(\S+?)(?:,|$)", ports)
+    lines = ["module bench;"] + [f"{'reg' if way == 'input' else 'wire'} {span}{name};" for way, span, name in ports]
+    lines.append(f"{top} it({', '.join(f'.{name}({name})' for _, _, name in ports)});")
+    lines.append("initial begin " + " ".join(f"{name} = 0;" for way, _, name in ports if way == "input"))
+    clock = "clk = 1; #1 clk = 0; #1" if any(name == "clk" for _, _, name in ports) else ""
+    for at, step in enumerate(steps):
+        lines += [f"{it};" for it in step.split()] + ["#1"] + ([clock] if at + 1 < len(steps) else [])
+    shown = [it.partition("=")[0] for it in expected]
+    lines.append(f'$display("{" ".join(f"{it}=%0d" for it in shown)}", {", ".join(shown)}); end')
+    return "\n".join(lines + ["endmodule", ""])
+
+
+def gives(text, value, room):
+    """What is wrong with a line that says what the text computes, or None."""
+    steps, _, expected = value.partition(" -> ")
+    with open(f"{room}/bench.v", "w", encoding="ascii") as out:
+        out.write(bench_of(text, steps.split(";"), expected.split()))
+    status, said = ended(["iverilog", "-g2005", "-s", "bench", "-o", f"{room}/bench", f"{room}/bench.v", f"{room}/made.v"])
+    if status:
+        return f"gives {value}: iverilog: {said[0]}"
+    status, said = ended(["vvp", "-n", f"{room}/bench"])
+    return None if said[-1].split() == expected.split() else f"gives {value}: it gives {said[-1]}"
+
+
+def failures(said, lower, words, room):
+    """What of a case doesn't hold."""
+    status, lines = ended([lower, "-o", f"{room}/made.v"] + words.split())
+    told = dict(said).get("status", "0")
+    if str(status) != told:
+        return [f"status {status} in the place of {told}: {lines[-1]}"]
+    text = ""
+    if os.path.exists(f"{room}/made.v"):
+        with open(f"{room}/made.v", encoding="ascii") as it:
+            text = it.read()
+    found = {"tells": lambda it: any(re.match(f"lower: {it}", line) for line in lines), "writes": lambda it: re.search(it, text),
+             "silent": lambda it: not re.search(it, "\n".join(lines)), "lacks": lambda it: text and not re.search(it, text)}
+    bad = [f"{key} {value}" for key, value in said if key in found and not found[key](value)]
+    bad += [it for it in (gives(text, value, room) for key, value in said if key == "gives") if it]
+    return bad + ([f"status {status}, and a text is written"] if status and text else [])
+
+
+def run_cases(lower):
+    """Runs all cases; the table has those that don't hold."""
+    os.chdir(CASES)
+    rows, count = [], 0
+    for name, words, said in cases_of("."):
+        count += 1
+        with tempfile.TemporaryDirectory(prefix="lower-case-") as room:
+            rows += [(name, it) for it in failures(said, lower, words, room)]
+    table(("cases", "number"), [("run", count), ("that hold", count - len({name for name, _ in rows}))])
+    if rows:
+        table(("case", "what doesn't hold"), rows)
+    return int(bool(rows))
 
 
 def table(head, rows):
@@ -128,6 +211,8 @@ def table(head, rows):
 def main(words):
     if not 1 <= len(words) <= 2:
         sys.exit(__doc__)
+    if words[0] == "--cases":
+        return run_cases(os.path.abspath(words[1]) if len(words) > 1 else f"{TOP}/bin/lower")
     program = words[1] if len(words) > 1 else f"{TOP}/crates/signoff/out/signoff"
     program = program if os.access(program, os.X_OK) else None
     files, clocked = modules_in(words[0])
@@ -137,6 +222,7 @@ def main(words):
             counts.update(counted)
             causes.update([cause] if cause else [])
     rows = [("with a clocked block", len(clocked)), ("written by bin/lower", counts["written"])]
+    rows += [("of these, the same as the original in a simulation", counts["compared"]), ("of these, not compared", counts["not compared"])]
     if program:
         rows += [("read by signoff as they are", counts["as it is"]), ("read by signoff once lowered", counts["lowered"])]
     share = lambda count: f"{100 * count / max(1, len(clocked)):.0f} %"
@@ -145,4 +231,4 @@ def main(words):
 
 
 if __name__ == "__main__":
-    main(sys.argv[1:])
+    sys.exit(main(sys.argv[1:]))
