@@ -14,7 +14,7 @@ import sys
 TOP = os.path.dirname(os.path.dirname(os.path.abspath(__file__)))
 WIDTH = 120
 # Names of other tools and of what they write.
-OTHERS = {"write_verilog", "m_0", "m_1"}
+OTHERS = {"write_verilog", "m_0", "m_1", "u_a"}
 DOCUMENTS = ["README.md", "crates/README.md", *sorted(os.path.relpath(it, TOP) for it in glob.glob(f"{TOP}/docs/*.md"))]
 
 
