@@ -1,6 +1,6 @@
 -- What is answered, and with which status.
 use Rattle.std.proofs.Common.{◌≡◌, ◌<◌, List, [], ℕ, sym, ap, ◌∙◌, subst, inl, inr, ⊎_elim, Ok, Err, Option, Some, None, Bool, true, false, refl, arith}
-use Rattle.std.specs.Prelude.{◌≢◌, ◌^◌, ◌++◌, ◌⊎◌, IfOk, Result, codes, if◌then◌else◌}
+use Rattle.std.specs.Prelude.{◌≢◌, ◌+◌, ◌^◌, ◌++◌, ◌⊎◌, ◌↔◌, IfOk, IsTrue, Result, codes, if◌then◌else◌}
 use Rattle.std.specs.Fmt.{decimal}
 use Rattle.std.specs.List.{list_any}
 use Rattle.std.specs.Io.KnownBytes.{Appends}
@@ -284,7 +284,8 @@ job_other j (All texts) book st a n p not_6 h is = task_other j.task texts.modul
 move_other : (book : Book) (st : Stores) (a : Answer) (n : ℕ) → IsApart n → AnswersMove book st a → a.status ≡ n → ⊥
 move_other book st a n p h is = ⊎_elim
     (λ (same : a ≡ refusal 8 (codes "keeper")). p.not_8 (sym (status_is a (refusal 8 (codes "keeper")) n same is)))
-    (λ (m : (m : Moved) × Told (Walks (2 ^ 40) m) st.before st.after × (a ≡ done (moved_text m))). done_other n p (status_is a (done (moved_text m.0)) n m.2 is)) h.is
+    (λ (m : (m : Moved) × Told (Walks (2 ^ 40) m) st.before st.after × (IsTrue m.more ↔ (m.moved + m.left ≡ 2 ^ 40)) × (a ≡ done (moved_text m))).
+    done_other n p (status_is a (done (moved_text m.0)) n m.3 is)) h.is
 
 service_other : (s : Service) (a b : Around) (x : Answer) (n : ℕ) → IsApart n → (9 ≡ n → ⊥) → AnswersService s a b x → x.status ≡ n → ⊥
 service_other s a b x n p not_9 h is = ⊎_elim
@@ -305,8 +306,8 @@ no_7 (Some (c.Migrate file)) read a b x h is = move_other b.desk.book (stores_of
 job_6 : (shelf : Option (List ℕ → Option (List ℕ))) (before now : ℕ) (j : Job) (read : Read) (book : Book) (st : Stores) (a : Answer) → IsRead shelf before now j read →
     AnswersJob j read book st a → a.status ≡ 6 → Rose before now
 job_6 shelf before now j NoModule book st a read h is = read
-job_6 shelf before now j NoSet book st a read h is = read
-job_6 shelf before now j NoThird book st a read h is = read
+job_6 shelf before now j NoSet book st a read h is = read.2
+job_6 shelf before now j NoThird book st a read h is = read.4
 job_6 shelf before now j (All texts) book st a read h is = absurd (task_other j.task texts.module texts.set texts.third j.budget j.workers book st a 6 apart_6 h is)
 
 -- the status 6 is a shelf's

@@ -1,5 +1,5 @@
 -- What a run answers to the words and to what was read, and what goes out.
-use Rattle.std.specs.Prelude.{◌≡◌, ℕ, ◌⊎◌, ◌+◌, ◌^◌, ◌≤◌, List, [], ◌++◌, take, Option, Some, None, IfSome, IsSomeAnd, codes, if◌then◌else◌}
+use Rattle.std.specs.Prelude.{◌≡◌, ℕ, ◌⊎◌, ◌+◌, ◌^◌, ◌≤◌, ◌↔◌, List, [], ◌++◌, take, Option, Some, None, IfSome, IsSomeAnd, IsTrue, codes, if◌then◌else◌}
 use Rattle.std.specs.Io.KnownBytes.{Appends}
 use Rattle.outside.specs.Faults.{Rose}
 use Rattle.demo_gen.specs.Texts.{module_text, set_text}
@@ -46,11 +46,12 @@ AnswersJob j NoSet book st answer = RefusesBy 6 (codes "read: " ++ j.set) book s
 AnswersJob j NoThird book st answer = RefusesBy 6 (codes "read: " ++ third_name j.task) book st answer
 AnswersJob j (All texts) book st answer = AnswersTask j.task texts.module texts.set texts.third j.budget j.workers book st answer
 
--- the keeper failed while rows were moved, or the answer tells what became of them, no line in the book
+-- the keeper failed while rows were moved, or the answer tells what became of them, and that there may be more where as many as may be were come to; no line
+-- in the book
 pub record AnswersMove (book : Book) (st : Stores) (answer : Answer) : Type 0 where
   pub empty : book.lines.items ≡ []
   pub is : (answer ≡ refusal 8 (codes "keeper"))
-      ⊎ ((m : Moved) × Told (Walks (2 ^ 40) m) st.before st.after × (answer ≡ done (moved_text m)))
+      ⊎ ((m : Moved) × Told (Walks (2 ^ 40) m) st.before st.after × (IsTrue m.more ↔ (m.moved + m.left ≡ 2 ^ 40)) × (answer ≡ done (moved_text m)))
 
 -- the same keeper, helpers and book
 abbrev pub HasSame : {R K H G : Type 0} → Checker R K H G → Checker R K H G → Type 0
@@ -120,11 +121,11 @@ IsThird shelf t.Lines text = text ≡ []
 IsThird shelf (t.Clauses name) text = text ≡ []
 IsThird shelf (t.Accept given) text = IsFile shelf 67108864 given.proof text
 
--- what was read is what the shelf has; it failed only where its count rose, and the files are read in this order
+-- what was read is what the shelf has; it failed only where its count rose, and then the files before in this order were read
 abbrev pub IsRead : Option (List ℕ → Option (List ℕ)) → ℕ → ℕ → Job → Read → Type 0
 IsRead shelf before now j NoModule = Rose before now
-IsRead shelf before now j NoSet = Rose before now
-IsRead shelf before now j NoThird = Rose before now
+IsRead shelf before now j NoSet = (m : List ℕ) × IsText shelf j.module m × Rose before now
+IsRead shelf before now j NoThird = (m : List ℕ) × (s : List ℕ) × IsText shelf j.module m × IsText shelf j.set s × Rose before now
 IsRead shelf before now j (All texts) = IsText shelf j.module texts.module × IsText shelf j.set texts.set × IsThird shelf j.task texts.third
 
 -- what was read for a command; without files nothing is
