@@ -250,6 +250,6 @@ fn usage_has_short_lines(rt: HostRuntime) -> Result<(), Fail> {
         assert!(rt; line.len() <= 80, "{line}");
     }
     let text = version(rt.alloc())?;
-    assert!(rt; shown(text.bytes()).starts_with("signoff, "));
+    assert!(rt; shown(text.bytes()).starts_with("signoff 1.0.0, "));
     Ok(())
 }
