@@ -1,15 +1,15 @@
 -- What a stage refuses after both texts were read.
-use Rattle.std.proofs.Common.{◌≡◌, ℕ, List, subst, sym}
+use Rattle.std.proofs.Common.{◌≡◌, ℕ, List}
 use Rattle.vlog_tree.specs.declared.module.Module.{Module}
 use Rattle.set_tree.specs.declared.set.Set.{Set}
 use Rattle.elab_step_design.specs.Designs.{Parts}
 use Rattle.unroll_binding.specs.declared.fault.BindFault.{BindFault}
 use Rattle.unroll_binding.specs.declared.fault.BindFault.TheVariants as b
-use Rattle.unroll_binding.specs.Binding.{Fits, Pair, Refuses as BindRefuses}
+use Rattle.unroll_binding.specs.Binding.{Refuses as BindRefuses}
 use Rattle.desk_core_faults.specs.declared.fault.ModuleFault.TheVariants as m
 use Rattle.desk_core_faults.specs.declared.fault.CheckFault.{CheckFault}
 use Rattle.desk_core_faults.specs.declared.fault.CheckFault.TheVariants as f
-use Rattle.desk_core_stages.specs.Stages.{IsBoundOf, IsDesignOf, Refuses, RefusesDesign, unbound}
+use Rattle.desk_core_stages.specs.Stages.{IsDesignOf, Refuses, RefusesDesign, unbound}
 use Rattle.desk_core_stages.specs.Texts.{IsModuleText, IsSetText}
 
 module _ (text set_text : List ℕ) (ms : List Module) (set : Set) (modules : IsModuleText text ms) (set_is : IsSetText set_text set) where
@@ -31,6 +31,3 @@ module _ (text set_text : List ℕ) (ms : List Module) (set : Set) (modules : Is
   bind_refused d design (b.ExtraInput n) h = (ms, set, modules, set_is, (d, design, h))
   bind_refused d design (b.Role n) h = (ms, set, modules, set_is, (d, design, h))
   bind_refused d design b.Memory h = tt
-
-  pub both_bound : (d : Parts) (pair : Pair) → pair ≡ record { design = d; set = set } → IsDesignOf ms set.block d → Fits d set → IsBoundOf text set_text pair
-  both_bound d pair is design fits = subst (IsBoundOf text set_text) (sym is) (record { modules = ms; module_is = modules; set_is = set_is; design_is = design; fits = fits })

@@ -1,25 +1,19 @@
 -- What the texts of checked scopes make, and which faults stand.
-use Rattle.std.proofs.Common.{◌≡◌, List, [], map, Some, inl, inr, sym, ap, subst, ◌∙◌}
-use Rattle.std.specs.List.{flat_map}
+use Rattle.std.proofs.Common.{◌≡◌, List, [], map, Some, inl, inr, sym, subst, ◌∙◌}
 use Rattle.vlog_tree.specs.declared.module.Module.{Module}
 use Rattle.vlog_tree_runs.specs.declared.flat.Flat.{Flat}
 use Rattle.vlog_tree_runs.specs.Places.{Name}
 use Rattle.vlog_tree_runs.specs.Contents.{decls_in, port_names}
-use Rattle.vlog_tree_runs.specs.Scopes.{Scope, module_at, top_scope}
-use Rattle.elab_flat_laws.specs.Flattened.{flat_signals, flat_assigns, flat_blocks, KeepsRuns}
-use Rattle.elab_flat_laws.proofs.Keeps.{keeps}
+use Rattle.vlog_tree_runs.specs.Scopes.{Scope, module_at}
 use Rattle.elab_flat_faults.specs.declared.flattening.FlatFault.{FlatFault}
 use Rattle.elab_flat_faults.specs.declared.flattening.FlatFault.TheVariants as f
 use Rattle.elab_flat_faults.specs.Declaring.{Repeats}
 use Rattle.elab_flat_faults.specs.FlatStands.{path_name, BreaksConstant, BreaksWidth, Stands}
 use Rattle.elab_flat_scopes.specs.Finding.{module_name}
-use Rattle.elab_flat_instances.specs.Unfolding.{AreUnfolded, IsOfWhole, scope_of_top}
+use Rattle.elab_flat_instances.specs.Unfolding.{AreUnfolded, IsOfWhole}
 use Rattle.elab_flat_instances.proofs.Names.{named_by_prefix}
 use Rattle.elab_flat_faults.specs.Handed.{top_port, HasTopPorts}
-use Rattle.elab_flat_faults.specs.Plain.{ArePlainTexts}
 use Rattle.elab_flat.specs.Checked.{AreChecked}
-use Rattle.elab_flat.proofs.Inputs.{inputs_are}
-use Rattle.elab_flat.proofs.Usable.{can_flatten}
 
 pub has_ports : (ms : List Module) (top : Name) (m : Module) (flat : Flat) → module_at ms top ≡ Some m → flat.ports ≡ map (top_port (decls_in m)) (port_names m) → HasTopPorts ms top flat
 has_ports ms top m flat there ports n e =
@@ -28,16 +22,6 @@ has_ports ms top m flat there ports n e =
     subst (λ z. flat.ports ≡ map (top_port (decls_in z)) (port_names z)) same ports
 
 module _ (ms : List Module) (top : Name) (ss : List Scope) (are : AreUnfolded ms top ss) (checked : AreChecked ms top ss) where
-  pub keeps_runs : ArePlainTexts ms → (m : Module) → module_at ms top ≡ Some m → (flat : Flat) → flat.signals ≡ flat_map flat_signals ss → flat.assigns ≡ flat_map (flat_assigns ms) ss →
-      flat.blocks ≡ flat_map flat_blocks ss → flat.ports ≡ map (top_port (decls_in m)) (port_names m) → KeepsRuns ms top flat
-  keeps_runs plain m there flat signals assigns blocks ports =
-      keeps ms top ss flat (record {
-        signals = signals;
-        assigns = assigns;
-        blocks = blocks;
-        inputs = inputs_are ms top m (checked (scope_of_top m) (are.scopes.each (scope_of_top m) ([], ap top_scope there))).names there flat ports;
-      }) are.scopes (can_flatten ms top ss plain are checked)
-
   pub none_stands : ((n : Name) → Repeats (map module_name ms) n → ⊥) → ((fault : FlatFault) → IsOfWhole fault → Stands ms top fault → ⊥) →
       ((n : Name) → Stands ms top (f.Clock n) → ⊥) → (fault : FlatFault) → Stands ms top fault → ⊥
   none_stands once whole timed f.NoTop h = whole f.NoTop tt h

@@ -7,7 +7,8 @@ use Rattle.vlog_tree_runs.specs.Contents.{Inner, instances_in}
 use Rattle.vlog_tree_runs.specs.Scopes.{Scope, instance_at, child, child_by, step, scope_at}
 use Rattle.elab_flat_laws.proofs.Lists.{map_append}
 use Rattle.elab_flat_laws.proofs.Listed.{one_more}
-use Rattle.elab_flat_instances.specs.Unfolding.{longer, below, HasSoundInners, AreUnfolded}
+use Rattle.elab_flat_faults.specs.Handed.{longer, below}
+use Rattle.elab_flat_instances.specs.Unfolding.{HasSoundInners, AreUnfolded}
 use Rattle.elab_flat.specs.Following.{inner_scopes, AreFollowed}
 
 map_flat : {A B C : Type 0} (f : B → C) (g : A → List B) (xs : List A) → map f (flat_map g xs) ≡ flat_map (λ x. map f (g x)) xs

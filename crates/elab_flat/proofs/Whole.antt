@@ -19,7 +19,7 @@ module _ (ms : List Module) (top : Name) (f : Flat) where
   is_flattened ss m are checked plain there joined = record {
     scopes = ss;
     all = are.scopes;
-    own = record { paths = are.paths; lead = are.lead; distinct = are.distinct };
+    own = record { paths = are.paths; lead = are.lead; distinct = are.distinct; in_order = are.in_order };
     texts = record {
       signals = joined.signals;
       assigns = joined.assigns;

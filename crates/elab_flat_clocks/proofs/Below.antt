@@ -6,7 +6,6 @@ use Rattle.std.proofs.lemmas.Bool.{cases_Bool, eqb-true}
 use Rattle.std.proofs.lemmas.Slice.Eq.{bytes_eq-Decides}
 use Rattle.vlog_tree.specs.declared.expr.Expr.{Expr}
 use Rattle.vlog_tree.specs.declared.expr.Expr.TheVariants as e
-use Rattle.vlog_tree.specs.declared.expr.Name.{Name as Read}
 use Rattle.std.proofs.lemmas.List.{append_assoc}
 use Rattle.vlog_tree.specs.declared.module.Module.{Module}
 use Rattle.vlog_tree_runs.specs.Places.{Name, Among, read}
@@ -22,11 +21,6 @@ use Rattle.elab_flat_clocks.proofs.Inputs.{is_bit, bit_is}
 
 same_name : (x y : Name) → bytes_eq x y ≡ true → x ≡ y
 same_name x y e = (bytes_eq-Decides x y).0 e
-
--- an expression that is no name isn't reached
-pub not_reached : (t : List Link) (a : Expr) → ((r : Read) → a ≡ e.Name r → ⊥) → None ≡ reached t (Some a)
-not_reached t (e.Name r) no' = absurd (no' r refl)
-not_reached t a no' = refl
 
 -- a name that is reached is read in the present row
 named : (t : List Link) (o : Option Expr) (y : Name) → reached t o ≡ Some y → (z : Name) × (o ≡ Some (e.Name (read z))) × (input_at t z ≡ Some y)

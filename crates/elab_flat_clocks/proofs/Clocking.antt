@@ -36,9 +36,6 @@ use Rattle.elab_flat_clocks.proofs.Driven.{timed_driven, driven_timed, path_of}
 
 -- ---- one clock of a list
 
-pub no_clock : (us : List Timed) → us ≡ [] → IsClockAmong us None
-no_clock us none y = (λ e. let z : None ≡ Some y = e in cc, λ h. absurd (subst (λ xs. Among xs h.0) none h.1))
-
 pub only_clock : (us : List Timed) (y : Name) → ((u : Timed) → Among us u → u.clock ≡ y) → (w : Timed) → Among us w → IsClockAmong us (Some y)
 only_clock us y all w a z = (λ e. let same : y ≡ z = cc in (w, a, all w a ∙ same), λ h. ap Some (sym (all h.0 h.1) ∙ h.2))
 

@@ -93,12 +93,6 @@ module _ (t : List Link) where
               resets = resets_from ms top back table (option_map reset_meant m.reset) u.reset r.1;
             }
 
-    pub driven_none : o ≡ None → IsDrivenBy t edges body None
-    driven_none none ms top back table u = (
-      λ h. absurd ((subst (IsTimingOf edges body) none timing h.clock h.reset).0 h.waits),
-      λ h. let z : None ≡ Some u = h in cc,
-    )
-
   pub untimed : (edges : List Edge) (body : Stmt) (o : Option Timed) → IsDrivenBy t edges body o → o ≡ None → IsUntimed t edges body
   untimed edges body o by none ms top back table y h =
       let r = timed_driven ms top back edges body y h in
@@ -139,15 +133,6 @@ module _ (t : List Link) (k : Block) where
               let same : u ≡ w = cc in inl same) (λ b. absurd b) a;
           driven = λ z es edge a h b. ⊎_elim (λ e. (u, of_site ms top z path es u e (same_edges z path es e h) here)) (λ c. absurd c) a;
         }
-
-    -- one that has no edge
-    pub empty_edges : o ≡ None → edges ≡ [] → AreTimingsBy t (k ∷ []) []
-    empty_edges none no' ms top path table = record {
-      waited = λ u a. absurd a;
-      whole = λ w z a h.
-          ⊎_elim (λ e. let two : None ≡ Some w = sym none ∙ (by ms top (reverse path) table w).0 (at_site ms top z path h.0 w e (same_edges z path h.0 e h.1) h.2) in cc) (λ b. absurd b) a;
-      driven = λ z es edge a h b. ⊎_elim (λ e. absurd (subst (λ xs. Among xs edge) (same_edges z path es e h ∙ no') b)) (λ c. absurd c) a;
-    }
 
     pub breaks : o ≡ None → (s : Scope) (edge : Edge) → Among edges edge → (n : Name) → n ≡ s.prefix ++ edge.name → BreaksTiming s t k (f.Clock n)
     breaks none s edge a n e = (edges, is, untimed t edges k.body o by none, edge, a, e)

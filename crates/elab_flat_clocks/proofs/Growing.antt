@@ -13,7 +13,8 @@ use Rattle.vlog_tree_runs.specs.Scopes.{Scope, child, scope_at}
 use Rattle.elab_flat_faults.specs.declared.flattening.FlatFault.{FlatFault}
 use Rattle.elab_flat_faults.specs.FlatStands.{Refuses}
 use Rattle.elab_flat_instances.specs.declared.scope.Scope.{Scope as Instance}
-use Rattle.elab_flat_instances.specs.Unfolding.{scope_meant, below, AreUnfolded}
+use Rattle.elab_flat_faults.specs.Handed.{below}
+use Rattle.elab_flat_instances.specs.Unfolding.{scope_meant, AreUnfolded}
 use Rattle.elab_flat_instances.proofs.Children.{among_get, refuses_map}
 use Rattle.elab_flat_names.specs.Rows.{StandsAlone}
 use Rattle.elab_flat_clocks.specs.Tables.{Link, IsTable}

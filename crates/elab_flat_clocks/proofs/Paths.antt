@@ -12,7 +12,8 @@ use Rattle.vlog_tree_runs.specs.Scopes.{Scope, child, child_by, step, instance_a
 use Rattle.elab_flat_laws.proofs.Lists.{among_map, map_among, among_flat, flat_among, flat_append}
 use Rattle.elab_flat_laws.proofs.Apart.{none_stays, instance_found}
 use Rattle.elab_flat_laws.proofs.Listed.{one_more}
-use Rattle.elab_flat_instances.specs.Unfolding.{longer, below, AreUnfolded, HasSoundInners}
+use Rattle.elab_flat_faults.specs.Handed.{longer, below}
+use Rattle.elab_flat_instances.specs.Unfolding.{AreUnfolded, HasSoundInners}
 use Rattle.elab_flat_instances.proofs.Children.{among_get}
 
 longer_is : (q z : List Name) (o : Option Scope) → Among (longer q o) z → (x : Name) × (q ++ x ∷ [] ≡ z)

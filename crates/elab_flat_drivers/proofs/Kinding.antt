@@ -95,17 +95,6 @@ module _ (m : Flat) (x : Name) where
   rightly f g h (inr (inr (inr (inl d)))) = g (inr d)
   rightly f g h (inr (inr (inr (inr d)))) = h d
 
-  pub wrongly_declared : IsMisdeclared m x → IsWronglyAssigned m x
-  wrongly_declared (inl d) = inl d
-  wrongly_declared (inr d) = inr (inl d)
-
-  pub wrongly_formed : IsMisformed m x → IsWronglyAssigned m x
-  wrongly_formed (inl d) = inr (inr (inl d))
-  wrongly_formed (inr d) = inr (inr (inr (inl d)))
-
-  pub wrongly_torn : IsMixed m x → IsWronglyAssigned m x
-  wrongly_torn d = inr (inr (inr (inr d)))
-
 -- a list of names that the code made
 pub made : {A : Type 0} (f : A → List Name) (xs ys : List A) (slice items : List (Bor Name)) → slice ≡ items → map name_meant items ≡ flat_map f xs → xs ≡ ys → map name_meant slice ≡ flat_map f ys
 made f xs ys slice items e g h = ap (map name_meant) e ∙ (g ∙ ap (flat_map f) h)

@@ -1,12 +1,13 @@
 -- What a module without instances has of the top's header, and which clocks it has (IEEE 1364-2005, sections 9.7.4 and 12.3).
-use Rattle.std.specs.Prelude.{◌≡◌, ◌↔◌, ◌+◌, ◌≤◌, ◌^◌, Bool, List, Some, map, reverse}
+use Rattle.std.specs.Prelude.{◌≡◌, ◌↔◌, ◌+◌, ◌≤◌, ◌^◌, Bool, List, [], ◌∷◌, ◌++◌, Option, Some, None, map, reverse}
+use Rattle.std.specs.List.{flat_map}
 use Rattle.vlog_tree.specs.declared.module.Module.{Module}
 use Rattle.vlog_tree.specs.declared.stmt.Edge.{Edge}
 use Rattle.vlog_tree_runs.specs.declared.flat.Flat.{Flat}
 use Rattle.vlog_tree_runs.specs.declared.flat.Signal.{Signal}
 use Rattle.vlog_tree_runs.specs.declared.flat.TopPort.{TopPort}
 use Rattle.vlog_tree_runs.specs.Places.{Name, Among}
-use Rattle.vlog_tree_runs.specs.Contents.{Decl, decls_in, declares, port_names, Block}
+use Rattle.vlog_tree_runs.specs.Contents.{Decl, decls_in, declares, port_names, Block, instances_in}
 use Rattle.vlog_tree_runs.specs.Scopes.{Scope, scope_at, module_at}
 use Rattle.elab_flat_laws.specs.Flattened.{AreScopes, CanFlatten, IsFlatOf}
 use Rattle.elab_flat_faults.specs.Clocks.{Reaches, WaitsFor, Reset}
@@ -43,13 +44,26 @@ HasNoMemories f = (g : Signal) → Among f.signals g → g.depth ≡ 0
 
 -- ---- texts
 
--- each scope of a list stands at a path of its own
+-- the paths that are one instance longer
+abbrev pub longer : List Name → Option Scope → List (List Name)
+longer path None = []
+longer path (Some s) = map (λ i. path ++ i.name ∷ []) (instances_in s.module')
+
+abbrev pub below : List Module → Name → List Name → List (List Name)
+below ms top path = longer path (scope_at ms top path)
+
+-- the top's path and then, path after path, those one instance longer
+abbrev pub AreInOrder : List Module → Name → List (List Name) → Type 0
+AreInOrder ms top paths = paths ≡ [] ∷ flat_map (below ms top) paths
+
+-- each scope of a list stands at a path of its own, and the paths in their order
 pub record HaveOwnPaths (ms : List Module) (top : Name) (ss : List Scope) : Type 0 where
   pub paths : List (List Name)
   pub lead : map Some ss ≡ map (scope_at ms top) paths
   pub distinct : AreDistinct paths
+  pub in_order : AreInOrder ms top paths
 
--- the texts of the instances one after another, each instance told at a path of its own
+-- the texts of the instances one after another, in the order of their paths, each instance told at a path of its own
 pub record IsFlattened (ms : List Module) (top : Name) (f : Flat) : Type 0 where
   pub scopes : List Scope
   pub all : AreScopes ms top scopes

@@ -1,5 +1,5 @@
 -- A parameter without a value is a fault at its scope, or at the scope that overrides it.
-use Rattle.std.proofs.Common.{ℕ, ◌≡◌, ◌++◌, Bool, true, false, List, Option, Some, None, inl, inr, refl, sym, ap, subst, ◌∙◌, take}
+use Rattle.std.proofs.Common.{ℕ, ◌≡◌, ◌++◌, Bool, true, false, List, Option, Some, inl, inr, refl, sym, ap, subst, ◌∙◌, take}
 use Rattle.std.specs.List.{slice_get}
 use Rattle.vlog_tree.specs.declared.expr.Expr.{Expr}
 use Rattle.vlog_tree.specs.declared.item.Range.{Range}
@@ -105,10 +105,6 @@ module _ (ms : List Module) (s : Scope) (i : Inner) (m : Module) (among : Among 
   near (b.Given cause) h =
       let o = overridden (is_open m p) (given_at (overriding m i.overrides) p.name) h.0 h.1 in
       inl (given_value h.0 o.0 o.1 cause h.2)
-
--- the module of an instance isn't there
-pub unknown_module : (ms : List Module) (s : Scope) (i : Inner) → Among (instances_in s.module') i → module_at ms i.of_module ≡ None → StandsNear ms s i (f.Unknown (s.prefix ++ i.name))
-unknown_module ms s i among none = inl (λ path. inl (inr (inr (i, among, (none, refl)))))
 
 -- what the code answers for a parameter without a value
 pub child_fault : (ms : List Module) (s : Scope) (i : Inner) (m : Module) → Among (instances_in s.module') i → module_at ms i.of_module ≡ Some m → (ds : List Given) → ds ≡ overriding m i.overrides →

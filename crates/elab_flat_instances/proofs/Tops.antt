@@ -53,9 +53,6 @@ pub plain_of : (ms : List Module) (top : Name) (o : Option Name) → IsRecursion
 plain_of ms top None h none = h
 plain_of ms top (Some n) h none = absurd (none n refl)
 
-pub recursive_of : (ms : List Module) (top : Name) (o : Option Name) (n : Name) → IsRecursionAnswer ms top o → o ≡ Some n → Stands ms top (f.Recursion n)
-recursive_of ms top o n h e = subst (IsRecursionAnswer ms top) e h
-
 pub if_ok : {A E : Type 0} (r : Result A E) (X : Type 0) → X → IfOk r (λ v. X)
 if_ok (Ok v) X h = h
 if_ok (Err v) X h = tt

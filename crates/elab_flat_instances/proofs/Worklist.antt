@@ -13,7 +13,8 @@ use Rattle.elab_flat_laws.proofs.Lists.{among_append, among_map, map_among, amon
 use Rattle.elab_flat_laws.proofs.Apart.{none_stays, instance_found}
 use Rattle.elab_flat_laws.proofs.Listed.{IsClosed, are_scopes, one_more}
 use Rattle.elab_flat_faults.specs.FlatStands.{AreDistinct, HasMore}
-use Rattle.elab_flat_instances.specs.Unfolding.{AreChildren, IsSoundInner, HasSoundInners, longer, below, AreUnfolded}
+use Rattle.elab_flat_faults.specs.Handed.{longer, below}
+use Rattle.elab_flat_instances.specs.Unfolding.{AreChildren, IsSoundInner, HasSoundInners, AreUnfolded}
 use Rattle.elab_flat_scopes.specs.Finding.{place_in}
 use Rattle.elab_flat_instances.specs.Graph.{instance_names}
 
@@ -184,9 +185,6 @@ module _ (ms : List Module) (top : Name) where
       more_scopes =
           let fresh = new_scopes ms top p s reached 0 (instances_in s.module') ts made in
           map_append Some ss ts ∙ ((λ z. u.scopes z ++ fresh z) ∙ sym (map_append (scope_at ms top) u.paths new))
-
-      long_enough : k < length u.paths
-      long_enough = slice_get_within u.paths k p (path_at k s at).1
 
       one_more_taken : {X : Type 0} (xs ys : List X) (x : X) → slice_get xs k ≡ Some x → take (k + 1) (xs ++ ys) ≡ take k xs ++ x ∷ []
       one_more_taken xs ys x e =

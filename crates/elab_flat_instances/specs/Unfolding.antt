@@ -1,6 +1,5 @@
 -- The instances of a scope, and what is wrong with one.
-use Rattle.std.specs.Prelude.{ℕ, suc, ◌≡◌, ◌⊎◌, ◌++◌, List, [], ◌∷◌, Option, Some, None, map}
-use Rattle.std.specs.List.{flat_map}
+use Rattle.std.specs.Prelude.{ℕ, suc, ◌≡◌, ◌⊎◌, List, [], ◌∷◌, Some, map}
 use Rattle.vlog_tree.specs.declared.module.Module.{Module}
 use Rattle.vlog_tree_runs.specs.Places.{Name, Among}
 use Rattle.vlog_tree_runs.specs.Contents.{params_in, Inner, instances_in}
@@ -9,6 +8,7 @@ use Rattle.elab_flat_laws.specs.Flattened.{AreScopes}
 use Rattle.elab_flat_faults.specs.declared.flattening.FlatFault.{FlatFault}
 use Rattle.elab_flat_faults.specs.declared.flattening.FlatFault.TheVariants as f
 use Rattle.elab_flat_faults.specs.FlatStands.{StandsAt, AreDistinct}
+use Rattle.elab_flat_faults.specs.Handed.{AreInOrder}
 use Rattle.elab_flat_params.specs.declared.unfit.BadParam.{BadParam}
 use Rattle.elab_flat_params.specs.declared.unfit.BadParam.TheVariants as b
 use Rattle.elab_flat_params.specs.declared.unfit.BadRange.{BadRange}
@@ -75,21 +75,13 @@ AreChildren ms s k (i ∷ is) [] = ⊥
 abbrev pub StandsBelow : List Module → Scope → FlatFault → Type 0
 StandsBelow ms s fault = StandsIn ms s fault ⊎ ((i : Inner) × (instance_at (instances_in s.module') i.name ≡ Some i) × (t : Scope) × (child ms s i ≡ Some t) × StandsIn ms t fault)
 
--- the paths that are one instance longer
-abbrev pub longer : List Name → Option Scope → List (List Name)
-longer path None = []
-longer path (Some s) = map (λ i. path ++ i.name ∷ []) (instances_in s.module')
-
-abbrev pub below : List Module → Name → List Name → List (List Name)
-below ms top path = longer path (scope_at ms top path)
-
--- all scopes of a list of modules, the instances of each with sound parameters. Their paths are the top's and then, path after path, those one instance longer
+-- all scopes of a list of modules in the order of their paths, the instances of each with sound parameters
 pub record AreUnfolded (ms : List Module) (top : Name) (ss : List Scope) : Type 0 where
   pub scopes : AreScopes ms top ss
   pub sound : (s : Scope) → Among ss s → HasSoundInners ms s
   pub paths : List (List Name)
   pub lead : map Some ss ≡ map (scope_at ms top) paths
-  pub in_order : paths ≡ [] ∷ flat_map (below ms top) paths
+  pub in_order : AreInOrder ms top paths
   pub distinct : AreDistinct paths
 
 -- the scope of a module that is the top

@@ -1,5 +1,5 @@
 -- What an instance's outputs are connected to.
-use Rattle.std.proofs.Common.{◌≡◌, inl, inr, Bool, true, false, not, List, map, Option, Some, None, Bor, refl, sym, ap, subst, ◌∙◌}
+use Rattle.std.proofs.Common.{◌≡◌, inl, inr, Bool, true, false, not, List, map, Option, Some, Bor, refl, sym, ap, subst, ◌∙◌}
 use Rattle.std.specs.Prelude.{IsTrue, ◌↔◌}
 use Rattle.std.specs.Option.{option_copied}
 use Rattle.std.proofs.lemmas.Bool.{cases_Bool}
@@ -37,9 +37,6 @@ module _ (ports : List Decl) (ns : List Name) (d : Given) (port : Decl) (at : de
 
   pub by_value : port.input ≡ false → port.output ≡ true → (r : Bool) → r ≡ is_assignable ns d.value → IsTrue (not r) ↔ IsBadGiven ports ns d
   by_value i o r g = (λ t. (port, at, i, o, sym g ∙ not_false r t), λ h. ap not (g ∙ h.4))
-
-pub no_port : (ports : List Decl) (ns : List Name) (d : Given) → decl_at ports d.name ≡ None → IsBadGiven ports ns d → ⊥
-no_port ports ns d none (other, e, i, o, u) = let z : None ≡ Some other = sym none ∙ e in cc
 
 -- ---- the outputs of an instance
 

@@ -1,32 +1,20 @@
 -- What expressions give parameters.
 use Rattle.std.proofs.Common.{ℕ, ◌≡◌, ◌<◌, ◌^◌, ◌%◌, ◌/◌, max, Bool, List, Option, Some, None, refl, sym, ap, subst, ◌∙◌, arith}
-use Rattle.std.proofs.Math.Nat.{mod-eq_of_lt, max-zero, div-one}
 use Rattle.vlog_tree.specs.declared.expr.Constant.{Constant}
 use Rattle.vlog_tree.specs.declared.expr.Expr.{Expr}
 use Rattle.vlog_tree.specs.declared.item.Range.{Range}
 use Rattle.vlog_tree.specs.declared.valuation.Entry.{Entry}
 use Rattle.vlog_tree.specs.Valuation.{IsLength}
-use Rattle.vlog_tree.specs.Value.{width_of, sign_of, value_of, assigned}
+use Rattle.vlog_tree.specs.Value.{width_of, sign_of, assigned}
 use Rattle.vlog_tree_runs.specs.Contents.{Param}
 use Rattle.vlog_tree_runs.specs.Scopes.{width_in, lowest_in, sign_in, converted}
 use Rattle.elab_flat_params.specs.declared.range.Vector.{Vector}
 use Rattle.elab_flat_params.specs.declared.unfit.Unfit.{Unfit}
-use Rattle.elab_flat_params.specs.Constants.{IsConstant, IsUnfit}
-use Rattle.elab_flat_params.specs.Values.{HasBits, width_with, low_with, sign_with, Converts, IsValue, IsUnfitValue, StandsFor}
+use Rattle.elab_flat_params.specs.Constants.{IsUnfit}
+use Rattle.elab_flat_params.specs.Values.{HasBits, width_with, low_with, sign_with, Converts, IsUnfitValue, StandsFor}
 
 max_self : (n : ℕ) → max n n ≡ n
 max_self n = grind arith
-
--- at its own length
-pub alone_value : (v : List Entry) (a : Expr) (x : ℕ) → x ≡ value_of v a (max (width_of v a) 0) (sign_of v a) → x < 2 ^ max (width_of v a) 0 → x ≡ assigned v a (width_of v a)
-alone_value v a x is fits =
-    let w = width_of v a in
-    let at : value_of v a (max w w) (sign_of v a) ≡ x = ap (λ n. value_of v a n (sign_of v a)) (max_self w ∙ sym (max-zero w)) ∙ sym is in
-    sym (ap (λ y. y % 2 ^ w) at ∙ mod-eq_of_lt (subst (λ n. x < 2 ^ n) (max-zero w) fits))
-
--- in a vector
-pub vector_value : (v : List Entry) (a : Expr) (n x y : ℕ) → x ≡ value_of v a (max (width_of v a) n) (sign_of v a) → y ≡ x / 2 ^ 0 % 2 ^ n → y ≡ assigned v a n
-vector_value v a n x y is cut = cut ∙ ap (λ z. z % 2 ^ n) (div-one x ∙ is)
 
 -- the declared bits are those of the range
 module _ (v : List Entry) where
@@ -69,9 +57,6 @@ module _ (p : Param) (done : List Entry) (d : Option Vector) (bits : HasBits don
         length = c.length;
         fits = c.fits;
       }
-
-  pub is_value : (k : Constant) → Converts v a p.shape.signed d k → IsValue v a p done
-  is_value k c = subst (λ n. IsConstant v a (max (width_of v a) n)) (sym (same_width done p.shape.range d 0 bits)) c.constant
 
   pub unfit_value : (cause : Unfit) → IsUnfit v a (max (width_of v a) (width_with d 0)) cause → IsUnfitValue v a p done cause
   unfit_value cause u = subst (λ n. IsUnfit v a (max (width_of v a) n) cause) (sym (same_width done p.shape.range d 0 bits)) u

@@ -56,12 +56,6 @@ no_fault m ds outer sound k cause h =
     param_fits h.0 (override_of (is_open m h.0) (given_at ds h.0.name)) outer (take k (params_of m ds outer)) (sound_at m ds outer k h.0 sound h.1) cause h.2
 
 module _ (ms : List Module) (s : Scope) (i : Inner) (is : IsSoundInner ms s i) where
-  pub has_module : module_at ms i.of_module ≡ None → ⊥
-  has_module none = no_scope (subst (λ o. scope_in s i o ≡ Some is.scope) none is.is_child.child_is)
-    where
-      no_scope : None ≡ Some is.scope → ⊥
-      no_scope e = cc
-
   module _ (m : Module) (there : module_at ms i.of_module ≡ Some m) where
     child_sound : AreSound m (params_in m) (overriding m i.overrides) s.params []
     child_sound =

@@ -12,7 +12,6 @@ use Rattle.vlog_tree_runs.specs.Scopes.{Scope, signal_of, place_of}
 use Rattle.elab_flat_faults.specs.Constants.{at_rest}
 use Rattle.elab_flat_scopes.specs.declared.decl.Decl.{Decl as View}
 use Rattle.elab_flat_scopes.specs.Borrowed.{decl_meant}
-use Rattle.elab_flat_scopes.proofs.Finding.{cut}
 use Rattle.elab_flat_widths.specs.Ranges.{resting, resting_word}
 
 -- ---- words
@@ -51,14 +50,6 @@ pub at_rest_is : (s : Scope) → s.params ++ flat_map resting (map (signal_of s.
 at_rest_is s = ap (λ f. s.params ++ flat_map f (map (signal_of s.params) (signals_in s.module'))) (λ i g. sym (entries_are s.prefix g) i)
 
 module _ (v : List Entry) (ds : List View) (i : ℕ) where
-  pub signal_added : (d : View) → i < length ds → d ≡ get_or ds i d → (old new whole : List Entry) (g : Signal) → g ≡ signal_of v (decl_meant d) → new ≡ old ++ resting g →
-      old ++ flat_map resting (map (signal_of v) (map decl_meant (drop i ds))) ≡ whole → new ++ flat_map resting (map (signal_of v) (map decl_meant (drop (i + 1) ds))) ≡ whole
-  signal_added d lt at old new whole g is put inv =
-      let later = flat_map resting (map (signal_of v) (map decl_meant (drop (i + 1) ds))) in
-      let here : flat_map resting (map (signal_of v) (map decl_meant (drop i ds))) ≡ resting (signal_of v (decl_meant d)) ++ later =
-      ap (λ z. flat_map resting (map (signal_of v) (map decl_meant z))) (cut ds i d lt at ∙ ap (λ k. d ∷ drop k ds) (sym (add-one i))) in
-      ap (λ z. z ++ later) put ∙ (append_assoc old (resting g) later ∙ (ap (λ z. old ++ (resting z ++ later)) is ∙ (ap (λ z. old ++ z) (sym here) ∙ inv)))
-
   pub signals_done : length ds ≤ i → (all whole : List Entry) → all ++ flat_map resting (map (signal_of v) (map decl_meant (drop i ds))) ≡ whole → all ≡ whole
   signals_done le all whole inv =
       sym (append-nil all) ∙ subst (λ z. all ++ flat_map resting (map (signal_of v) (map decl_meant z)) ≡ whole) (drop_of_length-le ds {i = i} le) inv

@@ -13,13 +13,11 @@ use Rattle.vlog_tree_runs.specs.Blocks.{widest, all_signed, exprs_in, any_matche
 use Rattle.elab_step_expr.specs.declared.leaves.Leaf.{Leaf}
 use Rattle.elab_step_expr.specs.Leaves.{valued, AreReady}
 use Rattle.elab_step_expr.specs.Nodes.{number_at, words, Makes, IsNode}
-use Rattle.elab_step_expr.specs.Terms.{HasNode}
 use Rattle.elab_step_expr.proofs.Kept.{node_kept, number_kept, made_node, made_number, valued_kept, ready_kept, keeps_then}
-use Rattle.elab_step_expr.proofs.Shaped.{value_made}
 use Rattle.elab_step_blocks.specs.Ready.{ArePlaced}
 use Rattle.elab_step_blocks.specs.Cases.{each_labels, is_chosen, AreMatches}
-use Rattle.elab_step_blocks.proofs.Joins.{take_next, take_all}
-use Rattle.elab_step_blocks.proofs.Labelling.{drop_at, drop_all, widest_append, signed_append, Longest, longest_end}
+use Rattle.elab_step_blocks.proofs.Joins.{take_next}
+use Rattle.elab_step_blocks.proofs.Labelling.{drop_at, widest_append, signed_append, Longest}
 
 -- ---- labels of items
 
@@ -42,10 +40,6 @@ longest_item v items i x d n k m s o t lt is w g h =
       ap (λ z. max z (widest v rest)) w ∙ (max_max n (widest v xs) (widest v rest) ∙ (ap (max n) (sym (ap (widest v) here ∙ widest_append v xs rest)) ∙ h.0)),
       ap (λ z. z && all_signed v rest) g ∙ (and_and s (all_signed v xs) (all_signed v rest) ∙ (ap (λ z. s && z) (sym (ap (all_signed v) here ∙ signed_append v xs rest)) ∙ h.1)),
     )
-
-pub longest_items : (v : List Entry) (items : List CaseItem) (i n m : ℕ) (s t : Bool) → length items ≤ i → Longest v n s (each_labels (drop i items)) m t → (n ≡ m) × (s ≡ t)
-longest_items v items i n m s t le h =
-    longest_end v [] 0 n m s t (omega arith) (subst (λ z. Longest v n s (each_labels z) m t) (drop_all items i le) h)
 
 formed_left : (v : List Entry) (xs ys : List Expr) → each_formed v (xs ++ ys) → each_formed v xs
 formed_left v [] ys h = tt
@@ -100,15 +94,6 @@ pub record Matching (kind : CaseKind) (ls : List Leaf) (a : Expr) (n : ℕ) (s :
   pub value : (e : Naming) → number_at e now node ≡ value_of (valued ls (words e old)) a n s
   pub matches : AreMatches kind ls a n s old is zs now
 
-pub matching_start : (kind : CaseKind) (ls : List Leaf) (a : Expr) (n : ℕ) (s : Bool) (old now : List Node) (node : ℕ) → AreReady ls old → Keeps old now → HasNode ls old now a n s node → Matching kind ls a n s old node [] [] now
-matching_start kind ls a n s old now node ready keeps has = record {
-  keeps = keeps;
-  ready = ready_kept ls old now keeps ready;
-  subject = has.node;
-  value = λ e. made_number e now node n _ (value_made ls old now a n s node has);
-  matches = tt;
-}
-
 pub matching_next : (kind : CaseKind) (ls : List Leaf) (a : Expr) (n : ℕ) (s : Bool) (old now new : List Node) (node k z : ℕ) (items : List CaseItem) (zs ys : List ℕ) (x d : CaseItem) → AreReady ls old → Matching kind ls a n s old node (take k items) zs now
     → Keeps now new → k < length items → x ≡ get_or items k d → Makes new z 1 (λ e. bit (is_chosen kind (valued ls (words e now)) n s (number_at e now node) x.labels)) → ys ≡ zs ++ z ∷ [] → Matching kind ls a n s old node (take (k + 1) items) ys new
 matching_next kind ls a n s old now new node k z items zs ys x d ready h keeps lt is made pushed = record {
@@ -119,6 +104,3 @@ matching_next kind ls a n s old now new node k z items zs ys x d ready h keeps l
   matches = rw (pushed, take_next items k x d lt is) (matches_push kind ls a n s old new (take k items) zs x z (matches_kept kind ls a n s old now new (take k items) zs keeps h.matches) (made_node new z 1 _ made)
       (λ e. made_number e new z 1 _ made ∙ λ i. bit (is_chosen kind (valued_kept e ls old now h.keeps ready i) n s (h.value e i) x.labels)));
 }
-
-pub matching_end : (kind : CaseKind) (ls : List Leaf) (a : Expr) (n : ℕ) (s : Bool) (old now : List Node) (node k : ℕ) (items : List CaseItem) (zs : List ℕ) → length items ≤ k → Matching kind ls a n s old node (take k items) zs now → AreMatches kind ls a n s old items zs now
-matching_end kind ls a n s old now node k items zs le h = subst (λ (is : List CaseItem). AreMatches kind ls a n s old is zs now) (take_all items k le) h.matches

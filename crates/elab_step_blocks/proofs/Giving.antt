@@ -19,7 +19,7 @@ use Rattle.elab_step_expr.specs.declared.leaves.Leaf.{Leaf}
 use Rattle.elab_step_expr.specs.Leaves.{entry_of, declared, AreReady, with_node}
 use Rattle.elab_step_expr.specs.declared.nodes.Wire.{Wire}
 use Rattle.elab_step_expr.specs.Nodes.{IsNode, IsWire, number_at, wire_word}
-use Rattle.elab_step_expr.proofs.Kept.{node_kept, number_kept, word_is, keeps_then, keeps_same}
+use Rattle.elab_step_expr.proofs.Kept.{node_kept, number_kept, word_is, keeps_then}
 use Rattle.elab_step_blocks.specs.declared.targets.Spot.{Spot}
 use Rattle.elab_step_blocks.specs.declared.targets.Spot.TheVariants as s
 use Rattle.elab_step_blocks.specs.declared.targets.Target.{Target}
@@ -159,9 +159,6 @@ pub record Giving (all rest : List Target) (n left : ℕ) (ls : List Leaf) (a : 
   pub same : declared ms ≡ declared ls
   pub left_is : left ≡ bits_in rest
   pub gives : (e : Naming) (d : Cycle) → AreShown e a ls d → (c : Cycle) × AreShown e b ms c × ((x : Name) → give (pieces_of e a ls all) (number_at e a n) d x ≡ give (pieces_of e a ls rest) (number_at e a n) c x)
-
-pub giving_none : (ts : List Target) (n left : ℕ) (ls : List Leaf) (a : List Node) → AreReady ls a → left ≡ bits_in ts → Giving ts ts n left ls a ls a
-giving_none ts n left ls a r is = record { keeps = keeps_same a; ready = r; same = refl; left_is = is; gives = λ e d h. (d, h, λ x. refl) }
 
 pub total_bits : (e : Naming) (ns : List Node) (ls : List Leaf) (ts : List Target) → bits_in ts ≡ total (pieces_of e ns ls ts)
 total_bits e ns ls [] = refl

@@ -280,21 +280,6 @@ default_is o place items k d body p q x at lt is =
 pub default_away : (o : Bool) (place : Place) (items : List CaseItem) (k : ℕ) (p q : Cycle) (x : Name) → IsDefaultAt items k → length items ≤ k → each_default o place items p q x ≡ q x
 default_away o place items k p q x at le = at.skipped o place p q x ∙ ap (λ (xs : List CaseItem). each_default o place xs p q x) (drop_all items k le)
 
-pub default_runs : (reads : Option (List Leaf)) (items : List CaseItem) (k : ℕ) (d : CaseItem) (body : Stmt) (ms os : List Leaf) (a b : List Node) → IsDefaultAt items k → k < length items → body ≡ (get_or items k d).body
-    → Runs reads (λ gs. run (is_at_once reads) (flat gs) body) ms a os b → Runs reads (λ gs. each_default (is_at_once reads) (flat gs) items) ms a os b
-default_runs reads items k d body ms os a b at lt is runs gs e p q leaves before now =
-    shown_same e os b _ _ (λ x. default_is (is_at_once reads) (flat gs) items k d body p q x at lt is) (runs gs e p q leaves before now)
-
-pub default_none : (reads : Option (List Leaf)) (items : List CaseItem) (k : ℕ) (ms : List Leaf) (a : List Node) → IsDefaultAt items k → length items ≤ k → Runs reads (λ gs. each_default (is_at_once reads) (flat gs) items) ms a ms a
-default_none reads items k ms a at le gs e p q leaves before now = shown_same e ms a _ _ (λ x. default_away (is_at_once reads) (flat gs) items k p q x at le) now
-
-pub skipped_next : (items : List CaseItem) (k : ℕ) (x d : CaseItem) → k < length items → x ≡ get_or items k d → is_default x.labels ≡ false
-    → ((o : Bool) (p : Place) (c e : Cycle) (y : Name) → each_default o p items c e y ≡ each_default o p (drop k items) c e y)
-    → (o : Bool) (p : Place) (c e : Cycle) (y : Name) → each_default o p items c e y ≡ each_default o p (drop (k + 1) items) c e y
-skipped_next items k x d lt is other h o p c e y =
-    h o p c e y ∙ (ap (λ (xs : List CaseItem). each_default o p xs c e y) (drop_at items k d lt)
-    ∙ ap (λ t. if t then run o p (get_or items k d).body c e y else each_default o p (drop (k + 1) items) c e y) (ap (λ (i : CaseItem). is_default i.labels) (sym is) ∙ other))
-
 -- ---- a case statement
 
 numbers_kept : (e : Naming) (a b : List Node) (is : List CaseItem) (zs : List ℕ) → Keeps a b → AreBits is zs a → map (number_at e b) zs ≡ map (number_at e a) zs
@@ -328,6 +313,3 @@ get_same : (items : List CaseItem) (k : ℕ) (d i : CaseItem) → k < length ite
 get_same [] k d i lt = absurd (omega arith)
 get_same (x ∷ xs) zero d i lt = refl
 get_same (x ∷ xs) (suc k) d i lt = get_same xs k d i (omega arith)
-
-pub default_found : (items : List CaseItem) (k : ℕ) (x d i : CaseItem) → x ≡ get_or items k d → is_default x.labels ≡ true → k < length items → is_default (get_or items k i).labels ≡ true
-default_found items k x d i is here lt = ap (λ (y : CaseItem). is_default y.labels) (get_same items k i d lt ∙ sym is) ∙ here

@@ -215,9 +215,6 @@ pub record Joining (z : ℕ) (others : List Saved) (ls : List Leaf) (old : List 
   pub ready : AreReady ms new
   pub numbers : (e : Naming) (k : ℕ) → k < length ls → IsNumbered z others ls old ms new e k
 
-pub joining_none : (z : ℕ) (ls : List Leaf) (ns : List Node) → AreReady ls ns → Joining z [] ls ns ls ns
-joining_none z ls ns r = record { keeps = keeps_same ns; same = refl; ready = r; numbers = λ e k lt. either (nat_eq (number_at e ns z) 1) (number_at e ns (node_at ls k)) }
-
 pub joining_next : (z r : ℕ) (ss : List Saved) (s : Saved) (ls ms : List Leaf) (old a b : List Node) → IsNode old z 1 → (s.place < length ls) × IsNode old s.node (width_at ls s.place) → Joining z ss ls old ms a → Keeps a b
     → IsNode b r (width_at ms s.place) → ((e : Naming) → number_at e b r ≡ (if nat_eq (number_at e a z) 1 then number_at e a (node_at ms s.place) else number_at e a s.node)) → Joining z (ss ++ s ∷ []) ls old (with_node ms s.place r) b
 joining_next z r ss s ls ms old a b test at h k node number = record {

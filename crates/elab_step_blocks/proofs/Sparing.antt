@@ -89,9 +89,6 @@ pub spares_nonblocking : (ls : List Leaf) (left : Lval) (right : Expr) (tree : S
 spares_nonblocking ls left right tree x is h gs o c d leaves =
     ap (λ z. run o (flat gs) z c d x) is ∙ give_missed (pieces (flat gs) (seen o c d) left) (assigned (valuation (flat gs) (seen o c d)) right (total (pieces (flat gs) (seen o c d) left))) d x (h gs (seen o c d) leaves)
 
-pub spares_empty : (ls : List Leaf) (tree : Stmt) (x : Name) → tree ≡ s.Empty → Spares ls tree x
-spares_empty ls tree x is gs o c d leaves = ap (λ z. run o (flat gs) z c d x) is
-
 pub spares_block : (ls : List Leaf) (n : _) (xs ys : List Stmt) (tree : Stmt) (x : Name) → tree ≡ s.Block n xs → ys ≡ xs → EachSpares ls ys x → Spares ls tree x
 spares_block ls n xs ys tree x is same h gs o c d leaves = block_runs o (flat gs) n xs ys tree c d x is same ∙ each ys d h
   where
@@ -139,9 +136,6 @@ gathers_name ls y i old new apart at is = subst (λ r. Gathers ls old r (λ x. y
   within = λ w. All-push (λ j. j < length ls) old i w at.within;
   others = λ k lt away e. away (subst (λ j. Contains (old ++ i ∷ []) j) (one_place ls i k apart at.within lt (name_is ls y i at ∙ e)) (Contains-push old i));
 })
-
-pub gathers_none : (ls : List Leaf) (old : List ℕ) (spared : Name → Type 0) → ((x : Name) → spared x) → Gathers ls old old spared
-gathers_none ls old spared h = record { kept = λ k m. m; within = λ w. w; others = λ k lt away. h (name_at ls k) }
 
 pub gathers_as : (ls : List Leaf) (a b : List ℕ) (p q : Name → Type 0) → ((x : Name) → p x → q x) → Gathers ls a b p → Gathers ls a b q
 gathers_as ls a b p q f h = record { kept = h.kept; within = h.within; others = λ k lt away. f (name_at ls k) (h.others k lt away) }

@@ -18,7 +18,7 @@ use Rattle.vlog_tree_runs.specs.Blocks.{seen, is_false, run, run_row}
 use Rattle.elab_step_expr.specs.declared.leaves.Leaf.{Leaf}
 use Rattle.elab_step_expr.specs.Leaves.{declared, valued, AreReady}
 use Rattle.elab_step_expr.specs.Nodes.{number_at, words, Makes, IsNode}
-use Rattle.elab_step_expr.proofs.Kept.{ready_kept, keeps_then, keeps_same, number_kept, made_number}
+use Rattle.elab_step_expr.proofs.Kept.{ready_kept, keeps_then, number_kept, made_number}
 use Rattle.elab_step_blocks.specs.declared.targets.Target.{Target}
 use Rattle.elab_step_blocks.specs.Standing.{flat, AreLeavesOf, AreShown, chosen}
 use Rattle.elab_step_blocks.specs.declared.branches.Saved.{Saved}
@@ -184,9 +184,6 @@ pub record Running (reads : Option (List Leaf)) (all rest : List Stmt) (ms : Lis
   pub same : declared ks ≡ declared ms
   pub runs : (gs : List Signal) (e : Naming) (c d : Cycle) → AreLeavesOf gs ms → AreBefore e a reads c → AreShown e a ms d
       → (now : Cycle) × AreShown e b ks now × ((x : Name) → each_runs (is_at_once reads) (flat gs) all c d x ≡ each_runs (is_at_once reads) (flat gs) rest c now x)
-
-pub running_none : (reads : Option (List Leaf)) (xs : List Stmt) (ms : List Leaf) (a : List Node) → AreSet reads ms a → Running reads xs xs ms a ms a
-running_none reads xs ms a h = record { keeps = keeps_same a; set = h; same = refl; runs = λ gs e c d l p q. (d, q, λ x. refl) }
 
 pub running_next : (reads : Option (List Leaf)) (all rest : List Stmt) (x : Stmt) (ms ns ks : List Leaf) (a b c : List Node) → AreSet reads ms a → Running reads all (x ∷ rest) ms a ns b → Keeps b c → AreSet reads ks c → declared ks ≡ declared ns
     → Runs reads (λ gs. run (is_at_once reads) (flat gs) x) ns b ks c → Running reads all rest ms a ks c

@@ -29,9 +29,6 @@ no_low x t lo is = none ∙ ap (λ k. t * 2 ^ k + x % 2 ^ k) (sym is)
     none : t ≡ t * 2 ^ 0 + x % 2 ^ 0
     none = let z : x % 1 < 1 = mod-lt x (omega arith) in omega (arith, z)
 
-pub some_low : (x t lo : ℕ) → t * 2 ^ lo + x / 2 ^ 0 % 2 ^ lo ≡ t * 2 ^ lo + x % 2 ^ lo
-some_low x t lo = ap (λ k. t * 2 ^ lo + k % 2 ^ lo) (div-one x)
-
 -- no higher bits are kept
 pub no_high : (x t k n : ℕ) → x < 2 ^ n → k ≡ n → t ≡ x / 2 ^ k * 2 ^ k + t
 no_high x t k n lt is = let z : x / 2 ^ k ≡ 0 = ap (λ m. x / 2 ^ m) is ∙ sym (shr_whole x n n lt (omega arith)) in nothing (2 ^ k) ∙ ap (λ m. m * 2 ^ k + t) (sym z)

@@ -98,16 +98,6 @@ over_now k ls a b n z i h keeps none have o =
     let other : x ≡ n → ⊥ = λ same. none_lacks old n none (subst (HasCopy old) same c) in
     (omega (arith, below, more), ap number_in (get_or-set_other old n x (Some i) None other))) have) o
 
-pub free_renumbered : (f : ℕ → ℕ) (z copied : Node) → copied ≡ renumbered f z → is_free z ≡ false → is_free copied ≡ false
-free_renumbered f (Free x w side t) copied is bound = cc
-free_renumbered f (Const w) copied is bound = ap is_free is
-free_renumbered f (Two op w a b) copied is bound = ap is_free is
-free_renumbered f (Not w a) copied is bound = ap is_free is
-free_renumbered f (Slice w a lo) copied is bound = ap is_free is
-free_renumbered f (Zext w a) copied is bound = ap is_free is
-free_renumbered f (Sext w a) copied is bound = ap is_free is
-free_renumbered f (Mux w c a b) copied is bound = ap is_free is
-
 -- ---- one copy more
 
 free_reads : (z : Node) → is_free z ≡ true → operands z ≡ []

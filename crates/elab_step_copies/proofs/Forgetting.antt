@@ -11,9 +11,9 @@ use Rattle.elab_step_expr.specs.declared.leaves.Leaf.{Leaf}
 use Rattle.elab_step_blocks.specs.Saving.{node_at}
 use Rattle.elab_step_copies.specs.declared.copier.Copier.{Copier}
 use Rattle.elab_step_copies.specs.Copies.{AreCopies, AreMoved, HasCopy, IsNetwork, IsSound, list_at, made_at}
-use Rattle.elab_step_copies.specs.Walks.{IsForgotten, IsRenewed, IsTaken}
+use Rattle.elab_step_copies.specs.Walks.{IsRenewed, IsTaken}
 use Rattle.elab_step_copies.proofs.Noting.{counted, taken_counted}
-use Rattle.elab_step_copies.proofs.Making.{copy_found, has_copy, lacks_none}
+use Rattle.elab_step_copies.proofs.Making.{copy_found, has_copy}
 use Rattle.elab_step_copies.proofs.Moving.{copies_moved}
 
 pub number_among : (ns : List ℕ) (i d : ℕ) → i < length ns → Among ns (get_or ns i d)
@@ -137,21 +137,6 @@ forgetting_less old new stack rest more top lt cut taken is =
     let one : length stack ≡ length rest + 1 = ap (λ (xs : List ℕ). length xs) cut ∙ length-append rest (top ∷ []) in
     let count = taken_counted old new top lt taken in
     omega (arith, one, long, count)
-
-pub forgetting_end : (k l : Copier) (numbers stack : List ℕ) → length stack ≡ 0 → Forgetting k l numbers stack → IsForgotten k l numbers
-forgetting_end k l numbers [] none h = record {
-  source = h.source;
-  words = h.words;
-  network = record {
-    long = h.long ∙ ap (λ (s : List Node). length s) (sym h.source);
-    readers_long = h.readers_long ∙ ap (λ (s : List Node). length s) (sym h.source);
-    within = λ a n m. subst (λ (s : List Node). n < length s) (sym h.source) (h.within a n m);
-    noted = λ n a c m. ⊎_elim (λ r. r) (λ r. absurd r) (h.noted n a c (subst (λ (s : List Node). Among (operands_of s n) a) h.source m));
-  };
-  left = h.left;
-  gone = λ n m. lacks_none l.copies.items n (λ c. h.gone n m c);
-}
-forgetting_end k l numbers (n ∷ stack) none h = absurd (omega (arith, none))
 
 -- ---- the copies of one leaf's words
 

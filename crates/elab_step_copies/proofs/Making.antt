@@ -1,6 +1,6 @@
 -- What copies are, and that they are right.
 use Rattle.std.proofs.Common.{◌≡◌, ℕ, zero, suc, ◌<◌, Bool, true, false, List, [], ◌∷◌, Option, Some, None, refl, sym, ap, ◌∙◌, subst, arith, inl, inr, ⊎_elim, ◌⊎◌, map, length, set, get_or-set_same, get_or-set_other, Vec, Global}
-use Rattle.std.specs.Prelude.{slice_index, is_none, is_some}
+use Rattle.std.specs.Prelude.{slice_index, is_some}
 use Rattle.std.proofs.lemmas.Bool.{cases_eq}
 use Rattle.std.proofs.lemmas.Option.{none-some}
 use Rattle.vlog_tree_runs.specs.Places.{Among, Cycle}
@@ -51,13 +51,6 @@ none_since (Some i) h = absurd (h refl)
 
 pub lacks_none : (copies : List (Option ℕ)) (n : ℕ) → (HasCopy copies n → ⊥) → made_at copies n ≡ None
 lacks_none copies n h = none_since (made_at copies n) h
-
-some_since : (o : Option ℕ) → is_none o ≡ false → is_some o ≡ true
-some_since None e = cc
-some_since (Some i) e = refl
-
-pub made_there : (copies view : List (Option ℕ)) (n : ℕ) (b : Bool) → view ≡ copies → b ≡ is_none (made_at view n) → b ≡ false → HasCopy copies n
-made_there copies view n b same is e = subst (λ (k : List (Option ℕ)). HasCopy k n) same (some_since (made_at view n) (sym is ∙ e))
 
 -- the same copies under other lists
 pub copy_same : (old new : List (Option ℕ)) (n : ℕ) → ((i : ℕ) → made_at new n ≡ Some i → made_at old n ≡ Some i) → HasCopy new n → copy_at new n ≡ copy_at old n

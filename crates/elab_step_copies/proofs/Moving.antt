@@ -118,6 +118,3 @@ grown ls a b keeps ready = record {
   same = refl;
   numbers = λ e j lt miss. number_kept e a b (node_at ls j) (width_at ls j) keeps (ready_index ls a j ready lt);
 }
-
-pub copies_kept : (k : Copier) (ls : List Leaf) (a b : List Node) → Keeps a b → AreReady ls a → AreCopies k ls a → AreCopies k ls b
-copies_kept k ls a b keeps ready h = copies_moved [] k k ls ls a b h (grown ls a b keeps ready) refl h.sound (λ n i e. e) (λ j n i m e. m) (λ j n i p m e. absurd p)

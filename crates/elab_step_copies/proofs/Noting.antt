@@ -64,14 +64,6 @@ got_among [] i d n lt is = absurd (omega (arith, lt))
 got_among (x ∷ xs) zero d n lt is = inl is
 got_among (x ∷ xs) (suc i) d n lt is = inr (got_among xs i d n (omega (arith, lt)) is)
 
-pub noted_then : (r s t : List (Vec ℕ Global)) (at : ℕ) (more : List ℕ) (n : ℕ) → IsNoted r s (at ∷ []) n → IsNoted s t more n → IsNoted r t (at ∷ more) n
-noted_then r s t at more n h g = record {
-  long = g.long ∙ h.long;
-  keeps = λ a i m. g.keeps a i (h.keeps a i m);
-  adds = λ a m. ⊎_elim (λ (q : at ≡ a). g.keeps a n (h.adds a (inl q))) (λ m. g.adds a m) m;
-  only = λ a i m. ⊎_elim (λ m. h.only a i m) (λ q. inr q) (g.only a i m);
-}
-
 -- ---- a list that is emptied
 
 pub taken_at : (old : List (Vec ℕ Global)) (at : ℕ) (now : Vec ℕ Global) → at < length old → now.items ≡ [] → IsTaken old (set old at now) at

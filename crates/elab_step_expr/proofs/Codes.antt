@@ -1,24 +1,13 @@
 -- Integers and the words that stand for them.
-use Rattle.std.proofs.Common.{◌≡◌, ℕ, ◌-◌, ◌%◌, ◌^◌, ◌<◌, ◌≤◌, Bool, true, false, refl, sym, ap, ◌∙◌, subst, ⊎_elim, ◌⊎◌, inl, inr, arith, ℤ, pos, negsuc, ◌<ℤ◌, ◌≤ℤ◌, ◌-ℤ◌, ◌+ℤ◌}
-use Rattle.std.specs.Prelude.{nat_eq, int_lt, if◌then◌else◌}
-use Rattle.std.proofs.Math.Nat.{mod-eq_of_lt}
+use Rattle.std.proofs.Common.{◌≡◌, ℕ, ◌-◌, ◌%◌, ◌^◌, ◌<◌, ◌≤◌, Bool, true, false, refl, sym, ap, ◌∙◌, ⊎_elim, ◌⊎◌, inl, inr, arith, ℤ, pos, negsuc, ◌<ℤ◌, ◌≤ℤ◌, ◌-ℤ◌, ◌+ℤ◌}
+use Rattle.std.specs.Prelude.{int_lt, if◌then◌else◌}
 use Rattle.std.proofs.lemmas.Bool.Decides.{nat_tests}
 use Rattle.std.proofs.lemmas.Int.{ints}
 use Rattle.word_core.proofs.Numbers.{mask_grows}
-use Rattle.vlog_tree.specs.Value.{is_negative, integer, cut, moved_down}
+use Rattle.vlog_tree.specs.Value.{moved_down}
 use Rattle.vlog_tree_values.proofs.Numbers.{bool_cases}
 use Rattle.elab_step_expr.specs.Indexed.{is_same}
 use Rattle.elab_step_expr.proofs.Moved.{down_gone, up_gone}
-
-cut_back : (b : Bool) (n x : ℕ) → x < 2 ^ n → cut n (if b then negsuc (2 ^ n - 1 - x) else pos x) ≡ x
-cut_back true n x lt =
-    let small : 2 ^ n - 1 - x < 2 ^ n = omega (arith, lt) in
-    ap (λ k. 2 ^ n - 1 - k) (mod-eq_of_lt small) ∙ (omega (arith, lt))
-cut_back false n x lt = mod-eq_of_lt lt
-
--- a word is the one that its integer gives
-pub cut_integer : (s : Bool) (n x : ℕ) → x < 2 ^ n → cut n (integer s n x) ≡ x
-cut_integer s n x lt = cut_back (is_negative s n x) n x lt
 
 pub same_int : (i j : ℤ) → is_same i j ≡ true → i ≡ j
 same_int (pos a) (pos b) h = ap pos (grind (arith, nat_tests))
@@ -30,50 +19,18 @@ pub int_same : (i : ℤ) → is_same i i ≡ true
 int_same (pos a) = grind (arith, nat_tests)
 int_same (negsuc a) = grind (arith, nat_tests)
 
-eq_same : (a b : ℕ) → nat_eq a b ≡ true → a ≡ b
-eq_same a b h = grind (arith, nat_tests)
-
-same_eq : (a b : ℕ) → a ≡ b → nat_eq a b ≡ true
-same_eq a b h = grind (arith, nat_tests)
-
 iff : (p q : Bool) → (p ≡ true → q ≡ true) → (q ≡ true → p ≡ true) → p ≡ q
 iff true q f g = sym (f refl)
 iff false true f g = g refl
 iff false false f g = refl
 
-pub code_tests : (s : Bool) (n k : ℕ) (p : ℤ) → k ≡ cut n p → integer s n k ≡ p → (x : ℕ) → x < 2 ^ n → nat_eq x k ≡ is_same (integer s n x) p
-code_tests s n k p kc back x lt =
-    iff (nat_eq x k) (is_same (integer s n x) p)
-    (λ h. let e : integer s n x ≡ p = ap (λ z. integer s n z) (eq_same x k h) ∙ back in subst (λ z. is_same (integer s n x) z ≡ true) e (int_same (integer s n x)))
-    (λ h. same_eq x k (sym (cut_integer s n x lt) ∙ ap (λ z. cut n z) (same_int (integer s n x) p h) ∙ sym kc))
-
 not_true : (p : Bool) → (p ≡ true → ⊥) → p ≡ false
 not_true true f = absurd (f refl)
 not_true false f = refl
 
-pub no_code : (s : Bool) (n k : ℕ) (p : ℤ) → k ≡ cut n p → (integer s n k ≡ p → ⊥) → (x : ℕ) → x < 2 ^ n → is_same (integer s n x) p ≡ false
-no_code s n k p kc other x lt = not_true (is_same (integer s n x) p) (λ h.
-    let e = same_int (integer s n x) p h in
-    other (ap (λ z. integer s n z) (kc ∙ ap (λ z. cut n z) (sym e) ∙ cut_integer s n x lt) ∙ e))
-
 far : (b : Bool) (n x : ℕ) → n ≤ 64 → x < 2 ^ n → (negsuc (2 ^ 64 - 1) ≤ℤ (if b then negsuc (2 ^ n - 1 - x) else pos x)) × ((if b then negsuc (2 ^ n - 1 - x) else pos x) <ℤ pos (2 ^ 64))
 far true n x le lt = let g = mask_grows n 64 le in (omega (arith, ints, g, lt), omega (arith, ints, g, lt))
 far false n x le lt = let g = mask_grows n 64 le in (omega (arith, ints, g, lt), omega (arith, ints, g, lt))
-
--- no word stands for an integer out of 64 bits
-pub too_low : (s : Bool) (n : ℕ) (p : ℤ) → n ≤ 64 → p <ℤ negsuc (2 ^ 64 - 1) → (x : ℕ) → x < 2 ^ n → is_same (integer s n x) p ≡ false
-too_low s n p le low x lt = not_true (is_same (integer s n x) p) (λ h.
-    let e = same_int (integer s n x) p h in
-    let f = (far (is_negative s n x) n x le lt).0 in
-    let f' : negsuc (2 ^ 64 - 1) ≤ℤ p = subst (λ z. negsuc (2 ^ 64 - 1) ≤ℤ z) e f in
-    omega (arith, ints, f', low))
-
-pub too_high : (s : Bool) (n : ℕ) (p : ℤ) → n ≤ 64 → pos (2 ^ 64) ≤ℤ p → (x : ℕ) → x < 2 ^ n → is_same (integer s n x) p ≡ false
-too_high s n p le high x lt = not_true (is_same (integer s n x) p) (λ h.
-    let e = same_int (integer s n x) p h in
-    let f = (far (is_negative s n x) n x le lt).1 in
-    let f' : p <ℤ pos (2 ^ 64) = subst (λ z. z <ℤ pos (2 ^ 64)) e f in
-    omega (arith, ints, f', high))
 
 -- ---- the positions that were tried
 

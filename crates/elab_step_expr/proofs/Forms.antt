@@ -1,5 +1,5 @@
 -- The node of each form of an expression, over the leaves of the dag in which it stands.
-use Rattle.std.proofs.Common.{◌≡◌, ℕ, ◌^◌, ◌%◌, ◌≤◌, Bool, false, refl, sym, ap, ◌∙◌, subst, List, arith, ℤ, pos, negsuc, ◌-ℤ◌}
+use Rattle.std.proofs.Common.{◌≡◌, ℕ, ◌^◌, ◌%◌, ◌≤◌, Bool, refl, sym, ap, ◌∙◌, subst, List, arith, ℤ, pos, negsuc, ◌-ℤ◌}
 use Rattle.std.specs.Prelude.{nat_eq, if◌then◌else◌}
 use Rattle.vlog_tree.specs.declared.expr.Binary.{Binary}
 use Rattle.vlog_tree.specs.declared.expr.Cast.{Cast}
@@ -10,18 +10,17 @@ use Rattle.vlog_tree.specs.declared.expr.Name.{Name}
 use Rattle.vlog_tree.specs.declared.expr.Span.{Span}
 use Rattle.vlog_tree.specs.declared.expr.Span.TheVariants as span
 use Rattle.vlog_tree.specs.declared.expr.Unary.{Unary}
-use Rattle.vlog_tree.specs.declared.token.Number.{Number}
 use Rattle.vlog_tree.specs.declared.valuation.Entry.{Entry}
-use Rattle.vlog_tree.specs.Valuation.{IsLength, named, depth_of}
-use Rattle.vlog_tree.specs.Value.{Operand, operand_of, own_integer, natural, extend, integer, moved_down, bits_of, bit_of, word_of, part_of, part_low, part_width, number_width, width_of, sign_of, value_of, IsFormed, Stands, NamesOnly, HasConstantParts, IsPartConstant}
+use Rattle.vlog_tree.specs.Valuation.{named, depth_of}
+use Rattle.vlog_tree.specs.Value.{Operand, operand_of, own_integer, natural, extend, integer, moved_down, bits_of, bit_of, word_of, part_of, part_low, part_width, width_of, sign_of, value_of, IsFormed, NamesOnly, HasConstantParts, IsPartConstant}
 use Rattle.word_core.specs.Words.{Bits}
 use Rattle.word_dag.specs.declared.node.Node.{Node}
 use Rattle.word_dag.specs.Nodes.{Naming, word_at}
 use Rattle.word_dag.specs.Adding.{Keeps}
 use Rattle.vlog_tree_values.specs.declared.operators.Family.{Family}
 use Rattle.vlog_tree_values.specs.declared.operators.Family.TheVariants as f
-use Rattle.vlog_tree_values.specs.Operators.{family_of, is_reduction, joined_number, made_number, inner_width, left_width, right_width, PlacesFit}
-use Rattle.vlog_tree_values.specs.Shapes.{IsReady, HasShape, HasValue, HasOwn}
+use Rattle.vlog_tree_values.specs.Operators.{family_of, joined_number, made_number, left_width, right_width, PlacesFit}
+use Rattle.vlog_tree_values.specs.Shapes.{HasShape, HasValue, HasOwn}
 use Rattle.vlog_tree_values.proofs.Facts.{own_is}
 use Rattle.vlog_tree_values.proofs.Forms.{select_operand, part_operand, constant_select_operand, constant_part_operand, cast_operand}
 use Rattle.elab_step_expr.specs.declared.leaves.Leaf.{Leaf}
@@ -68,12 +67,6 @@ own_still ls a b t w s r k h = record {
 }
 
 -- ---- numbers and names
-
-pub number_ready : (v : List Entry) (n : Number) (tree : Expr) (L : ℕ) → tree ≡ e.Number n → IsReady v tree L → IsLength (number_width n.size) × (number_width n.size ≤ L)
-number_ready v n tree L is r = (rw is at r.formed, rw is at r.long)
-
-pub name_ready : (v : List Entry) (x : Name) (tree : Expr) (L : ℕ) → tree ≡ e.Name x → IsReady v tree L → Stands v x × ((named v x).width ≤ L)
-name_ready v x tree L is r = (rw is at r.formed, rw is at r.long)
 
 -- ---- an expression that names nothing
 
@@ -212,9 +205,6 @@ cast_done ls m new c a tree y L s t w i ready keeps is ya alone h made = settled
 
 -- ---- operators
 
-pub inner_fits : (op : Unary) (L m p : ℕ) → p ≡ inner_width op L m → is_reduction op ≡ false → p ≡ L
-inner_fits op L m p pn test = rw test at pn
-
 pub unary_done : (ls : List Leaf) (m new : List Node) (op : Unary) (a tree y : Expr) (L : ℕ) (s : Bool) (p : ℕ) (q : Bool) (j i : ℕ) → AreReady ls m → Keeps m new → tree ≡ e.Unary op a → y ≡ a → IsTaken ls y p q → IsInner ls op a L s p q → HasNode ls m m y p q j →
     Makes new i L (λ x. made_number op p (number_at x m j)) → HasNode ls new new tree L s i
 unary_done ls m new op a tree y L s p q j i ready keeps is ya taken place h made =
@@ -227,9 +217,6 @@ places f.Shift L m n = refl
 places f.Order L m n = refl
 places f.Equality L m n = refl
 places f.Logic L m n = tt
-
-pub operands_fit : (ls : List Leaf) (op : Binary) (a b : Expr) (L : ℕ) (s : Bool) (j : ℕ) (p : Bool) (k : ℕ) (q : Bool) → AreOperands ls (family_of op) a b L s j p k q → PlacesFit (family_of op) L j k
-operands_fit ls op a b L s j p k q h = rw (h.left, h.right) (places (family_of op) L (width_of (declared ls) a) (width_of (declared ls) b))
 
 pub binary_done : (ls : List Leaf) (one m new : List Node) (op : Binary) (a b tree y u : Expr) (L : ℕ) (s : Bool) (j : ℕ) (p : Bool) (k : ℕ) (q : Bool) (g h i : ℕ) → AreReady ls one → Keeps one m → AreReady ls m → Keeps m new → tree ≡ e.Binary op a b → y ≡ a → u ≡ b →
     IsTaken ls y j p → IsTaken ls u k q → AreOperands ls (family_of op) a b L s j p k q → (family_of op ≡ f.Division → ⊥) → HasNode ls one one y j p g → HasNode ls m m u k q h →

@@ -53,10 +53,3 @@ down_gone (negsuc d) x n w lt le = absurd (omega (arith, ints))
 pub up_gone : (i : ℤ) (x w : ℕ) → 1 ≤ w → pos w ≤ℤ (pos 0 -ℤ i) → 0 ≡ moved_down i x % 2 ^ w
 up_gone (pos d) x w some le = absurd (omega (arith, ints))
 up_gone (negsuc d) x w some le = shl_gone x (suc d) w (omega (arith, ints))
-
-pub up_is : (i : ℤ) (x d w : ℕ) → i <ℤ pos 0 → pos d ≡ (pos 0 -ℤ i) → x * 2 ^ d % 2 ^ w ≡ moved_down i x % 2 ^ w
-up_is (pos k) x d w lt is = absurd (omega (arith, ints))
-up_is (negsuc k) x d w lt is = let e : d ≡ suc k = omega (arith, ints) in ap (λ n. x * 2 ^ n % 2 ^ w) e
-
-pub down_is : (i : ℤ) (x d w : ℕ) → pos d ≡ i → x / 2 ^ d % 2 ^ w ≡ moved_down i x % 2 ^ w
-down_is i x d w is = ap (λ k. moved_down k x % 2 ^ w) is

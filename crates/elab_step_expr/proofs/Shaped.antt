@@ -1,8 +1,8 @@
 -- Shapes and values of expressions over the leaves' nodes.
 use Rattle.std.proofs.Common.{◌≡◌, ℕ, ◌≤◌, Bool, sym, ap, ◌∙◌, subst, List, IsTrue, arith}
 use Rattle.vlog_tree.specs.declared.expr.Expr.{Expr}
-use Rattle.vlog_tree.specs.Value.{IsFormed, IsDefined, HasConstantParts, operand_of, own_defined, width_of, value_of}
-use Rattle.vlog_tree_values.specs.Shapes.{IsReady, HasShape, HasValue, HasOwn}
+use Rattle.vlog_tree.specs.Value.{IsDefined, HasConstantParts, operand_of, own_defined, width_of, value_of}
+use Rattle.vlog_tree_values.specs.Shapes.{HasShape, HasValue}
 use Rattle.word_core.specs.Words.{Bits}
 use Rattle.word_dag.specs.declared.node.Node.{Node}
 use Rattle.word_dag.specs.Nodes.{word_at}
@@ -28,17 +28,6 @@ module _ (ls : List Leaf) (ws : List Bits) (a : Expr) (d : HasConstantParts noth
 
   pub own_defined_valued : IsTrue (own_defined (operand_of (declared ls) a)) → IsTrue (own_defined (operand_of (valued ls ws) a))
   own_defined_valued h = subst IsTrue (own_same _ _ (same_operand (declared ls) (valued ls ws) a (alike_valued ls ws) d)) h
-
-  pub formed_valued : IsFormed (declared ls) a → IsFormed (valued ls ws) a
-  formed_valued h = same_formed (declared ls) (valued ls ws) a (alike_valued ls ws) d h
-
-  pub ready_valued : (n : ℕ) → IsReady (declared ls) a n → IsReady (valued ls ws) a n
-  ready_valued n h = record {
-    formed = formed_valued h.formed;
-    some = h.some;
-    long = subst (λ k. k ≤ n) (same_operand (declared ls) (valued ls ws) a (alike_valued ls ws) d).width h.long;
-    most = h.most;
-  }
 
 -- an expression that is taken by itself is taken at its own length and sign
 pub alone_taken : (ls : List Leaf) (a : Expr) (n : ℕ) (s : Bool) → IsAlone ls a → HasShape (declared ls) a n s → IsTaken ls a n s
@@ -68,13 +57,6 @@ pub later : (ls : List Leaf) (a b c x : List Node) (t : Expr) (n : ℕ) (s : Boo
 later ls a b c x t n s i r k j h = record {
   node = node_kept c x i n j h.node;
   word = λ e. subst (λ v. HasValue v t n s (word_at (words e x) i)) (valued_kept e ls a b k r) (subst (λ w. HasValue (valued ls (words e b)) t n s w) (sym (j.values e i h.node.0)) (h.word e));
-}
-
-pub own_later : (ls : List Leaf) (a b c x : List Node) (t : Expr) (w : Wire) (s : Bool) → AreReady ls a → Keeps a b → Keeps c x → HasOwnNode ls b c t w s → HasOwnNode ls a x t w s
-own_later ls a b c x t w s r k j h = record {
-  node = node_kept c x w.node w.width j h.node;
-  shape = h.shape;
-  word = λ e. subst (λ v. HasOwn v t (word_at (words e x) w.node) s) (valued_kept e ls a b k r) (subst (λ z. HasOwn (valued ls (words e b)) t z s) (sym (j.values e w.node h.node.0)) (h.word e));
 }
 
 -- what the calls hand out

@@ -7,10 +7,9 @@ use Rattle.vlog_tree.specs.declared.expr.Cast.{Cast}
 use Rattle.vlog_tree.specs.declared.expr.Expr.{Expr}
 use Rattle.vlog_tree.specs.declared.expr.Expr.TheVariants as e
 use Rattle.vlog_tree.specs.declared.expr.Name.{Name}
-use Rattle.vlog_tree.specs.declared.token.Number.{Number}
 use Rattle.vlog_tree.specs.declared.expr.Unary.{Unary}
 use Rattle.vlog_tree.specs.Valuation.{named}
-use Rattle.vlog_tree.specs.Value.{extend, number_width, HasConstantParts, NamesOnly, IsDivisionConstant}
+use Rattle.vlog_tree.specs.Value.{extend, HasConstantParts, NamesOnly, IsDivisionConstant}
 use Rattle.word_core.specs.Words.{Bits}
 use Rattle.word_dag.specs.declared.node.Node.{Node}
 use Rattle.word_dag.specs.Nodes.{Naming, word_at}
@@ -29,12 +28,6 @@ use Rattle.elab_step_expr.proofs.Shaped.{shape_valued}
 
 abbrev at : ℕ → ℕ → Bits
 at n x = record { width = n; value = x }
-
-pub number_has : (ls : List Leaf) (old new : List Node) (n : Number) (tree : Expr) (L : ℕ) (s : Bool) (i : ℕ) → tree ≡ e.Number n → Makes new i L (λ e. extend s (number_width n.size) L (n.value % 2 ^ number_width n.size)) → HasNode ls old new tree L s i
-number_has ls old new n tree L s i is m = record {
-  node = made_node new i L _ m;
-  word = λ x. rw is (record { defined = refl; word = m.word x });
-}
 
 pub name_has : (ls : List Leaf) (old new : List Node) (n : Name) (tree : Expr) (L : ℕ) (s : Bool) (i : ℕ) → tree ≡ e.Name n →
     Makes new i L (λ e. extend s (named (valued ls (words e old)) n).width L (named (valued ls (words e old)) n).value) → HasNode ls old new tree L s i

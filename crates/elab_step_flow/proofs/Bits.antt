@@ -2,15 +2,12 @@
 use Rattle.std.proofs.Common.{◌≡◌, ◌≢◌, ℕ, zero, suc, ◌≤◌, ◌<◌, ◌/◌, ◌%◌, ◌-◌, ◌^◌, min, max, ◌⊎◌, ◌↔◌, ◌||◌, ◌&&◌, inl, inr, Bool, true, arith, sym, ap, ◌∙◌}
 use Rattle.std.specs.Prelude.{bit_or, bit_and, nat_eq}
 use Rattle.std.specs.Int.{bit_at, bit_not, w64}
-use Rattle.std.proofs.lemmas.Bool.{or_cases, or_left, or_right, and_parts, and_from, eq-eqb, ne_eqb, cases_eq, not-true, not_from_false}
+use Rattle.std.proofs.lemmas.Bool.{or_cases, or_left, or_right, eq-eqb, ne_eqb, cases_eq, not-true, not_from_false}
 use Rattle.std.proofs.lemmas.Nat.Bits.{bit_at_or, bit_at-lt, bit_at-zero, bit_at_lowest, bit_at-suc, bit_at_and, bit_at_not}
 use Rattle.elab_step_flow.specs.Sets.{is_open}
 
 pub or_is : (a b : Bool) → ((a || b) ≡ true) ↔ ((a ≡ true) ⊎ (b ≡ true))
 or_is a b = (or_cases a b, λ h. elim h [ inl f ↦ or_left a b f | inr f ↦ or_right a b f ])
-
-pub and_is : (a b : Bool) → ((a && b) ≡ true) ↔ ((a ≡ true) × (b ≡ true))
-and_is a b = (and_parts a b, λ h. and_from a b h.0 h.1)
 
 pub or_bits : (x y b : ℕ) → (bit_at (bit_or x y) b ≡ 1) ↔ ((bit_at x b ≡ 1) ⊎ (bit_at y b ≡ 1))
 or_bits x y b = (

@@ -16,7 +16,7 @@ use Rattle.elab_step_flow.specs.Cases.{at_rest, labels_of, AnyDefault, IsCompara
 use Rattle.elab_step_flow.specs.Passes.{MeetTo, EnterTo, LeadsPast, PastTo, LeadsPastEach, Passes, RowPasses, ItemsPass, EachPasses, EachItemPasses}
 use Rattle.elab_step_flow.specs.Ready.{IsReady, AreReady, AreItemsReady, EachReady, EachItemReady}
 use Rattle.elab_step_flow.proofs.Listing.{among_at}
-use Rattle.elab_step_flow.proofs.Marking.{cut, drop_past}
+use Rattle.elab_step_flow.proofs.Marking.{cut}
 use denote.Hole.Carrier
 
 -- ---- rows as lists
@@ -130,9 +130,6 @@ module _ (gs : List Signal) where
 
   pub passing_next : (around : List ℕ) (xs : List Stmt) (i : ℕ) (x : Stmt) (v now next : Tables) → i < length xs → x ≡ get_or xs i x → Passing around xs (drop i xs) v now → Passes gs around x now next → Passing around xs (drop (i + 1) xs) v next
   passing_next around xs i x v now next lt is h p w k = h w (subst (λ z. EachPasses gs around z now w) (sym (cut xs i x lt is)) (next, p, k))
-
-  pub passing_end : (around : List ℕ) (xs : List Stmt) (i : ℕ) (v now : Tables) → length xs ≤ i → Passing around xs (drop i xs) v now → EachPasses gs around xs v now
-  passing_end around xs i v now le h = h now (subst (λ z. EachPasses gs around z now now) (sym (drop_past xs i le)) refl)
 
   -- one more item
   pub items_more : (around : List ℕ) (xs : List CaseItem) (x : CaseItem) (v u : Tables) (us : List Tables) → EachItemPasses gs around xs v us → Passes gs around x.body v u → EachItemPasses gs around (xs ++ x ∷ []) v (us ++ u ∷ [])

@@ -17,13 +17,6 @@ use Rattle.elab_step_flow.specs.Sets.{Tables, HasBit, AnyOf, ChangesAt}
 
 -- ---- changes
 
-pub no_changes : (P : ℕ → Type 0) (s : Tables) → ChangesAt P s s
-no_changes P s = record { unset = λ i n. refl; through = λ i n. refl; outside = ([], nil s.outside) }
-  where
-    nil : (xs : List ℕ) → xs ≡ xs ++ []
-    nil [] = refl
-    nil (x ∷ xs) = ap (λ z. x ∷ z) (nil xs)
-
 assoc : (xs ys zs : List ℕ) → (xs ++ ys) ++ zs ≡ xs ++ (ys ++ zs)
 assoc [] ys zs = refl
 assoc (x ∷ xs) ys zs = ap (λ z. x ∷ z) (assoc xs ys zs)

@@ -16,8 +16,8 @@ use Rattle.elab_flat_drivers.specs.declared.parts.Part.{Part}
 use Rattle.elab_flat_drivers.specs.Parts.{reads_of, part_meant}
 use Rattle.elab_flat_drivers.specs.Claims.{nothing}
 use Rattle.elab_flat_drivers.proofs.Constants.{no_names, no_reads}
-use Rattle.elab_step_flow.specs.Cases.{expr_meant, AnyDefault, AreConstant, AreValues, HasAll}
-use Rattle.elab_step_flow.proofs.Listing.{first_or, none_left}
+use Rattle.elab_step_flow.specs.Cases.{expr_meant, AnyDefault, AreValues, HasAll}
+use Rattle.elab_step_flow.proofs.Listing.{first_or}
 use Rattle.elab_step_flow.proofs.Marking.{cut, drop_past}
 
 -- ---- the default
@@ -30,9 +30,6 @@ default_passed items i x lt is other (y, m, d) = elim (first_or items i x y lt i
   | inl e ↦ (let z : false ≡ true = sym other ∙ (ap (λ (z : CaseItem). is_default z.labels) e ∙ d) in cc)
   | inr r ↦ (y, r, d)
 ]
-
-pub no_default : (items : List CaseItem) (i : ℕ) → length items ≤ i → AnyDefault (drop i items) → ⊥
-no_default items i le (y, m, d) = none_left items i y le m
 
 -- ---- labels without names
 
@@ -70,19 +67,6 @@ told_false false P Q e h = h
 -- from a place on
 abbrev pub ConstantFrom : List (Bor Expr) → ℕ → Type 0
 ConstantFrom labels i = (b : Expr) → Among (map expr_meant labels) b → Among (map expr_meant (drop i labels)) b ⊎ NamesOnly nothing b
-
-pub constant_start : (labels : List (Bor Expr)) → ConstantFrom labels 0
-constant_start labels b m = inl m
-
-pub constant_next : (labels : List (Bor Expr)) (i : ℕ) (x : Bor Expr) → i < length labels → x ≡ get_or labels i x → NamesOnly nothing x.now → ConstantFrom labels i → ConstantFrom labels (i + 1)
-constant_next labels i x lt is c h b m = elim (h b m) [ inl f ↦ later (subst (λ z. Among (map expr_meant z) b) (cut labels i x lt is) f) | inr f ↦ inr f ]
-  where
-    later : Among (map expr_meant (x ∷ drop (i + 1) labels)) b → Among (map expr_meant (drop (i + 1) labels)) b ⊎ NamesOnly nothing b
-    later (inl e) = inr (subst (NamesOnly nothing) e c)
-    later (inr r) = inl r
-
-pub constant_end : (labels : List (Bor Expr)) (i : ℕ) → length labels ≤ i → ConstantFrom labels i → AreConstant (map expr_meant labels)
-constant_end labels i le h b m = elim (h b m) [ inl f ↦ absurd (subst (λ z. Among (map expr_meant z) b) (drop_past labels i le) f) | inr f ↦ f ]
 
 pub meant_among : (labels : List (Bor Expr)) (i : ℕ) (x : Bor Expr) → i < length labels → x ≡ get_or labels i x → Among (map expr_meant labels) x.now
 meant_among [] i x lt is = absurd (omega arith)
@@ -163,9 +147,6 @@ module _ (v : List Entry) (n : ℕ) (signed : Bool) where
   abbrev pub ValuesWith : List (Bor Expr) → List (Bor Expr) → (ℕ → Bool) → Type 0
   ValuesWith labels rest set = (x : ℕ) → ((set x ≡ true) ⊎ IsLabel v n signed (map expr_meant rest) x) ↔ IsLabel v n signed (map expr_meant labels) x
 
-  pub values_start : (labels : List (Bor Expr)) (set : ℕ → Bool) → ((x : ℕ) → set x ≡ true → ⊥) → ValuesWith labels labels set
-  values_start labels set none x = (λ h. elim h [ inl f ↦ absurd (none x f) | inr f ↦ f ], λ h. inr h)
-
   pub values_next : (labels : List (Bor Expr)) (i : ℕ) (a : Bor Expr) (set next : ℕ → Bool) → i < length labels → a ≡ get_or labels i a
       → ((x : ℕ) → (next x ≡ true) ↔ ((set x ≡ true) ⊎ (value_of v a.now n signed ≡ x))) → ValuesWith labels (drop i labels) set → ValuesWith labels (drop (i + 1) labels) next
   values_next labels i a set next lt is put h x = (λ k. (h x).0 (there k), λ k. back ((h x).1 k))
@@ -187,12 +168,6 @@ module _ (v : List Entry) (n : ℕ) (signed : Bool) where
       back : (set x ≡ true) ⊎ IsLabel v n signed (map expr_meant (drop i labels)) x → (next x ≡ true) ⊎ IsLabel v n signed (map expr_meant (drop (i + 1) labels)) x
       back (inl f) = inl ((put x).1 (inl f))
       back (inr f) = split (subst (λ z. IsLabel v n signed (map expr_meant z) x) e f)
-
-  pub values_end : (labels : List (Bor Expr)) (i : ℕ) (set : ℕ → Bool) → length labels ≤ i → ValuesWith labels (drop i labels) set → AreValues v n signed (map expr_meant labels) set
-  values_end labels i set le h x = (λ k. (h x).0 (inl k), λ k. elim ((h x).1 k) [ inl f ↦ f | inr f ↦ absurd (gone f) ])
-    where
-      gone : IsLabel v n signed (map expr_meant (drop i labels)) x → ⊥
-      gone f = (subst (λ z. IsLabel v n signed (map expr_meant z) x) (drop_past labels i le) f).1
 
 -- ---- what is covered
 

@@ -1,7 +1,7 @@
 -- Statements with branches, by copies of their parts.
-use Rattle.std.proofs.Common.{◌≡◌, ℕ, ◌+◌, ◌<◌, ◌≤◌, ◌↔◌, inl, Bool, true, false, List, [], ◌∷◌, ◌++◌, length, take, get_or, sym, ◌∙◌, subst}
+use Rattle.std.proofs.Common.{◌≡◌, ℕ, ◌+◌, ◌<◌, ◌≤◌, ◌↔◌, Bool, true, false, List, [], ◌∷◌, ◌++◌, length, take, get_or, sym, ◌∙◌, subst}
 use Rattle.std.specs.Prelude.{MatchBool}
-use Rattle.std.proofs.lemmas.List.{map-append, take_all}
+use Rattle.std.proofs.lemmas.List.{map-append}
 use Rattle.vlog_tree.specs.declared.expr.Expr.{Expr}
 use Rattle.vlog_tree.specs.declared.stmt.CaseItem.{CaseItem}
 use Rattle.vlog_tree.specs.declared.stmt.CaseKind.{CaseKind}
@@ -9,16 +9,13 @@ use Rattle.vlog_tree.specs.declared.stmt.Stmt.{Stmt}
 use Rattle.vlog_tree.specs.declared.stmt.Stmt.TheVariants as s
 use Rattle.vlog_tree_runs.specs.declared.flat.Signal.{Signal}
 use Rattle.vlog_tree_runs.specs.Places.{Among}
-use Rattle.elab_flat_faults.specs.Drivers.{parts_of}
-use Rattle.vlog_tree.specs.declared.stmt.Lval.{Lval}
-use Rattle.elab_step_flow.specs.Assigned.{AnyAt, IsAssigned}
+use Rattle.elab_step_flow.specs.Assigned.{IsAssigned}
 use Rattle.elab_step_flow.specs.Branches.{AreInside, BranchTo, Gathered, EndTo, bodies_of}
 use Rattle.elab_step_flow.specs.Cases.{labels_of}
 use Rattle.elab_step_flow.specs.declared.branches.Branches.{Branches}
 use Rattle.elab_step_flow.specs.Passes.{EnterTo, LeadsPastEach, Passes, EachItemPasses}
 use Rattle.elab_step_flow.specs.Sets.{Tables, ChangesAt}
 use Rattle.elab_step_flow.proofs.Blocks.{if_passes, if_else_passes, case_passes, items_more}
-use Rattle.elab_step_flow.proofs.Assigning.{any_more}
 use Rattle.elab_step_flow.proofs.Branching.{gathered_next}
 use Rattle.elab_step_flow.proofs.Listing.{take_next}
 use Rattle.elab_step_flow.proofs.Ending.{if_inside, if_else_inside, case_inside, if_meets, if_changes, if_else_meets, if_else_changes, case_meets, case_changes, after_reads}
@@ -112,14 +109,3 @@ module _ (gs : List Signal) (t : Tables) (start inner : List ℕ) where
         items_more gs inner (take k xs) x t one.0 us passes one.1,
         subst (λ q. Gathered gs q t (us ++ one.0 ∷ []) start z) (sym (map-append (λ (i : CaseItem). i.body) (take k xs) (x ∷ []))) more,
       )
-
-  pub gathering_end : (xs : List CaseItem) (k : ℕ) (y : Branches) → length xs ≤ k → Gathering (take k xs) y → Gathering xs y
-  gathering_end xs k y le h = subst (λ q. Gathering q y) (take_all k xs le) h
-
--- an assignment assigns its left side
-module _ (gs : List Signal) (left : Lval) (right : Expr) (tree : Stmt) (i : ℕ) where
-  pub blocking_assigns : tree ≡ s.Blocking left right → AnyAt gs (parts_of left) i → IsAssigned gs tree i
-  blocking_assigns is h = subst (λ z. IsAssigned gs z i) (sym is) ((any_more gs (parts_of left) [] i).1 (inl h))
-
-  pub nonblocking_assigns : tree ≡ s.Nonblocking left right → AnyAt gs (parts_of left) i → IsAssigned gs tree i
-  nonblocking_assigns is h = subst (λ z. IsAssigned gs z i) (sym is) ((any_more gs (parts_of left) [] i).1 (inl h))

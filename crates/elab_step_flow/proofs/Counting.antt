@@ -15,9 +15,6 @@ or_more f g h = (
   λ q. elim q [ inl d ↦ f.1 (inl (g.1 (inl d))) | inr k ↦ elim (h.0 k) [ inl e ↦ f.1 (inl (g.1 (inr e))) | inr c ↦ f.1 (inr c) ] ],
 )
 
-pub among_more : (xs ys : List ℕ) (z : ℕ) → Among (xs ++ ys) z ↔ (Among xs z ⊎ Among ys z)
-among_more xs ys z = (among_append xs ys z, λ h. elim h [ inl f ↦ append_left xs ys z f | inr f ↦ append_right xs ys z f ])
-
 module _ (s : Tables) where
   pub counts_none : (z : ℕ) → CountsIn [] s z → ⊥
   counts_none z h = h.1
@@ -100,9 +97,6 @@ module _ (unset : ℕ → ℕ) where
 module _ (rising : List ℕ) where
   abbrev pub Both : List ℕ → ℕ → Type 0
   Both places i = Among places i × Among rising i
-
-  pub both_none : (i : ℕ) → Among [] i ↔ Both [] i
-  both_none i = (λ h. absurd h, λ h. h.0)
 
   pub both_put : (places : List ℕ) (k : ℕ) (old new : List ℕ) → k < length places → Among rising (get_or places k 0) → new ≡ old ++ get_or places k 0 ∷ [] → ((i : ℕ) → Among old i ↔ Both (take k places) i) → (i : ℕ) → Among new i ↔ Both (take (k + 1) places) i
   both_put places k old new lt has put inv i = (λ h. there (among_append old (get_or places k 0 ∷ []) i (subst (λ z. Among z i) put h)), λ h. subst (λ z. Among z i) (sym put) (back h.1 (among_append (take k places) (get_or places k 0 ∷ []) i (subst (λ z. Among z i) next h.0))))

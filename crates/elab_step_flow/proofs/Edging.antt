@@ -1,5 +1,5 @@
 -- Edges of dependences, one after another.
-use Rattle.std.proofs.Common.{◌≡◌, ◌≢◌, ℕ, zero, suc, ◌+◌, ◌≤◌, ◌<◌, ◌⊎◌, ◌↔◌, inl, inr, true, false, List, [], ◌∷◌, ◌++◌, map, length, get_or, set, drop, Vec, Global, arith, refl, sym, ap, ◌∙◌, subst}
+use Rattle.std.proofs.Common.{◌≡◌, ◌≢◌, ℕ, zero, suc, ◌+◌, ◌≤◌, ◌<◌, ◌⊎◌, ◌↔◌, inl, inr, false, List, [], ◌∷◌, ◌++◌, map, length, get_or, set, drop, Vec, Global, arith, refl, sym, ap, ◌∙◌, subst}
 use Rattle.std.proofs.lemmas.Bool.{cases_eq}
 use Rattle.vlog_tree_runs.specs.declared.flat.Always.{Always}
 use Rattle.vlog_tree_runs.specs.declared.flat.Signal.{Signal}
@@ -73,12 +73,6 @@ module _ (gs : List Signal) (k : Always) (s : Tables) (h : Shows gs s (block_flo
     λ a. elim ((put e).0 a) [ inl b ↦ inl b | inr b ↦ inr ((row_is_edge e).0 (subst (λ m. IsInRows m s.through e) f (subst (λ t. IsInRows n t e) g b))) ],
     λ a. (put e).1 (elim a [ inl b ↦ inl b | inr b ↦ inr (subst (λ t. IsInRows n t e) (sym g) (subst (λ m. IsInRows m s.through e) (sym f) ((row_is_edge e).1 b))) ]),
   )
-
-pub no_block_edges : (gs : List Signal) (k : Always) (old : List Edge) → k.clocked ≡ true → (e : Edge) → Among old e ↔ (Among old e ⊎ IsBlockEdge gs k e)
-no_block_edges gs k old c e = (λ h. inl h, λ h. elim h [ inl f ↦ f | inr f ↦ absurd (clash (sym c ∙ f.0)) ])
-  where
-    clash : true ≡ false → ⊥
-    clash z = cc
 
 -- ---- the edges of some blocks
 

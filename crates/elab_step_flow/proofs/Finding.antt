@@ -27,7 +27,7 @@ use Rattle.elab_flat_drivers.specs.Driving.{driver_claims}
 use Rattle.elab_flat_drivers.proofs.Naming.{among_of, of_among}
 use Rattle.elab_flat_drivers.proofs.Spots.{shown, width_is, has_spot}
 use Rattle.elab_flat_drivers.proofs.Twice.{driver_told, told_driver}
-use Rattle.elab_step_flow.specs.Asked.{ArePassable, Misses, AnyMisses, ReadsBesides, AnyReadsUnlisted, OfSignal}
+use Rattle.elab_step_flow.specs.Asked.{Misses, AnyMisses, ReadsBesides, AnyReadsUnlisted, OfSignal}
 use Rattle.elab_step_flow.specs.Ready.{IsLeftReady, IsReady, AreReady, AreItemsReady}
 use Rattle.elab_step_flow.specs.Sets.{Tables, HasBit}
 use Rattle.elab_step_flow.specs.Shows.{IsAt, Shows}
@@ -181,9 +181,6 @@ module _ (ls gs : List Signal) (found places : List ℕ) (ns listed : List Name)
 module _ (m : Flat) (gs : List Signal) (ks : List Always) (e : gs ≡ m.signals) (f : ks ≡ m.blocks) where
   pub place_within : (P : Name → Type 0) (ls : List Signal) (i : ℕ) → ls ≡ gs → OfSignal gs i P → i < length ls
   place_within P ls i d (x, a, q) = subst (λ z. i < length z) (sym d) (at_lt gs i x a)
-
-  pub blocks_passable : ArePassable m.signals m.blocks → ArePassable gs ks
-  blocks_passable h = subst (λ z. ArePassable z ks) (sym e) (subst (λ z. ArePassable m.signals z) (sym f) h)
 
   -- what is found of some blocks is found of the module
   pub found_there : (Q : List Signal → Always → Name → Type 0) (ls : List Signal) (i : ℕ) (y : Name) → ls ≡ gs → OfSignal gs i (AnyBlock gs (Q gs) ks) → IsAt ls i y → AnyBlock m.signals (Q m.signals) m.blocks y

@@ -270,9 +270,6 @@ within_moved ls ms is long within j u lt = let w = within j u lt in omega (arith
 
 -- ---- the same processes
 
-pub processes_same : (p : Processes) → AreSameProcesses p p
-processes_same p = record { flat = refl; first = refl; outcomes = refl; source = refl }
-
 pub processes_then : (p q r : Processes) → AreSameProcesses p q → AreSameProcesses q r → AreSameProcesses p r
 processes_then p q r h k = record { flat = k.flat ∙ h.flat; first = k.first ∙ h.first; outcomes = k.outcomes ∙ h.outcomes; source = k.source ∙ h.source }
 

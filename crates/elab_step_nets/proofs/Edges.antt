@@ -11,7 +11,7 @@ use Rattle.word_dag.specs.Nodes.{Naming}
 use Rattle.word_dag.specs.Adding.{Keeps}
 use Rattle.elab_step_expr.specs.declared.leaves.Leaf.{Leaf}
 use Rattle.elab_step_expr.specs.Leaves.{declared}
-use Rattle.elab_step_expr.proofs.Kept.{keeps_then, keeps_same}
+use Rattle.elab_step_expr.proofs.Kept.{keeps_then}
 use Rattle.elab_step_blocks.specs.Standing.{AreShown}
 use Rattle.elab_step_blocks.specs.Runs.{AreSet, Runs}
 use Rattle.elab_step_laws.specs.Laws.{place_over}
@@ -24,11 +24,6 @@ pub record Running (f : Flat) (rest : List Always) (ls : List Leaf) (a : List No
   pub set : AreSet (Some ls) ms b
   pub same : declared ms ≡ declared ls
   pub shows : (e : Naming) (c : Cycle) → AreShown e a ls c → (d : Cycle) × AreShown e b ms d × (after_edge (flat_place f) (clocked rest) c d ≡ after_edge (flat_place f) (clocked f.blocks) c c)
-
-pub running_start : (f : Flat) (ls ms : List Leaf) (a : List Node) → IsBoard f.signals ls a → ms ≡ ls → Running f f.blocks ls a ms a
-running_start f ls ms a h e =
-    let P : List Leaf → Type 0 = λ z. Running f f.blocks ls a z a in
-    subst P (sym e) (record { keeps = keeps_same a; set = record { ready = h.ready; seen = h.ready; same = refl; apart = h.apart }; same = refl; shows = λ e c s. (c, s, refl) })
 
 pub running_next : (f : Flat) (k : Always) (rest : List Always) (ls ms ks : List Leaf) (a b d : List Node) → IsBoard f.signals ls a → k.clocked ≡ true → Running f (k ∷ rest) ls a ms b → Keeps b d → declared ks ≡ declared ms → AreSet (Some ls) ks d
     → Runs (Some ls) (λ gs. run false (place_over gs) k.body) ms b ks d → Running f rest ls a ks d

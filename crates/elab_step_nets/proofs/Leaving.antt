@@ -47,13 +47,6 @@ placed xs x i rises found = searched xs x (Ok i) found (rising_up xs rises)
 pub not_placed : (xs : List ℕ) (x i : ℕ) → IsStrictlyIncreasing xs → IsBinarySearchResult (λ y. nat_cmp y x) xs (Err i) → Among xs x → ⊥
 not_placed xs x i rises found = sought xs x (Err i) false rises found refl
 
-pub places_next : (ss : List Saved) (i : ℕ) (s d : Saved) → i < length ss → s ≡ get_or ss i d → places_of (take (i + 1) ss) ≡ places_of (take i ss) ++ s.place ∷ []
-places_next ss i s d lt e = ap places_of (take_next ss i s d lt e) ∙ pushed (take i ss)
-  where
-    pushed : (ts : List Saved) → places_of (ts ++ s ∷ []) ≡ places_of ts ++ s.place ∷ []
-    pushed [] = refl
-    pushed (t ∷ ts) = ap (λ (r : List ℕ). t.place ∷ r) (pushed ts)
-
 -- ---- nodes of leaves
 
 pub node_there : (ls : List Leaf) (ns : List Node) (i : ℕ) → AreReady ls ns → i < length ls → IsNode ns (node_at ls i) (width_at ls i)

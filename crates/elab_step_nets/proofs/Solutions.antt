@@ -75,12 +75,6 @@ module _ (f : Flat) (xss : List (List Name)) (ts : List Bool) (ns : List Node) (
   now_shown : AreShown (naming_of c) ns now solved_to
   now_shown = is.shows (naming_of c) (unset (joined xss) c) (begun_shown ns (joined xss) c f.signals ts first flags is.begun fits)
 
-  -- the node of a signal has the value that it is solved to
-  pub net_number : (i : ℕ) → i < length f.signals → number_at (naming_of c) ns (node_at now i) ≡ solved_to (name_of f.signals i)
-  net_number i l =
-      let n = leaves_long f.signals now is.board.leaves in
-      sym (shown_at (naming_of c) ns solved_to f.signals now i is.board.leaves (omega (arith, l, n)) now_shown)
-
   -- and its next node what the clocked blocks leave
   pub next_number : AreLeavesOf f.signals next → (i : ℕ) → i < length f.signals → number_at (naming_of c) ns (node_at next i) ≡ after_edge (flat_place f) (clocked f.blocks) solved_to solved_to (name_of f.signals i)
   next_number are i l =

@@ -236,10 +236,6 @@ module _ (p : Place) (gs : List Signal) (all : List Stmt) (net : Name → Type 0
   solved_other (xs ∷ rest) c z n =
       solved_other rest (settled p (drivers_in all xs) xs c) z (λ m. n (append_right xs (joined rest) z m)) ∙ settled_other (drivers_in all xs) xs z c (λ m. n (append_left xs (joined rest) z m))
 
-  pub solved_fits : (xss : List (List Name)) (c : Cycle) → AreFit gs c → AreFit gs (solved p all xss c)
-  solved_fits [] c f = f
-  solved_fits (xs ∷ rest) c f = solved_fits rest (settled p (drivers_in all xs) xs c) (settled_fits (drivers_in all xs) xs c (in_all xs) f)
-
   -- what a net of the first group depends on has its value in each cycle with the same values of what isn't solved
   first_agrees : (xs : List Name) (rest : List (List Name)) (c d : Cycle) → IsOrder depends (xs ++ joined rest) → IsGroup all depends xs → ((z : Name) → (Among (xs ++ joined rest) z → ⊥) → c z ≡ d z)
       → (x : Name) → Among xs x → (z : Name) → depends x z → (Among xs z → ⊥) × (c z ≡ d z)

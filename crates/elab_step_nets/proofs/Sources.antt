@@ -33,7 +33,7 @@ use Rattle.elab_step_copies.proofs.Moving.{name_same, width_same}
 use Rattle.elab_step_nets.specs.declared.outcomes.Outcome.{Outcome}
 use Rattle.elab_step_nets.specs.Boards.{IsFreeOf}
 use Rattle.elab_step_nets.specs.Outcomes.{IsSource, IsRoot, IsOutcome, AreOutcomes, AreRoots}
-use Rattle.elab_step_nets.proofs.Boards.{set_of, begun_grown}
+use Rattle.elab_step_nets.proofs.Boards.{begun_grown}
 use Rattle.elab_step_nets.proofs.Leaving.{node_there}
 use Rattle.elab_step_nets.proofs.Solutions.{shown_before}
 
@@ -102,15 +102,6 @@ pub record Passing (gs : List Signal) (first work : List Leaf) (ns : List Node) 
   pub set : AreSet None work ns
   pub shows : (e : Naming) (c : Cycle) → AreShown e ns first c → AreShown e ns work c
   pub outcomes : AreOutcomes first ns ks os
-
-pub passing_start : (gs : List Signal) (first work : List Leaf) (ns : List Node) (os : List Outcome) → work ≡ first → os ≡ [] → IsSource gs first ns → Passing gs first work ns [] os
-passing_start gs first work ns os e z h = record {
-  source = h;
-  same = ap declared e;
-  set = subst (λ (ls : List Leaf). AreSet None ls ns) (sym e) (set_of gs first ns h.board);
-  shows = λ f c s. subst (λ (ls : List Leaf). AreShown f ns ls c) (sym e) s;
-  outcomes = subst (λ (r : List Outcome). AreOutcomes first ns [] r) (sym z) tt;
-}
 
 module _ (gs : List Signal) (first work : List Leaf) (ns : List Node) (ks : List Always) (os : List Outcome) (k : Always) (o : Outcome) (h : Passing gs first work ns ks os) where
   pub work_leaves : AreLeavesOf gs work

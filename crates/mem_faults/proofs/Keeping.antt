@@ -1,9 +1,8 @@
 -- Words of memories as signals, at rest, and kept.
-use Rattle.std.proofs.Common.{◌≡◌, ℕ, zero, suc, ◌+◌, ◌-◌, ◌<◌, ◌≤◌, Bool, true, false, nat_eq, not, List, [], ◌∷◌, ◌++◌, map, filter, length, drop, get_or, add-one, append-nil, append_assoc, refl, sym, ap, subst, ◌∙◌, arith, ◌⊎◌, inl, inr, if◌then◌else◌}
+use Rattle.std.proofs.Common.{◌≡◌, ℕ, zero, suc, ◌+◌, ◌-◌, ◌<◌, ◌≤◌, Bool, true, false, nat_eq, not, List, [], ◌∷◌, ◌++◌, map, length, drop, get_or, add-one, append-nil, append_assoc, refl, sym, ap, subst, ◌∙◌, arith, ◌⊎◌, inl, inr, if◌then◌else◌}
 use Rattle.std.proofs.lemmas.Bool.Decides.{nat_tests}
 use Rattle.std.specs.List.{flat_map}
 use Rattle.std.proofs.lemmas.List.{map-append}
-use Rattle.vlog_tree.specs.declared.valuation.Entry.{Entry}
 use Rattle.vlog_tree.specs.Valuation.{IsLength}
 use Rattle.vlog_tree_runs.specs.declared.flat.Always.{Always}
 use Rattle.vlog_tree_runs.specs.declared.flat.Flat.{Flat}
@@ -40,9 +39,6 @@ words_done g i le all whole inv =
 
 pub plain_holder : (g : Signal) (r : List Signal) → nat_eq g.depth 0 ≡ true → r ≡ g ∷ [] → r ≡ holders g
 plain_holder g r h e = e ∙ sym (ap (λ (t : Bool). if t then g ∷ [] else words_from g 0 g.depth) h)
-
-pub memory_holders : (g : Signal) (r : List Signal) → nat_eq g.depth 0 ≡ false → r ≡ words_from g 0 g.depth → r ≡ holders g
-memory_holders g r h e = e ∙ sym (ap (λ (t : Bool). if t then g ∷ [] else words_from g 0 g.depth) h)
 
 -- ---- at rest
 

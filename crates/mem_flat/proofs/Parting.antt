@@ -1,5 +1,5 @@
 -- The parts of a left side, their lengths, and what is assigned to each.
-use Rattle.std.proofs.Common.{◌≡◌, ℕ, zero, suc, ◌+◌, ◌-◌, ◌<◌, ◌≤◌, Bool, true, false, List, [], ◌∷◌, ◌++◌, map, length, drop, get_or, drop_of_length-le, sym, ap, ◌∙◌, subst, refl, arith, min, ℤ, pos, ◌-ℤ◌, ◌+ℤ◌}
+use Rattle.std.proofs.Common.{◌≡◌, ℕ, zero, suc, ◌+◌, ◌-◌, ◌<◌, ◌≤◌, List, [], ◌∷◌, ◌++◌, map, length, drop, get_or, drop_of_length-le, sym, ap, ◌∙◌, subst, refl, arith, min, ℤ, pos, ◌-ℤ◌, ◌+ℤ◌}
 use Rattle.std.specs.Borrow.{Bor}
 use Rattle.std.specs.List.{flat_map}
 use Rattle.vlog_tree.specs.declared.expr.Expr.{Expr}
@@ -13,7 +13,7 @@ use Rattle.vlog_tree.specs.declared.stmt.Stmt.{Stmt}
 use Rattle.vlog_tree.specs.declared.valuation.Entry.{Entry}
 use Rattle.elab_flat_faults.specs.Drivers.{parts_of, row_parts_of}
 use Rattle.mem_laws.specs.Spread.{part_length, lefts_length, part_stores, part_store, bits_from}
-use Rattle.mem_faults.specs.Asked.{HasOwnValue, IsSpanEvaluable, HasEvaluableLeft, HaveEvaluableLefts, EachEvaluableLeft}
+use Rattle.mem_faults.specs.Asked.{HasEvaluableLeft, HaveEvaluableLefts, EachEvaluableLeft}
 use Rattle.mem_flat.specs.Borrowed.{left_meant}
 use Rattle.mem_faults.proofs.Growing.{cut}
 
@@ -46,22 +46,6 @@ pub from_same : (v : List Entry) (q : Lval) (right : Expr) (n i j : ℕ) (r : St
 from_same v q right n i j r e h = subst (λ (k : ℕ). r ≡ part_store v q (bits_from right n k)) e h
 
 -- ---- part-selects
-
-pub span_fixed : (v : List Entry) (span : Span) (a b : Expr) → span ≡ w.Fixed → IsSpanEvaluable v span a b → HasOwnValue v a × HasOwnValue v b
-span_fixed v span a b e h = subst (λ (z : Span). IsSpanEvaluable v z a b) e h
-
-pub span_up : (v : List Entry) (span : Span) (a b : Expr) → span ≡ w.Up → IsSpanEvaluable v span a b → HasOwnValue v b
-span_up v span a b e h = subst (λ (z : Span). IsSpanEvaluable v z a b) e h
-
-pub span_down : (v : List Entry) (span : Span) (a b : Expr) → span ≡ w.Down → IsSpanEvaluable v span a b → HasOwnValue v b
-span_down v span a b e h = subst (λ (z : Span). IsSpanEvaluable v z a b) e h
-
--- of a part-select with its length only the length counts
-pub up_width : (span : Span) (x y i j : ℤ) → span ≡ w.Up → y ≡ j → part_width span x y ≡ part_width span i j
-up_width span x y i j e h = ap (λ (z : Span). part_width z x y) e ∙ (ap natural h ∙ sym (ap (λ (z : Span). part_width z i j) e))
-
-pub down_width : (span : Span) (x y i j : ℤ) → span ≡ w.Down → y ≡ j → part_width span x y ≡ part_width span i j
-down_width span x y i j e h = ap (λ (z : Span). part_width z x y) e ∙ (ap natural h ∙ sym (ap (λ (z : Span). part_width z i j) e))
 
 pub fixed_clipped : (span : Span) (a b : ℤ) (r : ℕ) → span ≡ w.Fixed → part_width span a b ≤ 64 → r ≡ min 64 (natural ((a -ℤ b) +ℤ pos 1)) → r ≡ part_width span a b
 fixed_clipped span a b r e few h =

@@ -8,9 +8,8 @@ use Rattle.vlog_tree.specs.declared.stmt.Stmt.{Stmt, Row_of-Stmt, end_of-Stmt, m
 use Rattle.vlog_tree.specs.declared.stmt.Stmt.TheVariants as s
 use Rattle.vlog_tree.specs.declared.stmt.Stmt.TheBlock.{shape-the_row-Stmt-0, hidden-the_row-Stmt-0, shown-the_row-Stmt-0, shape-the_row-Stmt-1, hidden-the_row-Stmt-1, shape-the_row-CaseItem-2, hidden-the_row-CaseItem-2, shown-the_row-CaseItem-2}
 use Rattle.vlog_tree.specs.declared.valuation.Entry.{Entry}
-use Rattle.elab_flat_faults.specs.Drivers.{parts_of}
-use Rattle.mem_laws.specs.Spread.{lefts_length, spread, spread_left, spread_store, spread_stmt, spread_stmts, spread_items}
-use Rattle.mem_faults.specs.Asked.{HasEvaluable, HasEvaluableLeft, HasEvaluableStmt, HaveEvaluableStmts, HaveEvaluableItems, EachEvaluableStmt, HasEvaluableCase, EachEvaluableCase}
+use Rattle.mem_laws.specs.Spread.{spread, spread_left, spread_store, spread_stmt, spread_stmts, spread_items}
+use Rattle.mem_faults.specs.Asked.{HasEvaluable, HasEvaluableStmt, HaveEvaluableStmts, HaveEvaluableItems, EachEvaluableStmt, HasEvaluableCase, EachEvaluableCase}
 use Rattle.mem_flat.specs.Cases.{spread_case}
 use denote.Hole.Carrier
 
@@ -99,12 +98,6 @@ module _ (v : List Entry) where
   case_asked tree kind a xs ys is i h =
       let k : HasEvaluable v a × HaveEvaluableItems v (hidden-the_row-CaseItem-2 xs) = subst (λ z. Asked z) is h in
       (k.0, subst (EachEvaluableCase v) (items_hidden-the_row-CaseItem-2 xs ∙ sym i) (items_asked (hidden-the_row-CaseItem-2 xs) k.1))
-
-  pub blocking_asked : (tree : Stmt) (left : Lval) (right : Expr) → tree ≡ s.Blocking left right → Asked tree → HasEvaluableLeft v left × HasEvaluable v right
-  blocking_asked tree left right is h = subst (λ z. Asked z) is h
-
-  pub nonblocking_asked : (tree : Stmt) (left : Lval) (right : Expr) → tree ≡ s.Nonblocking left right → Asked tree → HasEvaluableLeft v left × HasEvaluable v right × (lefts_length v (parts_of left) ≤ 64)
-  nonblocking_asked tree left right is h = subst (λ z. Asked z) is h
 
   pub each_asked : (xs : List Stmt) (i : ℕ) (a d : Stmt) → EachEvaluableStmt v xs → i < length xs → a ≡ get_or xs i d → Asked a
   each_asked [] i a d h lt e = absurd (omega arith)

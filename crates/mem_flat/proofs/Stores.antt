@@ -1,10 +1,9 @@
 -- Each form of an assignment by `<=`, as the code makes it.
 use Rattle.std.proofs.Common.{◌≡◌, ℕ, Bool, true, false, nat_eq, not, List, [], ◌∷◌, None, map, refl, sym, ap, ◌∙◌, subst, if◌then◌else◌}
-use Rattle.std.specs.List.{list_any}
 use Rattle.vlog_tree.specs.declared.expr.Expr.{Expr}
 use Rattle.vlog_tree.specs.declared.expr.Name.{Name as Read}
 use Rattle.vlog_tree.specs.declared.expr.Span.{Span}
-use Rattle.vlog_tree.specs.declared.stmt.Lval.{Lval, Row_of-Lval}
+use Rattle.vlog_tree.specs.declared.stmt.Lval.{Lval}
 use Rattle.vlog_tree.specs.declared.stmt.Lval.TheVariants as l
 use Rattle.vlog_tree.specs.declared.stmt.Stmt.{Stmt}
 use Rattle.vlog_tree.specs.declared.stmt.Stmt.TheVariants as s
@@ -12,9 +11,8 @@ use Rattle.vlog_tree.specs.declared.stmt.Stmt.TheBlock.{shape-the_row-Stmt-1, hi
 use Rattle.vlog_tree.specs.declared.valuation.Entry.{Entry}
 use Rattle.vlog_tree.specs.Valuation.{depth_of, word_name}
 use Rattle.vlog_tree_runs.specs.Places.{Name, read}
-use Rattle.elab_flat_faults.specs.Drivers.{parts_of}
-use Rattle.mem_laws.specs.Spread.{spread, spread_left, is_word, named_words, word_store, memory_store, part_store, part_stores, lefts_length, is_memory_word, spread_store}
-use Rattle.mem_flat.specs.Cases.{block_store, concat_store}
+use Rattle.mem_laws.specs.Spread.{spread, spread_left, is_word, named_words, word_store, memory_store, part_store, is_memory_word, spread_store}
+use Rattle.mem_flat.specs.Cases.{concat_store}
 use denote.Hole.Carrier
 
 pub word_store_made : (x : Read) (a right test : Expr) (j : ℕ) (store : Stmt) → test ≡ is_word a j → store ≡ s.Nonblocking (l.Name (word_name x j).text) right → s.If test store ≡ word_store x a right j
@@ -58,15 +56,6 @@ module _ (v : List Entry) where
 
   pub plain_same : (left : Lval) (right : Expr) (r : Stmt) → is_memory_word v left ≡ false → r ≡ s.Nonblocking (spread_left v left) right → r ≡ part_store v left right
   plain_same left right r h m = m ∙ plain_part left right h
-
-  pub concat_block : (left : Lval) (right : Expr) (qs : List Lval) (r : Stmt) → qs ≡ parts_of left → list_any (is_memory_word v) qs ≡ true → r ≡ block_store v qs right → r ≡ concat_store v left right
-  concat_block left right qs r e h m =
-      m ∙ (ap (λ z. block_store v z right) e
-      ∙ sym (ap (λ (t : Bool). if t then block_store v (parts_of left) right else s.Nonblocking (spread_left v left) right) (sym (ap (list_any (is_memory_word v)) e) ∙ h)))
-
-  pub concat_plain : (left : Lval) (right : Expr) (qs : List Lval) (r : Stmt) → qs ≡ parts_of left → list_any (is_memory_word v) qs ≡ false → r ≡ s.Nonblocking (spread_left v left) right → r ≡ concat_store v left right
-  concat_plain left right qs r e h m =
-      m ∙ sym (ap (λ (t : Bool). if t then block_store v (parts_of left) right else s.Nonblocking (spread_left v left) right) (sym (ap (list_any (is_memory_word v)) e) ∙ h))
 
   pub store_concat : (left : Lval) (xs : List Lval) (right : Expr) (r : Stmt) → left ≡ l.Concat xs → r ≡ concat_store v left right → r ≡ spread_store v left right
   store_concat left xs right r is m = m ∙ (ap (λ z. concat_store v z right) is ∙ sym (ap (λ z. spread_store v z right) is))

@@ -1,5 +1,5 @@
 -- An expression without memories is well formed where the expression is.
-use Rattle.std.proofs.Common.{◌≡◌, ℕ, ◌+◌, ◌-◌, ◌%◌, ◌^◌, ◌<◌, ◌&&◌, max, Bool, true, false, nat_eq, List, [], ◌∷◌, ◌++◌, sym, ap, ◌∙◌, refl, inl, inr, map, subst, arith}
+use Rattle.std.proofs.Common.{◌≡◌, ℕ, ◌+◌, ◌-◌, ◌%◌, ◌^◌, ◌<◌, ◌&&◌, Bool, true, false, nat_eq, List, [], ◌∷◌, ◌++◌, sym, ap, ◌∙◌, refl, inl, inr, map, subst, arith}
 use Rattle.std.specs.Prelude.{if◌then◌else◌, pos, ◌<ℤ◌, IsSomeAnd}
 use Rattle.std.proofs.lemmas.Bool.{eqb-true, eqb-false}
 use Rattle.std.proofs.lemmas.Int.{ints}
@@ -219,9 +219,6 @@ bits_formed w right n s h l = (((omega arith, omega arith), h, l), eight)
 
 pub bits_constant : (right : Expr) (n s : ℕ) → HasConstantParts nothing right → HasConstantParts nothing (bits_from right n s)
 bits_constant right n s h = ((tt, h, tt), tt, tt)
-
-pub bits_width : (w : List Entry) (right : Expr) (n s : ℕ) → (operand_of w (bits_from right n s)).width ≡ max (operand_of w right).width n
-bits_width w right n s = refl
 
 pub bits_sign : (w : List Entry) (right : Expr) (n s : ℕ) → (operand_of w (bits_from right n s)).signed ≡ (operand_of w right).signed
 bits_sign w right n s = and_true (operand_of w right).signed

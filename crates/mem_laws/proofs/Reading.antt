@@ -15,7 +15,7 @@ use Rattle.vlog_tree.specs.Valuation.{IsLength, named, depth_of, word_name}
 use Rattle.vlog_tree.specs.Value.{Operand, operand_of, row_of, own, own_value, own_defined, plain, vector, bit, part_of, word_of, is_negative, choice_of, joined, unary_of, binary_of, cast_of, repeated, bit_of}
 use Rattle.vlog_tree.specs.declared.expr.Expr.TheBlock.{shape-the_row-Expr-1, hidden-the_row-Expr-1}
 use denote.Hole.Carrier
-use Rattle.mem_laws.specs.Spread.{is_constant, is_fixed, read_words, is_word, word_read, chosen, memory_read, spread, spread_row, number}
+use Rattle.mem_laws.specs.Spread.{is_constant, is_fixed, read_words, word_read, chosen, memory_read, spread, spread_row, number}
 use Rattle.vlog_tree_runs.specs.Places.{Name, Among}
 use Rattle.mem_laws.specs.Uses.{whole_in, row_whole_in}
 use Rattle.mem_laws.specs.Laws.{Spreads, IsIndexed}
@@ -46,10 +46,6 @@ part_read n x h =
     (λ r. plain (full_width n h r) ((div-one (x % 2 ^ n) r) % 2 ^ full_width n h r) true) ∙ ap (λ k. plain n k true) (mod-mod x (2 ^ n))
 
 -- ---- the word that an index names
-
-test_means : (w : List Entry) (a : Expr) (j : ℕ) →
-    operand_of w (is_word a j) ≡ plain 1 (bit (nat_eq (own (operand_of w a)) (j % 2 ^ 8))) (own_defined (operand_of w a) && true)
-test_means w a j = refl
 
 -- the value of word j
 abbrev held : List Entry → List Entry → Read → ℕ → ℕ

@@ -71,9 +71,6 @@ own_written size i (suc n) t x h =
 
 -- ---- parts
 
-if_put : (b : Bool) (x y z : ℕ) → y ≡ z → (if b then y else x) ≡ (if b then z else x)
-if_put b x y z e = ap (λ n. if b then n else x) e
-
 pub put_lowest : (q : Piece) (t u : ℕ) (c : Cycle) → t % 2 ^ q.count ≡ u % 2 ^ q.count → put q t c ≡ put q u c
 put_lowest q t u c e =
     λ r. λ (x : Name). if bytes_eq q.name x

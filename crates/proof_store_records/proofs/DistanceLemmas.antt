@@ -3,7 +3,7 @@ use Rattle.std.specs.List.{All, flat_map}
 use Rattle.std.proofs.lemmas.Bool.{cases_lt}
 use Rattle.std.proofs.lemmas.Bool.Decides.{nat_tests}
 use Rattle.std.proofs.lemmas.List.{append_assoc, append-nil, get_or_at, length-append}
-use Rattle.std.proofs.lemmas.List.Elements.{All-nil, All-cons, All-push, All-same}
+use Rattle.std.proofs.lemmas.List.Elements.{All-push, All-same}
 use Rattle.proof_store_records.specs.Varint.{varint}
 use Rattle.proof_store_records.specs.Layout.{distance, distances, distances_after}
 
@@ -53,21 +53,6 @@ pub record HintsSoFar (numbers left hints : List ℕ) (before : ℕ) : Type 0 wh
   pub last : Below before
   pub written : (tail : List ℕ) → distances_after before tail ≡ left → distances (hints ++ tail) ≡ numbers
   pub only : (hs : List ℕ) → distances hs ≡ numbers → (tail : List ℕ) × (hs ≡ hints ++ tail) × (distances_after before tail ≡ left)
-
-only_first : (first : ℕ) (later hs : List ℕ) → distances hs ≡ first ∷ later → (tail : List ℕ) × (hs ≡ (first ∷ []) ++ tail) × (distances_after first tail ≡ later)
-only_first first later [] e = cc
-only_first first later (h ∷ hs) e =
-    let head : h ≡ first = cc in
-    let tail : distances_after h hs ≡ later = cc in
-    (hs, ap (λ n. n ∷ hs) head, ap (λ n. distances_after n hs) (sym head) ∙ tail)
-
-pub hints_first : (numbers later : List ℕ) (first : ℕ) → numbers ≡ first ∷ later → first < 2 ^ 32 → HintsSoFar numbers later (first ∷ []) first
-hints_first numbers later first e below = record {
-  below = All-cons Below first [] below (All-nil Below);
-  last = below;
-  written = λ tail told. ap (λ ds. first ∷ ds) told ∙ sym e;
-  only = λ hs told. only_first first later hs (told ∙ e);
-}
 
 only_more : (before n h : ℕ) (rest hints hs tail : List ℕ) → distance before h ≡ n → hs ≡ hints ++ tail → distances_after before tail ≡ n ∷ rest → (more : List ℕ) × (hs ≡ (hints ++ h ∷ []) ++ more) × (distances_after h more ≡ rest)
 only_more before n h rest hints hs [] is e told = cc

@@ -65,9 +65,6 @@ module _ {X : Type 0} (Fit : X → Type 0) (code : X → List ℕ) where
       nothing_more items xs m.0 rest r m.1 same m.2
 
   module _ (limit : ℕ) (count : ℕ → List ℕ) where
-    pub counted_none : (bytes : List ℕ) → Lacks (λ n. n < limit) count bytes → Lacks (FitsList limit Fit) (counted count code) bytes
-    counted_none bytes none xs r fits is = none (length xs) (flat_map code xs ++ r) fits.count (is ∙ append_assoc (count (length xs)) (flat_map code xs) r)
-
     inside : (bytes after : List ℕ) (n : ℕ) → Starts (λ n. n < limit) count bytes n after → (xs : List X) (r : List ℕ) → FitsList limit Fit xs → bytes ≡ counted count code xs ++ r → (length xs ≡ n) × (after ≡ flat_map code xs ++ r)
     inside bytes after n starts xs r fits is =
         let same = starts.only (length xs) (flat_map code xs ++ r) fits.count (is ∙ append_assoc (count (length xs)) (flat_map code xs) r) in
@@ -112,14 +109,6 @@ module _ {X Y : Type 0} (F : X → Type 0) (first : X → List ℕ) (G : Y → T
 
   abbrev both : X × Y → List ℕ
   both p = first p.0 ++ second p.1
-
-  pub both_first : (bytes : List ℕ) → Lacks F first bytes → Lacks Both both bytes
-  both_first bytes none p r fits is = none p.0 (second p.1 ++ r) fits.0 (is ∙ append_assoc (first p.0) (second p.1) r)
-
-  pub both_second : (bytes rest : List ℕ) (x : X) → Starts F first bytes x rest → Lacks G second rest → Lacks Both both bytes
-  both_second bytes rest x starts none p r fits is =
-      let same = starts.only p.0 (second p.1 ++ r) fits.0 (is ∙ append_assoc (first p.0) (second p.1) r) in
-      none p.1 r fits.1 (sym same.1)
 
   pub both_one : (bytes rest after : List ℕ) (x : X) (y : Y) → Starts F first bytes x rest → Starts G second rest y after → Starts Both both bytes (x, y) after
   both_one bytes rest after x y starts then = record {

@@ -13,7 +13,7 @@ pub fn put<S: Sink>(alloc: Global, sink: &mut S, bytes: &[u8]) -> Result<(), Out
     ensures err { IfErr result (λ e. Refused (S.written sink.old) (S.written sink.new) (S.faults sink.old)
         (S.faults sink.new) e (bytes.now)) }
 {
-    sink.put(alloc, bytes)
+    sink.put(bytes)
 }
 
 // Puts a digit.

@@ -3,7 +3,6 @@ use Rattle.std.proofs.Common.{◌≡◌, ℕ, zero, suc, ◌+◌, ◌-◌, ◌<�
 use Rattle.std.specs.Prelude.{◌&&◌, max, not, slice_get}
 use Rattle.std.specs.List.{All, Contains}
 use Rattle.std.proofs.lemmas.Bool.{cases_lt}
-use Rattle.std.proofs.lemmas.List.{length-drop}
 use Rattle.vlog_tree.specs.declared.expr.Expr.{Expr}
 use Rattle.set_tree.specs.declared.set.Cover.{Cover}
 use Rattle.set_tree.specs.declared.set.Name.{Name}
@@ -12,7 +11,7 @@ use Rattle.set_tree.specs.declared.set.Rule.{Rule}
 use Rattle.set_tree.specs.declared.set.Set.{Set}
 use Rattle.set_tree.specs.declared.set.To.{To}
 use Rattle.set_tree.specs.declared.set.To.TheVariants.{At, AfterEnd}
-use Rattle.set_tree.specs.Formulas.{largest_offset, meaning_of}
+use Rattle.set_tree.specs.Formulas.{meaning_of}
 use Rattle.set_tree.specs.Meaning.{Row, Meaning, holds}
 use Rattle.set_tree.specs.Parts.{property_at, IsPosition, first_offset, window_of, cover_end}
 use Rattle.set_tree.specs.Lines.{last_row}
@@ -94,10 +93,6 @@ cover_fits set property at n k i far covers d s position same listed lt le fits 
     no_later : (to : To) (n high : ℕ) → n ≤ high → cover_end to n ≤ cover_end to high
     no_later (At r) n high le = omega arith
     no_later (AfterEnd d) n high le = omega arith
-
--- a formula that still fits is readable
-pub readable_from : (set : Set) (e : Expr) (t : ℕ) (rows : List Row) → IsFormula set e → t < length rows - largest_offset e → IsReadable set (length (drop t rows)) e
-readable_from set e t rows formed lt = record { formed = formed; fits = let long = length-drop t rows in omega (arith, long) }
 
 false_right : (b x : Bool) → x ≡ false → false ≡ (b && x)
 false_right true x h = sym h

@@ -28,7 +28,7 @@ pub fn put_lines<S: Sink>(alloc: Global, bytes: &[u8], out: &mut S) -> Result<()
     let mut from = 0;
     while from < bytes.len() {
         let to = from + line_length(&bytes[from..]);
-        out.put(alloc, &bytes[from..to])?;
+        out.put(&bytes[from..to])?;
         from = to;
     }
     Ok(())

@@ -92,7 +92,7 @@ fn listener(rt: &HostRuntime, port: Option<u16>) -> Option<TcpListener> {
 // A desk that can't be opened would tell each peer so, for as long as it is served.
 fn no_desk(rt: &HostRuntime) -> Result<u8, AllocError> {
     // The status stays where the line isn't taken.
-    let _ = Console::new(rt.clone()?).put(rt.alloc(), b"keeper\n");
+    let _ = Console::new(rt.clone()?).put(b"keeper\n");
     Ok(8)
 }
 

@@ -106,8 +106,8 @@ impl<S: Sink + Drop> Sink for Screen<'_, S> {
 
     ghost faults = { λ s. S.faults s.out };
 
-    fn put(&mut self, alloc: Global, bytes: &[u8]) -> Result<(), OutFault> {
+    fn put(&mut self, bytes: &[u8]) -> Result<(), OutFault> {
         self.progress.clear();
-        self.out.put(alloc, bytes)
+        self.out.put(bytes)
     }
 }

@@ -58,6 +58,3 @@ module _ (holds : List Token → Bool) (ts : List Token) (at : ℕ) where
 
     pub last_later : at < length ts → holds (rest ts at) ≡ false → option_or (option_map f (last_where holds (drop (at + 1) ts))) old ≡ whole
     last_later lt h = last_on lt false (at_rest false h)
-
-    pub last_end : length ts ≤ at → old ≡ whole
-    last_end le = sym (ap (λ here. option_or (option_map f (last_where holds here)) old) (drop_all at ts le)) ∙ so_far

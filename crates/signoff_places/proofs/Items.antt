@@ -12,12 +12,6 @@ got xs i (Some x) is = sym (slice_get_read xs _ i x.now refl is.3.0 is.1)
 pub got_some : {X : Type 0} (xs : List X) (i : ℕ) (r : Option (Bor X)) (x : Bor X) → IsItemAt xs i r → r ≡ Some x → Some x.now ≡ slice_get xs i
 got_some xs i r x is some = sym (ap option_copied some) ∙ got xs i r is
 
-pub got_none : {X : Type 0} (xs : List X) (i : ℕ) (r : Option (Bor X)) → IsItemAt xs i r → r ≡ None → None ≡ slice_get xs i
-got_none xs i r is none = sym (ap option_copied none) ∙ got xs i r is
-
 -- the name of what stands there, and no bytes where nothing does
 pub name_there : {X : Type 0} (name : X → List ℕ) (xs : List X) (i : ℕ) (r : Option (Bor X)) (x : Bor X) → IsItemAt xs i r → r ≡ Some x → name x.now ≡ option_map_or name (slice_get xs i) []
 name_there name xs i r x is some = ap (λ o. option_map_or name o []) (got_some xs i r x is some)
-
-pub no_name_there : {X : Type 0} (name : X → List ℕ) (xs : List X) (i : ℕ) (r : Option (Bor X)) → IsItemAt xs i r → r ≡ None → [] ≡ option_map_or name (slice_get xs i) []
-no_name_there name xs i r is none = ap (λ o. option_map_or name o []) (got_none xs i r is none)

@@ -42,7 +42,7 @@ fn a_real_file_is_read_up_to_the_limit(rt: HostRuntime) -> Result<(), Fail> {
 #[test]
 fn the_standard_output_takes_bytes(rt: HostRuntime) -> Result<(), Fail> {
     let mut console = Console::new(rt);
-    console.put(rt.alloc(), b"signed off\n")?;
+    console.put(b"signed off\n")?;
     Ok(())
 }
 

@@ -14,13 +14,6 @@ pub assumed_later : (m : Meaning) (set : Set) (p : ℕ) (rows : List Row) → 0 
 assumed_later m set zero rows lt = absurd (omega arith)
 assumed_later m set (suc i) rows lt = refl
 
-assumed_reset' : (m : Meaning) (set : Set) (p : ℕ) (rows : List Row) → p ≡ 0 → true ≡ assumed m set p rows
-assumed_reset' m set zero rows is = refl
-assumed_reset' m set (suc i) rows is = absurd (omega arith)
-
-pub assumed_reset : (m : Meaning) (set : Set) (p : ℕ) (rows : List Row) → p ≡ 0 → true ≡ assumed m set p rows
-assumed_reset m set p rows is = assumed_reset' m set p rows is
-
 -- one more of the numbers from n on
 pub any_more : (n k : ℕ) (p : ℕ → Bool) → (any_from n k p || p (n + k)) ≡ any_from n (k + 1) p
 any_more n k p = let next : k + 1 ≡ suc k = omega arith in rw next (at n k)

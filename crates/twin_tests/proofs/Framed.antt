@@ -29,7 +29,7 @@ use Rattle.twin_tests.specs.Framing.{AreFrames, IsFrame}
 use Rattle.twin_tests.specs.Reading.{FollowsWithin, HasStructure}
 use Rattle.twin_tests.proofs.Handing.{get_again}
 use Rattle.twin_tests.proofs.Readings.{property_later, same_at}
-use Rattle.elab_step_expr.proofs.Kept.{keeps_same, keeps_then}
+use Rattle.elab_step_expr.proofs.Kept.{keeps_then}
 use Rattle.twin_tests.proofs.Standing.{shown_length, shows_drop, shows_grown, shows_take, tests_grown, tests_later}
 
 pub frame_grown : (a b : List Node) (set : Set) (frame : Frame) → Grows a b → IsFrame set a frame → IsFrame set b frame
@@ -71,9 +71,6 @@ pub record MetLoop (set : Set) (start nodes : List Node) (met : List ℕ) (side 
   pub keeps : Keeps start nodes
   pub count : length met ≡ k
   pub each : (end d : ℕ) → end < k → Tests nodes (get_or met end d) (λ e. meets_constraints (meaning_of set) set (named_rows set e side end))
-
-pub met_start : (set : Set) (start : List Node) (side : ℕ) → MetLoop set start start [] side 0
-met_start set start side = record { keeps = keeps_same start; count = refl; each = λ end d lt. absurd (omega (arith, lt)) }
 
 pub met_step : (set : Set) (start a b : List Node) (met new : List ℕ) (side k i : ℕ) → new ≡ met ++ i ∷ [] → Keeps a b → Tests b i (λ e. meets_constraints (meaning_of set) set (named_rows set e side k)) → MetLoop set start a met side k → MetLoop set start b new side (k + 1)
 met_step set start a b met new side k i made ab here before = record {

@@ -1,32 +1,18 @@
 -- The free words of windows.
-use Rattle.std.proofs.Common.{◌≡◌, ◌≤◌, ◌+◌, ◌<◌, ℕ, List, [], ◌∷◌, ◌++◌, map, zero, suc, length, get_or, take, refl, sym, ap, ◌∙◌, subst, arith, inl, inr}
-use Rattle.std.specs.Prelude.{pos}
+use Rattle.std.proofs.Common.{◌≡◌, ◌≤◌, ◌+◌, ◌<◌, ℕ, List, [], ◌∷◌, ◌++◌, map, zero, suc, length, get_or, take, sym, ap, ◌∙◌, subst, arith, inl, inr}
 use Rattle.std.proofs.lemmas.List.{take_more, map-append, take_all}
-use Rattle.std.proofs.lemmas.List.Elements.{All-push, All-nil}
+use Rattle.std.proofs.lemmas.List.Elements.{All-push}
 use Rattle.set_tree.specs.Meaning.{Row}
 use Rattle.set_tree.specs.declared.set.Name.{Name}
-use Rattle.vlog_tree.specs.Valuation.{IsLength}
-use Rattle.word_core.specs.Words.{Bits}
 use Rattle.word_dag.specs.declared.node.Node.{Node}
-use Rattle.word_dag.specs.declared.node.Node.TheVariants.{Free}
 use Rattle.word_dag.specs.Nodes.{Naming}
-use Rattle.word_dag.specs.Adding.{Adds, Grows}
-use Rattle.word_dag.proofs.Valued.{grows_kept}
+use Rattle.word_dag.specs.Adding.{Grows}
 use Rattle.elab_step_expr.specs.Nodes.{AddsFrees}
-use Rattle.twin_tests_laws.specs.Windows.{side_of, named_value, rows_from}
+use Rattle.twin_tests_laws.specs.Windows.{named_value, rows_from}
 use Rattle.twin_tests.specs.Building.{HasWidth, IsLeafRow, Counts, Shows, ShowsRow, row_in, word_in}
-use Rattle.elab_step_expr.proofs.Kept.{keeps_same, grows_then, frees_then}
+use Rattle.elab_step_expr.proofs.Kept.{grows_then, frees_then}
 use Rattle.twin_tests.specs.Framing.{free_of, IsWordOf, IsWindowWord}
 use Rattle.twin_tests.proofs.Standing.{leaf_row_grown, row_grown, shows_grown}
-
-pub free_wide : (a b : List Node) (i side cycle : ℕ) (name : Name) → Adds a b (Free name.name name.width (side_of name.role side) (pos cycle)) i → HasWidth b i name.width
-free_wide a b i side cycle name made = record { below = made.within; width = made.wide }
-
-pub free_is : (a b : List Node) (i side cycle : ℕ) (name : Name) → IsLength name.width → Adds a b (Free name.name name.width (side_of name.role side) (pos cycle)) i → Counts b i (λ e. named_value e side cycle name)
-free_is a b i side cycle name wide made = record {
-  node = record { below = made.within; some = rw made.wide (omega (arith, wide.0)); most = rw made.wide wide.1 };
-  means = λ e. ap (λ (w : Bits). w.value) (made.value e);
-}
 
 leaf_row_push : (nodes : List Node) (names : List Name) (row : List ℕ) (name : Name) (i : ℕ) → IsLeafRow names nodes row → HasWidth nodes i name.width → IsLeafRow (names ++ name ∷ []) nodes (row ++ i ∷ [])
 leaf_row_push nodes [] [] name i h here = (here, tt)
@@ -49,9 +35,6 @@ pub record RowLoop (start nodes : List Node) (row : List ℕ) (side cycle : ℕ)
   pub grows : Grows start nodes
   pub frees : AddsFrees (IsWordOf names side cycle) start nodes
   pub shows : ShowsRow names nodes row (λ e. map (named_value e side cycle) names)
-
-pub row_start : (start : List Node) (side cycle : ℕ) → RowLoop start start [] side cycle []
-row_start start side cycle = record { grows = grows_kept start start (keeps_same start); frees = λ n i free at. inl at; shows = record { leaves = tt; means = λ e. refl } }
 
 pub row_step : (start a b : List Node) (row new : List ℕ) (side cycle k i : ℕ) (names : List Name) (x : Name) → x ≡ get_or names k x → k < length names → new ≡ row ++ i ∷ [] → Grows a b → AddsFrees (λ n. n ≡ free_of x side cycle) a b → HasWidth b i x.width → Counts b i (λ e. named_value e side cycle x) → RowLoop start a row side cycle (take k names) → RowLoop start b new side cycle (take (k + 1) names)
 row_step start a b row new side cycle k i names x is lt made ab more wide counts before =
@@ -80,9 +63,6 @@ pub record WindowLoop (start nodes : List Node) (rows : List (List ℕ)) (side k
   pub grows : Grows start nodes
   pub frees : AddsFrees (IsWindowWord names side) start nodes
   pub shows : Shows names nodes rows (λ e. rows_from names e side 0 k)
-
-pub window_start : (start : List Node) (side : ℕ) (names : List Name) → WindowLoop start start [] side 0 names
-window_start start side names = record { grows = grows_kept start start (keeps_same start); frees = λ n i free at. inl at; shows = record { leaves = record { each = All-nil (IsLeafRow names start) }; means = λ e. refl } }
 
 rows_more : (names : List Name) (e : Naming) (side t k : ℕ) → rows_from names e side t (suc k) ≡ rows_from names e side t k ++ map (named_value e side (t + k)) names ∷ []
 rows_more names e side t zero = let is : t ≡ t + 0 = omega arith in ap (λ (c : ℕ). map (named_value e side c) names ∷ []) is

@@ -107,9 +107,3 @@ cover_fits set p n k cover s position there most fits =
     let within = (s.sound.covers p cover position there).fits in
     let later = later_end cover.to n (property_at set p).length.high most in
     omega (arith, within, later, fits)
-
-pub small_end : (set : Set) (p n : ℕ) → HasStructure set → IsPosition set p → n ≤ (property_at set p).length.high → n ≤ 64
-small_end set p n s position most =
-    let fits = (s.sound.lengths p position).fits in
-    let bound = s.formed.bounds.windows p position in
-    omega (arith, fits, bound, most)

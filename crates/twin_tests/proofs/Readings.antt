@@ -107,9 +107,6 @@ property_later set (suc i) x lt le is =
     let before : suc i - 1 ≡ i = omega arith in
     same_at set.operations i set.first x (omega (arith, le)) ∙ (ap (λ (j : ℕ). get_or set.operations j x) (sym before) ∙ sym is)
 
-pub reads_later : (set : Set) (at : ℕ) (x : Property) → HasStructure set → IsPosition set at → 0 < at → x ≡ get_or set.operations (at - 1) x → ReadsWindow set x
-reads_later set at x s position lt is = subst (ReadsWindow set) (property_later set at x lt position is) (reads_window set at s position)
-
 pub rule_readable : (set : Set) (rule : Rule) → IsFormula set rule.formula → IsReadable set (largest_offset rule.formula + 1) rule.formula
 rule_readable set rule formed = record { formed = formed; fits = omega arith }
 
@@ -142,9 +139,6 @@ split_follow set p n rows later s position is fits = λ k d lt.
     let edge = s.sound.edges p (get_or (property_at set p).next k d) position (contains_at (property_at set p).next k d lt) in
     let long = length-drop n rows in
     (edge.1, rw is (omega (arith, long, bound, fits)))
-
-pub follow_is : (set : Set) (k j q : ℕ) (next : List ℕ) → q ≡ get_or next j q → j < length next → All (FollowsWithin set k) next → FollowsWithin set k q
-follow_is set k j q next is lt all = subst (FollowsWithin set k) (sym is) (all j q lt)
 
 -- the formulas of a property whose window fits into the rows
 pub assumptions_read : (set : Set) (p k : ℕ) (x : Property) (es : List Expr) → HasStructure set → FollowsWithin set k p → es ≡ x.assume → x ≡ property_at set p → All (IsReadable set k) es

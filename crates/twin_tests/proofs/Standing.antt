@@ -169,12 +169,6 @@ same_is a b x y i made f g p q = record {
   means = λ e. made.value e ∙ (ap (λ (k : Bits). eq_of k (word_in a e y)) (p.means e) ∙ (ap (eq_of (flag (f e))) (q.means e) ∙ same_flags (f e) (g e)));
 }
 
-pub widened_is : (a b : List Node) (x w i : ℕ) → 0 < w → w ≤ 64 → Adds a b (Zext w x) i → (f : Naming → ℕ) → Counts a x f → Counts b i f
-widened_is a b x w i some most made f p = record {
-  node = record { below = made.within; some = rw made.wide some; most = rw made.wide most };
-  means = λ e. ap (λ (k : Bits). k.value) (made.value e) ∙ p.means e;
-}
-
 pub equal_is : (a b : List Node) (x y i : ℕ) → Adds a b (Two Eq 1 x y) i → (f g : Naming → ℕ) → Counts a x f → Counts a y g → Tests b i (λ e. f e == g e)
 equal_is a b x y i made f g p q = record {
   node = added a b _ i made;

@@ -18,7 +18,7 @@ use Rattle.elab_step_expr.specs.Nodes.{IsNode}
 use Rattle.elab_step_expr.proofs.Kept.{keeps_same, keeps_then}
 use Rattle.elab_step_design.specs.Designs.{IsDesign, Parts, naming_of, word_in}
 use Rattle.unroll_laws.proofs.Sources.{free_source, source_word}
-use Rattle.unroll.specs.Copies.{AreCopies, AreLeaves, FitCopies, FitLeaves}
+use Rattle.unroll.specs.Copies.{AreLeaves, FitLeaves}
 
 pub node_later : (a b : List Node) (i w : ℕ) → Keeps a b → IsNode a i w → IsNode b i w
 node_later a b i w ab is = (omega (arith, ab.longer, is.0), ab.widths i is.0 ∙ is.1)
@@ -33,16 +33,6 @@ pub record CopyLoop (d : Parts) (start nodes : List Node) (leaves copies : List 
   pub count : length copies ≡ j
   pub fit : (i : ℕ) → i < j → IsNode nodes (slice_index copies i) (width_at d.nodes i)
   pub means : (f : Naming → Cycle) → AreLeaves d start leaves f → (e : Naming) (i : ℕ) → i < j → word_at (dag_values e [] nodes) (slice_index copies i) ≡ word_in d (f e) i
-
-pub copy_start : (d : Parts) (start : List Node) (leaves : List ℕ) → CopyLoop d start start leaves [] 0
-copy_start d start leaves = record { keeps = keeps_same start; count = refl; fit = λ i lt. absurd (omega (arith, lt)); means = λ f is e i lt. absurd (omega (arith, lt)) }
-
-pub copy_end : (d : Parts) (start nodes : List Node) (leaves copies : List ℕ) (j : ℕ) → j ≡ length d.nodes → CopyLoop d start nodes leaves copies j →
-    FitCopies d nodes copies × ((f : Naming → Cycle) → AreLeaves d start leaves f → AreCopies d nodes copies f)
-copy_end d start nodes leaves copies j is loop = (
-  record { count = loop.count ∙ is; each = λ i lt. loop.fit i (omega (arith, lt, is)) },
-  λ f leaf e i lt. loop.means f leaf e i (omega (arith, lt, is)),
-)
 
 module _ (d : Parts) (h : IsDesign d) (start a : List Node) (leaves old : List ℕ) (j : ℕ) (loop : CopyLoop d start a leaves old j) where
   -- one more copy

@@ -175,11 +175,6 @@ among_at [] j d lt = absurd (omega arith)
 among_at (x ∷ xs) zero d lt = inl refl
 among_at (x ∷ xs) (suc j) d lt = inr (among_at xs j d (omega arith))
 
-pub among_taken : {A : Type 0} (xs : List A) (j : ℕ) (x : A) → Among (take j xs) x → Among xs x
-among_taken xs zero x m = absurd m
-among_taken [] (suc j) x m = absurd m
-among_taken (y ∷ xs) (suc j) x m = ⊎_elim (λ (is : y ≡ x). inl is) (λ (in' : Among (take j xs) x). inr (among_taken xs j x in')) m
-
 -- the leaves so far
 pub record LeafLoop (d : Parts) (props : Set) (k i : ℕ) (start nodes : List Node) (leaves : List ℕ) (ss : List Net) : Type 0 where
   pub grows : Grows start nodes

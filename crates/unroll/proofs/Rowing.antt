@@ -102,15 +102,6 @@ pub record RowsLoop (d : Parts) (props : Set) (k n : ℕ) (start nodes : List No
   pub copied : CopiedBefore d props k (k + n) nodes copies
   pub shows : Shows props.names nodes rows (λ e. rows_from d props k e k n)
 
-pub rows_begin : (d : Parts) (props : Set) (k : ℕ) (start nodes : List Node) (copies : List ℕ) (rows : List (List ℕ)) → Grows start nodes → AddsFrees (IsSourceWord d) start nodes → rows ≡ [] → CopiedBefore d props k k nodes copies → RowsLoop d props k 0 start nodes copies rows
-rows_begin d props k start nodes copies rows grows frees none copied =
-    let here : k + 0 ≡ k = omega arith in record {
-      grows = grows;
-      frees = frees;
-      copied = rw here copied;
-      shows = subst (λ (zs : List (List ℕ)). Shows props.names nodes zs (λ e. [])) (sym none) (record { leaves = record { each = All-nil (IsLeafRow props.names nodes) }; means = λ e. refl });
-    }
-
 pub rows_step : (d : Parts) → IsDesign d → (props : Set) → Fits d props → (k n : ℕ) (start a b : List Node) (old copies places : List ℕ) (rows new : List (List ℕ)) (row : List ℕ) → AllZip (IsPlaceOf d) props.names places → Grows a b → AddsFrees (IsSourceWord d) a b →
     CopiedBefore d props k (suc (k + n)) b copies → row ≡ map (slice_index copies) places → new ≡ rows ++ row ∷ [] → RowsLoop d props k n start a old rows → RowsLoop d props k (n + 1) start b copies new
 rows_step d h props fits k n start a b old copies places rows new row at ab added copied made pushed before =
