@@ -1,6 +1,6 @@
 -- What decided lines say of the modules whose runs the design has, and of two texts.
 use Rattle.std.proofs.Common.{◌≡◌, ℕ, List, [], ◌∷◌, ◌++◌, Option, Some, None, map, refl, sym, ap, ◌∙◌, subst, inl, inr, ⊎_elim}
-use Rattle.std.specs.Prelude.{IfErr, IfSome, Result, Ok, Err}
+use Rattle.std.specs.Prelude.{IfErr, IfOk, IfSome, Result, Ok, Err}
 use Rattle.std.specs.List.{AllZip}
 use Rattle.outside.specs.Tables.{Tables}
 use Rattle.vlog_tree.specs.declared.module.Module.{Module}
@@ -23,6 +23,7 @@ use Rattle.proof_store.specs.Stored.{AddsProofs, Told as TellsTables}
 use Rattle.proof_store.specs.declared.goal.Goal.{Goal}
 use Rattle.replay.specs.declared.shown.Shown.{Shown}
 use Rattle.replay.specs.Segments.{first_values}
+use Rattle.desk_core_reports.specs.declared.book.Book.{Book}
 use Rattle.desk_core_reports.specs.declared.book.Line.{Line as Told}
 use Rattle.desk_core_reports.specs.declared.book.Verdict.{Verdict}
 use Rattle.desk_core_reports.specs.declared.book.Verdict.TheVariants as v
@@ -38,7 +39,7 @@ use Rattle.meet_lines.specs.declared.line.MeetLine.{MeetLine}
 use Rattle.meet_lines.specs.Decided.{AreDecided, AreObsOf, IsDecidedOn, IsLineOf, IsMetIn, IsTraceOf, ShowsModules}
 use Rattle.meet_lines.specs.Goals.{Asks, LacksLine}
 use Rattle.meet_lines.specs.Lines.{IsMet}
-use Rattle.meet_lines.specs.Meetings.{AreObsOfTexts, IsMeetReport, Refuses, RefusesAsked, is_complete, meet_text}
+use Rattle.meet_lines.specs.Meetings.{AreDecidedOf, AreObsOfTexts, IsMeetReport, Refuses, RefusesAsked, is_complete, meet_text}
 use Rattle.meet_lines.specs.Shown.{ShowsMeeting}
 use Rattle.meet_lines.proofs.Carrying.{meeting, met_lines_are_the_modules}
 
@@ -136,6 +137,11 @@ asked_refuses text set_text b name f.Memory bound h = tt
 asked_refuses text set_text b name (f.Module fault) bound h = absurd h
 asked_refuses text set_text b name (f.Set stop) bound h = absurd h
 asked_refuses text set_text b name (f.Bind fault) bound h = absurd h
+
+pub decided_of_texts : {E : Type 0} (text set_text : List ℕ) (b : Pair) (name : Option (List ℕ)) (budget : ℕ) → IsBoundOf text set_text b → (r : Result Book E) → IfOk r (λ book. AreDecided budget b name book.lines.items)
+    → IfOk r (λ book. AreDecidedOf text set_text name budget book.lines.items)
+decided_of_texts text set_text b name budget bound (Ok book) h = (b, bound, h)
+decided_of_texts text set_text b name budget bound (Err fault) h = tt
 
 pub refused_of_texts : {T : Type 0} (text set_text : List ℕ) (b : Pair) (name : Option (List ℕ)) → IsBoundOf text set_text b → (r : Result T CheckFault) → IfErr r (RefusesAsked b.set name) → IfErr r (Refuses text set_text name)
 refused_of_texts text set_text b name bound (Ok t) h = tt

@@ -126,6 +126,15 @@ pub record NameLoop (d : Parts) (set : Set) (obs : List Named) (left : List (Goa
   pub named : AllZip (IsNamedOf d set) before obs
   pub rest : AllZip (IsGoalOf d set) after left
 
+pub name_start : (d : Parts) (set : Set) (all left : List (Goal MeetLine)) (obs : List Named) → AllZip (IsGoalOf d set) (meet_lines set) all → left ≡ all → obs ≡ [] → NameLoop d set obs left
+name_start d set all left obs are same none = record {
+  before = [];
+  after = meet_lines set;
+  split = refl;
+  named = subst (λ (ns : List Named). AllZip (IsNamedOf d set) [] ns) (sym none) tt;
+  rest = subst (λ (gs : List (Goal MeetLine)). AllZip (IsGoalOf d set) (meet_lines set) gs) (sym same) are;
+}
+
 pub name_more : (d : Parts) (set : Set) (now left : List (Goal MeetLine)) (obs more : List Named) (goal : Goal MeetLine) (named : Named) → NameLoop d set obs now → now ≡ goal ∷ left → named.name ≡ meet_name set goal.line → named.ob ≡ goal.ob → more ≡ obs ++ named ∷ [] → NameLoop d set more left
 name_more d set now left obs more goal named loop is named_so ob_is pushed =
     let t = turn (IsGoalOf d set) loop.after now left goal loop.rest is in
