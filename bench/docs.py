@@ -11,7 +11,8 @@ new folder, which has the examples and bin/signoff, one document after another. 
     ``` file=NAME behind="TEXT"     the block is inserted in NAME, behind the first line that has TEXT
     ``` shows=NAME                  the block is what the file NAME has
 
-It ends with status 1 where something differs, also an example and its copy in crates/test_runs/data.
+It ends with status 1 where something differs, also an example and its copy in crates/test_runs/data, and where bench/lint.py finds something or
+what bench/help.py makes isn't current.
 """
 import difflib
 import filecmp
@@ -129,6 +130,8 @@ def main(words):
     for name in differing_copies():
         print(f"examples/{name} and crates/test_runs/data/{name} differ")
         differ += 1
+    for script in (["lint.py"], ["help.py", "--check"]):
+        differ += subprocess.run([sys.executable, f"{TOP}/bench/{script[0]}", *script[1:]], check=False).returncode != 0
     sys.exit(1 if differ and not write else 0)
 
 

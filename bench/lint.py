@@ -1,6 +1,6 @@
 #!/usr/bin/env python3
-"""What the prover doesn't see: names in documents that nothing has, unused words of crates.txt, its order, wrong bodies and laws that PROMISES doesn't
-name, and long lines.
+"""What the prover doesn't see: names and files in documents that nothing has, unused words of crates.txt, its order, wrong bodies that PROMISES
+doesn't name, and long lines of documents.
 
 bench/lint.py
 
@@ -15,7 +15,7 @@ TOP = os.path.dirname(os.path.dirname(os.path.abspath(__file__)))
 WIDTH = 120
 # Names of other tools and of what they write.
 OTHERS = {"write_verilog", "m_0", "m_1", "u_a"}
-DOCUMENTS = ["README.md", "crates/README.md", *sorted(os.path.relpath(it, TOP) for it in glob.glob(f"{TOP}/docs/*.md"))]
+DOCUMENTS = sorted(os.path.relpath(it, TOP) for folder in ("", "bench/", "crates/", "docs/", "examples/") for it in glob.glob(f"{TOP}/{folder}*.md"))
 
 
 def text_of(path):
@@ -86,6 +86,16 @@ def names_told():
                     yield f"{document}: `{quoted}`: nothing is named {lost[0]}"
 
 
+def files_told():
+    """Backticked files and folders of the repository in documents that aren't there."""
+    for document in DOCUMENTS:
+        for quoted in sorted(set(re.findall(r"`([\w./-]+)`", prose_of(text_of(document))))):
+            of_crates = re.match(r"\w+/(src|specs|proofs|data|page)\b", quoted)
+            if of_crates or re.match(r"(bin|bench|crates|docs|etc|examples)/(?!X|[A-Z]+(/|$))", quoted) or re.fullmatch(r"[A-Z]+\.md", quoted):
+                if not any(os.path.exists(f"{TOP}/{folder}{quoted}") for folder in ("", "docs/", "crates/")):
+                    yield f"{document}: `{quoted}` isn't there"
+
+
 def bodies_told():
     """Wrong bodies that PROMISES doesn't name."""
     told = text_of("docs/PROMISES.md")
@@ -106,7 +116,7 @@ def lines_told():
 
 
 def main():
-    found = [*crates_told(), *names_told(), *bodies_told(), *lines_told()]
+    found = [*crates_told(), *names_told(), *files_told(), *bodies_told(), *lines_told()]
     print("\n".join(found) if found else "nothing found")
     sys.exit(1 if found else 0)
 
