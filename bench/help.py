@@ -81,7 +81,7 @@ def page_of(text, version):
         '.\\" Made by bench/help.py from the text of signoff --help.',
         f'.TH SIGNOFF 1 "" "signoff {number}" "User Commands"',
         ".SH NAME", f"signoff \\- {roff(what)}",
-        ".SH SYNOPSIS", f".B {roff(text.call.removeprefix('usage: '))}",
+        ".SH SYNOPSIS", f".B {roff(text.call.partition(': ')[2])}",
         ".SH DESCRIPTION", roff(text.files),
         ".SH COMMANDS", *tagged(text.commands),
         ".SH OPTIONS", roff(text.place + "."), *tagged(text.options), ".PP", roff(text.rules),
