@@ -1,14 +1,14 @@
 // The texts of a machine, of a path and of a fault.
-ghost use Rattle.std.specs.Prelude.{◌≡◌, ◌∷◌, ◌++◌, [], List, ℕ, Option, codes, map, IfErr, IfOk, OnOk};
-ghost use Rattle.std.specs.Fmt.{decimal};
+ghost use Rattle.std.specs.Prelude.{◌≡◌, ◌∷◌, ◌++◌, map, IfOk, OnOk};
 ghost use Rattle.twin_tests_laws.specs.Names.{property_name};
-ghost use Rattle.replay.specs.Puts.{Put, Refused};
 ghost use Rattle.word_dag.specs.Text.{spaced};
+ghost use Rattle.replay.specs.Puts.{Prints};
 ghost use Rattle.path_machine.specs.Texts.{fault_text, length_text, machine_text, operations_text, path_text, step_text, transition};
 
 use crate::rows::RowFault;
+use itoa::Buffer;
 use outside::{MemSink, OutFault, Sink, Text};
-use replay::{put, put_number, put_word};
+use replay::{put, put_all, put_word};
 use set_tree::{At, Length, Path, Property, Set};
 use set_tree_structure::Sound;
 use std::alloc::{AllocError, Global};
@@ -26,159 +26,68 @@ pub fn property_name(set: &Set, at: u32) -> &[u8]
     }
 }
 
-// The upper bound of a length.
-fn put_upper<S: Sink>(alloc: Global, sink: &mut S, high: u8) -> Result<(), OutFault>
-    ensures ok { OnOk result (Put (S.written sink.old) (S.written sink.new) (S.faults sink.old) (S.faults sink.new)
-        (codes ".." ++ decimal high)) }
-    ensures err { IfErr result (λ e. Refused (S.written sink.old) (S.written sink.new) (S.faults sink.old)
-        (S.faults sink.new) e (codes ".." ++ decimal high)) }
-{
-    put(alloc, sink, b"..")?;
-    put_number(alloc, sink, u64::from(high))
-}
-
-// A length.
-fn put_length<S: Sink>(alloc: Global, sink: &mut S, length: &Length) -> Result<(), OutFault>
-    ensures ok { OnOk result (Put (S.written sink.old) (S.written sink.new) (S.faults sink.old) (S.faults sink.new)
-        (length_text length.now.low length.now.high length.now.until)) }
-    ensures err { IfErr result (λ e. Refused (S.written sink.old) (S.written sink.new) (S.faults sink.old)
-        (S.faults sink.new) e (length_text length.now.low length.now.high length.now.until)) }
-{
-    let low = u64::from(length.low);
-    match &length.until {
-        None => put_number(alloc, sink, low),
-        Some(_) => {
-            put_number(alloc, sink, low)?;
-            put_upper(alloc, sink, length.high)
-        }
-    }
-}
-
 // A length behind a space.
-fn put_span<S: Sink>(alloc: Global, sink: &mut S, length: &Length) -> Result<(), OutFault>
-    ensures ok { OnOk result (Put (S.written sink.old) (S.written sink.new) (S.faults sink.old) (S.faults sink.new)
-        (32 ∷ length_text length.now.low length.now.high length.now.until)) }
-    ensures err { IfErr result (λ e. Refused (S.written sink.old) (S.written sink.new) (S.faults sink.old)
-        (S.faults sink.new) e (32 ∷ length_text length.now.low length.now.high length.now.until)) }
+fn put_length<S: Sink>(sink: &mut S, length: &Length) -> Result<(), OutFault>
+    ensures { Prints S.written S.faults sink.old sink.new result
+        (32 ∷ length_text length.now.low length.now.high length.now.until) }
 {
-    put(alloc, sink, b" ")?;
-    put_length(alloc, sink, length)
+    let mut low = Buffer::new();
+    let mut high = Buffer::new();
+    let low = low.format(length.low).as_bytes();
+    match &length.until {
+        None => put_word(sink, low),
+        Some(_) => put_all(
+            sink,
+            &[b" ", low, b"..", high.format(length.high).as_bytes()],
+        ),
+    }
 }
 
 // The names of properties, each behind a space.
-fn put_names<S: Sink>(alloc: Global, sink: &mut S, set: &Set, next: &[u32]) -> Result<(), OutFault>
-    ensures ok { OnOk result (Put (S.written sink.old) (S.written sink.new) (S.faults sink.old) (S.faults sink.new)
-        (spaced (map (property_name set.now) next.now))) }
-    ensures err { IfErr result (λ e. Refused (S.written sink.old) (S.written sink.new) (S.faults sink.old)
-        (S.faults sink.new) e (spaced (map (property_name set.now) next.now))) }
+fn put_names<S: Sink>(sink: &mut S, set: &Set, next: &[u32]) -> Result<(), OutFault>
+    ensures { Prints S.written S.faults sink.old sink.new result (spaced (map (property_name set.now) next.now)) }
 {
-    match next {
-        [] => Ok(()),
-        [at, rest @ ..] => {
-            put_word(alloc, sink, property_name(set, *at))?;
-            put_names(alloc, sink, set, rest)
-        }
+    for at in next {
+        put_word(sink, property_name(set, *at))?;
     }
-}
-
-// The successors of a property.
-fn put_successors<S: Sink>(
-    alloc: Global,
-    sink: &mut S,
-    set: &Set,
-    next: &[u32],
-) -> Result<(), OutFault>
-    ensures ok { OnOk result (Put (S.written sink.old) (S.written sink.new) (S.faults sink.old) (S.faults sink.new)
-        (codes " ->" ++ spaced (map (property_name set.now) next.now))) }
-    ensures err { IfErr result (λ e. Refused (S.written sink.old) (S.written sink.new) (S.faults sink.old)
-        (S.faults sink.new) e (codes " ->" ++ spaced (map (property_name set.now) next.now))) }
-{
-    put(alloc, sink, b" ->")?;
-    put_names(alloc, sink, set, next)
-}
-
-// What follows the name of a property.
-fn put_words<S: Sink>(
-    alloc: Global,
-    sink: &mut S,
-    set: &Set,
-    property: &Property,
-) -> Result<(), OutFault>
-    ensures ok { OnOk result (Put (S.written sink.old) (S.written sink.new) (S.faults sink.old) (S.faults sink.new)
-        (spaced (length_text property.now.length.low property.now.length.high property.now.length.until ∷ codes "->" ∷ map (property_name set.now) property.now.next))) }
-    ensures err { IfErr result (λ e. Refused (S.written sink.old) (S.written sink.new) (S.faults sink.old)
-        (S.faults sink.new) e (spaced (length_text property.now.length.low property.now.length.high property.now.length.until ∷ codes "->" ∷ map (property_name set.now) property.now.next))) }
-{
-    put_span(alloc, sink, &property.length)?;
-    put_successors(alloc, sink, set, property.next.as_slice())
-}
-
-// That, and the end of the line.
-fn put_rest<S: Sink>(
-    alloc: Global,
-    sink: &mut S,
-    set: &Set,
-    property: &Property,
-) -> Result<(), OutFault>
-    ensures ok { OnOk result (Put (S.written sink.old) (S.written sink.new) (S.faults sink.old) (S.faults sink.new)
-        (spaced (length_text property.now.length.low property.now.length.high property.now.length.until ∷ codes "->" ∷ map (property_name set.now) property.now.next) ++ 10 ∷ [])) }
-    ensures err { IfErr result (λ e. Refused (S.written sink.old) (S.written sink.new) (S.faults sink.old)
-        (S.faults sink.new) e (spaced (length_text property.now.length.low property.now.length.high property.now.length.until ∷ codes "->" ∷ map (property_name set.now) property.now.next) ++ 10 ∷ [])) }
-{
-    put_words(alloc, sink, set, property)?;
-    put(alloc, sink, b"\n")
+    Ok(())
 }
 
 // A property under a name.
 fn put_transition<S: Sink>(
-    alloc: Global,
     sink: &mut S,
     set: &Set,
     name: &[u8],
     property: &Property,
 ) -> Result<(), OutFault>
-    ensures ok { OnOk result (Put (S.written sink.old) (S.written sink.new) (S.faults sink.old) (S.faults sink.new)
-        (transition set.now name.now property.now)) }
-    ensures err { IfErr result (λ e. Refused (S.written sink.old) (S.written sink.new) (S.faults sink.old)
-        (S.faults sink.new) e (transition set.now name.now property.now)) }
+    ensures { Prints S.written S.faults sink.old sink.new result (transition set.now name.now property.now) }
 {
-    put(alloc, sink, name)?;
-    put_rest(alloc, sink, set, property)
+    put(sink, name)?;
+    put_length(sink, &property.length)?;
+    put(sink, b" ->")?;
+    put_names(sink, set, property.next.as_slice())?;
+    put(sink, b"\n")
 }
 
 // The operations.
-fn put_operations<S: Sink>(
-    alloc: Global,
-    sink: &mut S,
-    set: &Set,
-    operations: &[Property],
-) -> Result<(), OutFault>
-    ensures ok { OnOk result (Put (S.written sink.old) (S.written sink.new) (S.faults sink.old) (S.faults sink.new)
-        (operations_text set.now operations.now)) }
-    ensures err { IfErr result (λ e. Refused (S.written sink.old) (S.written sink.new) (S.faults sink.old)
-        (S.faults sink.new) e (operations_text set.now operations.now)) }
+fn put_operations<S: Sink>(sink: &mut S, set: &Set, operations: &[Property]) -> Result<(), OutFault>
+    ensures { Prints S.written S.faults sink.old sink.new result (operations_text set.now operations.now) }
 {
-    match operations {
-        [] => Ok(()),
-        [operation, rest @ ..] => {
-            put_transition(alloc, sink, set, operation.name.bytes(), operation)?;
-            put_operations(alloc, sink, set, rest)
-        }
+    for operation in operations {
+        put_transition(sink, set, operation.name.bytes(), operation)?;
     }
+    Ok(())
 }
 
 /// Puts the machine of a set: a line for the reset property and for each operation, with its name, its length, as `n`
 /// or as `a..b` where a condition ends it, `->`, and the names of its successors, with single spaces between. It takes
 /// no memory of its own. It is refused where the sink refuses, and then a prefix of the text was put.
-pub fn put_machine<S: Sink>(alloc: Global, sound: &Sound, sink: &mut S) -> Result<(), OutFault>
-    ensures ok { OnOk result (Put (S.written sink.old) (S.written sink.new) (S.faults sink.old) (S.faults sink.new)
-        (machine_text sound.now)) }
-    ensures err { IfErr result (λ e. Refused (S.written sink.old) (S.written sink.new) (S.faults sink.old)
-        (S.faults sink.new) e (machine_text sound.now)) }
+pub fn put_machine<S: Sink>(sound: &Sound, sink: &mut S) -> Result<(), OutFault>
+    ensures { Prints S.written S.faults sink.old sink.new result (machine_text sound.now) }
 {
     let set = sound.set();
-    put_transition(alloc, sink, set, b"reset", &set.first)?;
-    put_operations(alloc, sink, set, set.operations.as_slice())
+    put_transition(sink, set, b"reset", &set.first)?;
+    put_operations(sink, set, set.operations.as_slice())
 }
 
 /// The machine of a set, as `put_machine` puts it.
@@ -186,43 +95,22 @@ pub fn machine_text(alloc: Global, sound: &Sound) -> Result<Text, AllocError>
     ensures { IfOk result (λ text. text ≡ machine_text sound.now) }
 {
     let mut sink = MemSink::new(alloc, Vec::new(alloc));
-    match put_machine(alloc, sound, &mut sink) {
+    match put_machine(sound, &mut sink) {
         Ok(()) => Text::copy(alloc, sink.bytes()),
         Err(_) => Err(AllocError),
     }
 }
 
-// A word behind a space, and the end of the line.
-fn put_last<S: Sink>(alloc: Global, sink: &mut S, word: &[u8]) -> Result<(), OutFault>
-    ensures ok { OnOk result (Put (S.written sink.old) (S.written sink.new) (S.faults sink.old) (S.faults sink.new)
-        ((32 ∷ word.now) ++ 10 ∷ [])) }
-    ensures err { IfErr result (λ e. Refused (S.written sink.old) (S.written sink.new) (S.faults sink.old)
-        (S.faults sink.new) e ((32 ∷ word.now) ++ 10 ∷ [])) }
+// Adds a property of a path, and the end of its line.
+fn add_step(text: &mut Vec<u8>, set: &Set, at: &At) -> Result<(), AllocError>
+    ensures { OnOk result (text.new.items ≡ text.old.items ++ step_text set.now at.now) }
 {
-    put_word(alloc, sink, word)?;
-    put(alloc, sink, b"\n")
-}
-
-// A property of a path.
-fn put_step<S: Sink>(alloc: Global, sink: &mut S, set: &Set, at: &At) -> Result<(), OutFault>
-    ensures ok { OnOk result (Put (S.written sink.old) (S.written sink.new) (S.faults sink.old) (S.faults sink.new)
-        (step_text set.now at.now)) }
-    ensures err { IfErr result (λ e. Refused (S.written sink.old) (S.written sink.new) (S.faults sink.old)
-        (S.faults sink.new) e (step_text set.now at.now)) }
-{
-    put_number(alloc, sink, at.start)?;
-    put_last(alloc, sink, property_name(set, at.property))
-}
-
-// The text of a property of a path.
-fn step_text(alloc: Global, set: &Set, at: &At) -> Result<Text, AllocError>
-    ensures { IfOk result (λ text. text ≡ step_text set.now at.now) }
-{
-    let mut sink = MemSink::new(alloc, Vec::new(alloc));
-    match put_step(alloc, &mut sink, set, at) {
-        Ok(()) => Text::copy(alloc, sink.bytes()),
-        Err(_) => Err(AllocError),
-    }
+    let mut start = Buffer::new();
+    text.extend_from_slice(start.format(at.start).as_bytes())?;
+    text.push(b' ')?;
+    text.extend_from_slice(property_name(set, at.property))?;
+    text.push(b'\n')?;
+    Ok(())
 }
 
 /// The text of a path: a line for each of its properties, with the cycle at which it starts and its name.
@@ -231,45 +119,23 @@ pub fn path_text(alloc: Global, sound: &Sound, path: &Path) -> Result<Text, Allo
 {
     let mut text = Vec::new(alloc);
     for at in path.steps.as_slice() {
-        let step = step_text(alloc, sound.set(), at)?;
-        text.extend_from_slice(step.bytes())?;
+        add_step(&mut text, sound.set(), at)?;
     }
     Ok(Text::new(text))
-}
-
-// The fault of a line.
-fn put_row<S: Sink>(alloc: Global, sink: &mut S, line: u64) -> Result<(), OutFault>
-    ensures ok { OnOk result (Put (S.written sink.old) (S.written sink.new) (S.faults sink.old) (S.faults sink.new)
-        (codes "Row " ++ decimal line)) }
-    ensures err { IfErr result (λ e. Refused (S.written sink.old) (S.written sink.new) (S.faults sink.old)
-        (S.faults sink.new) e (codes "Row " ++ decimal line)) }
-{
-    put(alloc, sink, b"Row ")?;
-    put_number(alloc, sink, line)
-}
-
-// A fault of rows.
-fn put_fault<S: Sink>(alloc: Global, sink: &mut S, fault: &RowFault) -> Result<(), OutFault>
-    ensures ok { OnOk result (Put (S.written sink.old) (S.written sink.new) (S.faults sink.old) (S.faults sink.new)
-        (fault_text fault.now)) }
-    ensures err { IfErr result (λ e. Refused (S.written sink.old) (S.written sink.new) (S.faults sink.old)
-        (S.faults sink.new) e (fault_text fault.now)) }
-{
-    match fault {
-        RowFault::Long => put(alloc, sink, b"Long"),
-        RowFault::Row(line) => put_row(alloc, sink, *line),
-        RowFault::Short => put(alloc, sink, b"Short"),
-        RowFault::Memory => put(alloc, sink, b"Memory"),
-    }
 }
 
 /// The text of a fault of rows: its name, with the number of the line at `Row`.
 pub fn fault_text(alloc: Global, fault: &RowFault) -> Result<Text, AllocError>
     ensures { IfOk result (λ text. text ≡ fault_text fault.now) }
 {
-    let mut sink = MemSink::new(alloc, Vec::new(alloc));
-    match put_fault(alloc, &mut sink, fault) {
-        Ok(()) => Text::copy(alloc, sink.bytes()),
-        Err(_) => Err(AllocError),
+    match fault {
+        RowFault::Long => Text::copy(alloc, b"Long"),
+        RowFault::Row(line) => {
+            let line = *line;
+            let text = format!(in alloc; "Row {line}")?;
+            Text::copy(alloc, text.as_bytes())
+        }
+        RowFault::Short => Text::copy(alloc, b"Short"),
+        RowFault::Memory => Text::copy(alloc, b"Memory"),
     }
 }

@@ -1,92 +1,93 @@
 -- Texts that are put one after another.
-use Rattle.std.proofs.Common.{◌≡◌, ℕ, suc, ◌+◌, ◌-◌, ◌<◌, ◌≤◌, drop, get_or, map, List, [], ◌∷◌, ◌++◌, Option, Some, None, length, take, refl, sym, ap, ◌∙◌, subst, arith, append_assoc, inl, inr}
-use Rattle.std.specs.Prelude.{IfErr, OnOk, Result, Ok, Err}
+use Rattle.std.proofs.Common.{◌≡◌, ℕ, map, zero, suc, ◌+◌, ◌-◌, ◌<◌, ◌≤◌, drop, get_or, List, [], ◌∷◌, ◌++◌, Option, length, take, refl, sym, ap, ◌∙◌, subst, arith, append_assoc, inl, inr}
+use Rattle.std.specs.Prelude.{Result, Ok, Err}
+use Rattle.std.specs.List.{flat_map}
 use Rattle.std.specs.Result.{IsErrAnd}
 use Rattle.std.specs.Io.KnownBytes.{Appends}
-use Rattle.std.proofs.lemmas.Bool.{cases_lt, lt-ltb}
+use Rattle.std.proofs.KnownBytes.{Appends-nil, Appends-trans}
+use Rattle.std.proofs.lemmas.Bool.{cases_lt}
 use Rattle.std.proofs.lemmas.List.{take_all, take-append-le}
 use Rattle.std.proofs.Math.Seq.{take-append-add, take-append_seam}
 use Rattle.outside.specs.declared.fault.OutFault.{OutFault}
 use Rattle.outside.specs.Faults.{Rose}
-use Rattle.std.specs.Fmt.{decimal}
+use Rattle.replay.specs.Puts.{Prints, Put, Refused}
 use Rattle.word_dag.specs.Text.{spaced}
-use Rattle.replay.specs.declared.shown.Start.{Start}
-use Rattle.replay.specs.Texts.{cycle_number, row_line, row_lines, start_line, start_lines}
-use Rattle.replay.specs.Puts.{Put, Refused}
+use Rattle.replay.specs.Texts.{row_line, row_lines}
 
-appends_then : (a b c : Option (List ℕ)) (xs ys : List ℕ) → Appends a b xs → Appends b c ys → Appends a c (xs ++ ys)
-appends_then None b c xs ys h k = tt
-appends_then (Some x) None c xs ys h k = absurd h
-appends_then (Some x) (Some y) None xs ys h k = absurd k
-appends_then (Some x) (Some y) (Some z) xs ys h k = k ∙ (ap (λ (w : List ℕ). w ++ ys) h ∙ append_assoc x xs ys)
+pub put_none : {S : Type 0} (w : S → Option (List ℕ)) (f : S → ℕ) (a : S) → Put w f a a []
+put_none w f a = record { appends = Appends-nil (w a); calm = refl }
 
-pub put_then : (a b c : Option (List ℕ)) (m n k : ℕ) (xs ys : List ℕ) → Put a b m n xs → Put b c n k ys → Put a c m k (xs ++ ys)
-put_then a b c m n k xs ys h g = record { appends = appends_then a b c xs ys h.appends g.appends; calm = g.calm ∙ h.calm }
+pub put_then : {S : Type 0} {w : S → Option (List ℕ)} {f : S → ℕ} {a b c : S} {xs ys : List ℕ} → Put w f a b xs → Put w f b c ys → Put w f a c (xs ++ ys)
+put_then {w = w} {a = a} {b = b} {c = c} {xs = xs} {ys = ys} h g =
+    record { appends = Appends-trans (w a) (w b) (w c) xs ys h.appends g.appends; calm = g.calm ∙ h.calm }
 
 -- what was put of the first text is put of both
-pub refused_more : (a b : Option (List ℕ)) (m n : ℕ) (e : OutFault) (xs ys : List ℕ) → Refused a b m n e xs → Refused a b m n e (xs ++ ys)
-refused_more a b m n e xs ys h = record {
+refused_more : {S : Type 0} {w : S → Option (List ℕ)} {f : S → ℕ} {a b : S} {e : OutFault} {xs : List ℕ} (ys : List ℕ) → Refused w f a b e xs → Refused w f a b e (xs ++ ys)
+refused_more {w = w} {a = a} {b = b} {xs = xs} ys h = record {
   prefix = elim (cases_lt (h.prefix.0) (length xs)) [
-    | inl less ↦ (h.prefix.0, subst (λ (zs : List ℕ). Appends a b zs) (sym (take-append-le h.prefix.0 xs ys (omega (arith, less)))) h.prefix.1)
-    | inr more ↦ (length xs, subst (λ (zs : List ℕ). Appends a b zs) (take_all h.prefix.0 xs more ∙ sym (take-append_seam xs ys)) h.prefix.1)
+    | inl less ↦ (h.prefix.0, subst (λ (zs : List ℕ). Appends (w a) (w b) zs) (sym (take-append-le h.prefix.0 xs ys (omega (arith, less)))) h.prefix.1)
+    | inr more ↦ (length xs, subst (λ (zs : List ℕ). Appends (w a) (w b) zs) (take_all h.prefix.0 xs more ∙ sym (take-append_seam xs ys)) h.prefix.1)
   ];
   later = h.later;
   failed = h.failed;
   memory = h.memory;
 }
 
-pub refused_then : (a b c : Option (List ℕ)) (m n k : ℕ) (e : OutFault) (xs ys : List ℕ) → Put a b m n xs → Refused b c n k e ys → Refused a c m k e (xs ++ ys)
-refused_then a b c m n k e xs ys g h = record {
-  prefix = (length xs + h.prefix.0, subst (λ (zs : List ℕ). Appends a c zs) (sym (take-append-add xs ys h.prefix.0)) (appends_then a b c xs (take h.prefix.0 ys) g.appends h.prefix.1));
+refused_then : {S : Type 0} {w : S → Option (List ℕ)} {f : S → ℕ} {a b c : S} {e : OutFault} {xs ys : List ℕ} → Put w f a b xs → Refused w f b c e ys → Refused w f a c e (xs ++ ys)
+refused_then {w = w} {f = f} {a = a} {b = b} {c = c} {xs = xs} {ys = ys} g h = record {
+  prefix = (length xs + h.prefix.0, subst (λ (zs : List ℕ). Appends (w a) (w c) zs) (sym (take-append-add xs ys h.prefix.0)) (Appends-trans (w a) (w b) (w c) xs (take h.prefix.0 ys) g.appends h.prefix.1));
   later = let same = g.calm in let up = h.later in omega (arith, same, up);
-  failed = λ is. subst (λ (j : ℕ). Rose j k) g.calm (h.failed is);
+  failed = λ is. subst (λ (j : ℕ). Rose j (f c)) g.calm (h.failed is);
   memory = λ is. h.memory is ∙ g.calm;
 }
 
--- the same text
-pub put_same : (a b : Option (List ℕ)) (m n : ℕ) (xs ys : List ℕ) → xs ≡ ys → Put a b m n xs → Put a b m n ys
-put_same a b m n xs ys is h = subst (λ (zs : List ℕ). Put a b m n zs) is h
-
-pub refused_same : (a b : Option (List ℕ)) (m n : ℕ) (e : OutFault) (xs ys : List ℕ) → xs ≡ ys → Refused a b m n e xs → Refused a b m n e ys
-refused_same a b m n e xs ys is h = subst (λ (zs : List ℕ). Refused a b m n e zs) is h
-
--- what the exit of a `?` returns
-pub head_refused : {T : Type 0} (r : Result T OutFault) (a b : Option (List ℕ)) (m n : ℕ) (x : OutFault) (xs ys : List ℕ) → IsErrAnd r (λ e. e ≡ x) → Refused a b m n x xs → IfErr r (λ e. Refused a b m n e (xs ++ ys))
-head_refused (Ok v) a b m n x xs ys is h = absurd is
-head_refused (Err e) a b m n x xs ys is h = subst (λ (z : OutFault). Refused a b m n z (xs ++ ys)) (sym is) (refused_more a b m n x xs ys h)
-
 -- what a last call returns
-pub tail_refused : {T : Type 0} (r : Result T OutFault) (a b c : Option (List ℕ)) (m n k : ℕ) (xs ys : List ℕ) → Put a b m n xs → IfErr r (λ e. Refused b c n k e ys) → IfErr r (λ e. Refused a c m k e (xs ++ ys))
-tail_refused (Ok v) a b c m n k xs ys h is = tt
-tail_refused (Err e) a b c m n k xs ys h is = refused_then a b c m n k e xs ys h is
+pub prints_then : {S T : Type 0} {w : S → Option (List ℕ)} {f : S → ℕ} {a b : S} {xs : List ℕ} (c : S) (r : Result T OutFault) (ys : List ℕ) → Put w f a b xs → Prints w f b c r ys → Prints w f a c r (xs ++ ys)
+prints_then c (Ok v) ys h g = put_then h g
+prints_then c (Err e) ys h g = refused_then h g
 
-pub tail_put : {T : Type 0} (r : Result T OutFault) (a b c : Option (List ℕ)) (m n k : ℕ) (xs ys : List ℕ) → Put a b m n xs → OnOk r (Put b c n k ys) → OnOk r (Put a c m k (xs ++ ys))
-tail_put (Ok v) a b c m n k xs ys h is = put_then a b c m n k xs ys h is
-tail_put (Err e) a b c m n k xs ys h is = tt
+pub prints_same : {S T : Type 0} (w : S → Option (List ℕ)) (f : S → ℕ) (a b : S) (r : Result T OutFault) (xs ys : List ℕ) → xs ≡ ys → Prints w f a b r xs → Prints w f a b r ys
+prints_same w f a b r xs ys same h = subst (λ (zs : List ℕ). Prints w f a b r zs) same h
 
-pub same_refused : {T : Type 0} (r : Result T OutFault) (a b : Option (List ℕ)) (m n : ℕ) (xs ys : List ℕ) → xs ≡ ys → IfErr r (λ e. Refused a b m n e xs) → IfErr r (λ e. Refused a b m n e ys)
-same_refused r a b m n xs ys is h = subst (λ (zs : List ℕ). IfErr r (λ e. Refused a b m n e zs)) is h
+-- what the exit of a first `?` returns
+pub prints_less : {S T : Type 0} {w : S → Option (List ℕ)} {f : S → ℕ} {a b : S} {x : OutFault} {xs : List ℕ} (r : Result T OutFault) (ys : List ℕ)
+    → IsErrAnd r (λ e. e ≡ x) → Refused w f a b x xs → Prints w f a b r (xs ++ ys)
+prints_less (Ok v) ys is h = absurd is
+prints_less {w = w} {f = f} {a = a} {b = b} {xs = xs} (Err e) ys is h = subst (λ (z : OutFault). Refused w f a b z (xs ++ ys)) (sym is) (refused_more ys h)
 
-pub same_put : {T : Type 0} (r : Result T OutFault) (a b : Option (List ℕ)) (m n : ℕ) (xs ys : List ℕ) → xs ≡ ys → OnOk r (Put a b m n xs) → OnOk r (Put a b m n ys)
-same_put r a b m n xs ys is h = subst (λ (zs : List ℕ). OnOk r (Put a b m n zs)) is h
+-- what the exit of a later `?` returns
+pub prints_stopped : {S T : Type 0} {w : S → Option (List ℕ)} {f : S → ℕ} {a b c : S} {x : OutFault} {xs ys : List ℕ} (r : Result T OutFault) (zs : List ℕ)
+    → IsErrAnd r (λ e. e ≡ x) → Put w f a b xs → Refused w f b c x ys → Prints w f a c r (xs ++ (ys ++ zs))
+prints_stopped r zs is h g = prints_then _ r _ h (prints_less r zs is g)
 
-append_nil : (xs : List ℕ) → xs ++ [] ≡ xs
-append_nil [] = refl
-append_nil (x ∷ xs) = ap (λ (ys : List ℕ). x ∷ ys) (append_nil xs)
+flat_map_split : {X : Type 0} (p : X → List ℕ) (xs : List X) (i : ℕ) (d : X) → i < length xs
+    → flat_map p (take i xs) ++ (p (get_or xs i d) ++ flat_map p (drop (suc i) xs)) ≡ flat_map p xs
+flat_map_split p [] i d some = absurd (omega (arith, some))
+flat_map_split p (x ∷ xs) zero d some = refl
+flat_map_split p (x ∷ xs) (suc i) d some =
+    let less : i < length xs = omega (arith, some) in
+    append_assoc (p x) (flat_map p (take i xs)) (p (get_or xs i d) ++ flat_map p (drop (suc i) xs)) ∙ ap (λ (ys : List ℕ). p x ++ ys) (flat_map_split p xs i d less)
 
--- one and two words at the end of a line
-pub last_word : (w : List ℕ) → w ++ 10 ∷ [] ≡ w ++ [] ++ 10 ∷ []
-last_word w = sym (ap (λ (ys : List ℕ). ys ++ 10 ∷ []) (append_nil w))
+-- what the exit of a `?` in a loop returns
+pub stopped_in_loop : {S T X : Type 0} {w : S → Option (List ℕ)} {f : S → ℕ} {a b c : S} {x : OutFault} {text : List ℕ} (r : Result T OutFault) (p : X → List ℕ) (xs : List X) (i : ℕ) (d y : X)
+    → flat_map p xs ≡ text → i < length xs → y ≡ get_or xs i d → IsErrAnd r (λ e. e ≡ x) → Put w f a b (flat_map p (take i xs)) → Refused w f b c x (p y) → Prints w f a c r text
+stopped_in_loop {X = X} {w = w} {f = f} {a = a} {b = b} {c = c} {x = x} r p xs i d y whole less at is h g =
+    subst (λ (ys : List ℕ). Prints w f a c r ys) (flat_map_split p xs i d less ∙ whole)
+    (prints_stopped r _ is h (subst (λ (z : X). Refused w f b c x (p z)) at g))
 
-pub last_words : (v w : List ℕ) → v ++ (32 ∷ (w ++ 10 ∷ [])) ≡ v ++ (32 ∷ (w ++ [])) ++ 10 ∷ []
-last_words v w = ap (λ (ys : List ℕ). v ++ (32 ∷ ys)) (last_word w) ∙ sym (append_assoc v (32 ∷ (w ++ [])) (10 ∷ []))
+-- what was put where a loop ends
+pub done_in_loop : {S X : Type 0} {w : S → Option (List ℕ)} {f : S → ℕ} {a b : S} {text : List ℕ} (p : X → List ℕ) (xs : List X) (i : ℕ)
+    → flat_map p xs ≡ text → length xs ≤ i → Put w f a b (flat_map p (take i xs)) → Put w f a b text
+done_in_loop {w = w} {f = f} {a = a} {b = b} p xs i whole all h = subst (λ (ys : List ℕ). Put w f a b ys) (ap (flat_map p) (take_all i xs all) ∙ whole) h
 
-pub ruleset putting = (put_then, refused_more, refused_then)
+-- words, each behind a space
+pub spaced_each : {X : Type 0} (word : X → List ℕ) (xs : List X) → flat_map (λ (x : X). 32 ∷ word x) xs ≡ spaced (map word xs)
+spaced_each word [] = refl
+spaced_each word (x ∷ xs) = ap (λ (ys : List ℕ). 32 ∷ (word x ++ ys)) (spaced_each word xs)
 
--- ---- texts in two parts
-
-pub cycle_before : (before i : ℕ) → i < before → (45 ∷ []) ++ decimal (before - i) ≡ cycle_number before i
-cycle_before before i lt = rw (lt-ltb i before lt) refl
+pub spaced_words : (ws : List (List ℕ)) → flat_map (λ (w : List ℕ). 32 ∷ w) ws ≡ spaced ws
+spaced_words [] = refl
+spaced_words (w ∷ ws) = ap (λ (ys : List ℕ). 32 ∷ (w ++ ys)) (spaced_words ws)
 
 -- the rest of a list
 abbrev pub rest_of : {X : Type 0} → List X → List X
@@ -95,21 +96,11 @@ rest_of xs = take (length xs - 1) (drop 1 xs)
 rest_is : {X : Type 0} (x : X) (xs : List X) → rest_of (x ∷ xs) ≡ xs
 rest_is x xs = let long : length xs ≤ length (x ∷ xs) - 1 = omega arith in take_all (length (x ∷ xs) - 1) xs long
 
-pub split_values : (xs : List ℕ) → 1 ≤ length xs → (32 ∷ decimal (get_or xs 0 0)) ++ spaced (map decimal (rest_of xs)) ≡ spaced (map decimal xs)
-split_values [] some = absurd (omega (arith, some))
-split_values (x ∷ xs) some = ap (λ (ys : List ℕ). (32 ∷ decimal x) ++ spaced (map decimal ys)) (rest_is x xs)
-
-pub split_words : (ws : List (List ℕ)) (w : List ℕ) → 1 ≤ length ws → w ≡ get_or ws 0 w → (32 ∷ w) ++ spaced (rest_of ws) ≡ spaced ws
-split_words [] w some is = absurd (omega (arith, some))
-split_words (x ∷ ws) w some is = ap (λ (z : List ℕ). (32 ∷ z) ++ spaced (rest_of (x ∷ ws))) is ∙ ap (λ (z : List (List ℕ)). (32 ∷ x) ++ spaced z) (rest_is x ws)
-
-pub split_starts : (ss : List Start) (s : Start) → 1 ≤ length ss → s ≡ get_or ss 0 s → start_line s ++ start_lines (rest_of ss) ≡ start_lines ss
-split_starts [] s some is = absurd (omega (arith, some))
-split_starts (x ∷ ss) s some is = ap (λ (z : Start). start_line z ++ start_lines (rest_of (x ∷ ss))) is ∙ ap (λ (z : List Start). start_line x ++ start_lines z) (rest_is x ss)
-
-pub split_rows : (before i : ℕ) (rows : List (List ℕ)) (row : List ℕ) → 1 ≤ length rows → row ≡ get_or rows 0 row → row_line before i row ++ row_lines before (i + 1) (rest_of rows) ≡ row_lines before i rows
-split_rows before i [] row some is = absurd (omega (arith, some))
-split_rows before i (x ∷ rows) row some is =
+pub split_rows : (before i : ℕ) (rows : List (List ℕ)) (row numbers : List ℕ) → 1 ≤ length rows → row ≡ get_or rows 0 row → numbers ≡ row → row_line before i numbers ++ row_lines before (i + 1) (rest_of rows) ≡ row_lines before i rows
+split_rows before i [] row numbers some is same = absurd (omega (arith, some))
+split_rows before i (x ∷ rows) row numbers some is same =
     let next : i + 1 ≡ suc i = omega arith in
-    ap (λ (z : List ℕ). row_line before i z ++ row_lines before (i + 1) (rest_of (x ∷ rows))) is
+    ap (λ (z : List ℕ). row_line before i z ++ row_lines before (i + 1) (rest_of (x ∷ rows))) (same ∙ is)
     ∙ (ap (λ (z : List (List ℕ)). row_line before i x ++ row_lines before (i + 1) z) (rest_is x rows) ∙ ap (λ (k : ℕ). row_line before i x ++ row_lines before k rows) next)
+
+pub ruleset putting = (put_none, put_then, prints_then)

@@ -1,6 +1,7 @@
 -- The text of a counterexample.
 use Rattle.std.specs.Prelude.{ℕ, suc, ◌-◌, nat_lt, List, [], ◌∷◌, ◌++◌, codes, map, Option, Some, None, if◌then◌else◌}
 use Rattle.std.specs.Fmt.{decimal}
+use Rattle.std.specs.List.{flat_map}
 use Rattle.word_dag.specs.Text.{line}
 use Rattle.replay.specs.declared.shown.Shown.{Shown}
 use Rattle.replay.specs.declared.shown.Start.{Start}
@@ -28,8 +29,7 @@ abbrev pub start_line : Start → List ℕ
 start_line start = line (codes "start") (start.name ∷ decimal start.value ∷ [])
 
 abbrev pub start_lines : List Start → List ℕ
-start_lines [] = []
-start_lines (start ∷ starts) = start_line start ++ start_lines starts
+start_lines starts = flat_map start_line starts
 
 -- one trace, or two under their names
 abbrev pub tables : ℕ → Trace → Option Trace → List ℕ

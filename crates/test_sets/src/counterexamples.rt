@@ -40,7 +40,7 @@ fn a_segment_with_its_reset_cycles(rt: HostRuntime) -> Result<(), Fail> {
         second: None,
     };
     let mut sink = MemSink::new(alloc, Vec::new(alloc));
-    print_trace(alloc, b"reset", &shown, &mut sink)?;
+    print_trace(b"reset", &shown, &mut sink)?;
     assert!(rt;
         sink.bytes()
             == b"refuted reset\nstart u.q 18446744073709551615\ncycle en q\n-2 0 3\n-1 1 0\n0 1 0\n1 0 10\n".as_slice()
@@ -58,7 +58,7 @@ fn two_windows(rt: HostRuntime) -> Result<(), Fail> {
         second: Some(trace(alloc, &[[0, 2]])?),
     };
     let mut sink = MemSink::new(alloc, Vec::new(alloc));
-    print_trace(alloc, b"determine step", &shown, &mut sink)?;
+    print_trace(b"determine step", &shown, &mut sink)?;
     assert!(rt;
         sink.bytes()
             == b"refuted determine step\nfirst\ncycle en q\n0 0 3\nsecond\ncycle en q\n0 0 2\n".as_slice()

@@ -1,16 +1,33 @@
-use Rattle.std.proofs.Common.{[], ◌∷◌, ◌++◌, map}
-use Rattle.std.specs.Prelude.{codes}
-use Rattle.twin_tests_laws.specs.Names.{property_name}
-use Rattle.word_dag.specs.Text.{spaced}
-use Rattle.replay.proofs.Putting.{head_refused, tail_put, tail_refused}
-use Rattle.path_machine.specs.Texts.{length_text}
+use Rattle.std.proofs.Common.{append_assoc}
+use Rattle.replay.proofs.Putting.{prints_less, prints_stopped, prints_then}
 use Rattle.path_machine.proofs.texts.put_transition.Goals as goal
 
-pub returns-in_err-put-clause-err : goal.returns-in_err-put-clause-err
-returns-in_err-put-clause-err g c = head_refused c.from_residual.result _ _ _ _ c.in_err-put.field-0.0 (c.args.name.now) (spaced (length_text c.args.property.now.length.low c.args.property.now.length.high c.args.property.now.length.until ∷ codes "->" ∷ map (property_name c.args.set.now) c.args.property.now.next) ++ 10 ∷ []) c.from_residual.ensures.1 c.in_err-put.ensures.err
+pub returns-in_err-put : goal.returns-in_err-put
+returns-in_err-put g c = prints_less c.from_residual.result _ c.from_residual.ensures.1 c.in_err-put.ensures
 
-pub returns-clause-ok : goal.returns-clause-ok
-returns-clause-ok g c = tail_put c.put_rest.result _ _ _ _ _ _ (c.args.name.now) (spaced (length_text c.args.property.now.length.low c.args.property.now.length.high c.args.property.now.length.until ∷ codes "->" ∷ map (property_name c.args.set.now) c.args.property.now.next) ++ 10 ∷ []) c.in_ok-put.ensures.ok c.put_rest.ensures.ok
+pub returns-in_err-put_length : goal.returns-in_err-put_length
+returns-in_err-put_length g c =
+    let r = c.from_residual-in_err-put_length in
+    simp append_assoc (prints_stopped r.result _ r.ensures.1 c.in_ok-put.ensures c.in_err-put_length.ensures)
 
-pub returns-clause-err : goal.returns-clause-err
-returns-clause-err g c = tail_refused c.put_rest.result _ _ _ _ _ _ (c.args.name.now) (spaced (length_text c.args.property.now.length.low c.args.property.now.length.high c.args.property.now.length.until ∷ codes "->" ∷ map (property_name c.args.set.now) c.args.property.now.next) ++ 10 ∷ []) c.in_ok-put.ensures.ok c.put_rest.ensures.err
+pub returns-in_err-put-2 : goal.returns-in_err-put-2
+returns-in_err-put-2 g c =
+    let r = c.from_residual-in_err-put-2 in
+    simp append_assoc
+    (prints_then _ r.result _ c.in_ok-put.ensures (prints_stopped r.result _ r.ensures.1 c.in_ok-put_length.ensures c.in_err-put-2.ensures))
+
+pub returns-in_err-put_names : goal.returns-in_err-put_names
+returns-in_err-put_names g c =
+    let r = c.from_residual-in_err-put_names in
+    simp append_assoc
+    (prints_then _ r.result _ c.in_ok-put.ensures
+    (prints_then _ r.result _ c.in_ok-put_length.ensures
+    (prints_stopped r.result _ r.ensures.1 c.in_ok-put-2.ensures (rw c.as_slice.ensures at c.in_err-put_names.ensures))))
+
+pub returns : goal.returns
+returns g c =
+    let r = c.put-3.result in
+    simp append_assoc
+    (prints_then _ r _ c.in_ok-put.ensures
+    (prints_then _ r _ c.in_ok-put_length.ensures
+    (prints_then _ r _ c.in_ok-put-2.ensures (prints_then _ r _ (rw c.as_slice.ensures at c.in_ok-put_names.ensures) c.put-3.ensures))))

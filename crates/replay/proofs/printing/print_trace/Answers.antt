@@ -1,15 +1,19 @@
-use Rattle.std.proofs.Common.{[], ◌∷◌, ◌++◌}
+use Rattle.std.proofs.Common.{◌≡◌, ℕ, List, [], ◌∷◌, ◌++◌, sym, ap, append-nil}
 use Rattle.std.specs.Prelude.{codes}
 use Rattle.word_dag.specs.Text.{line}
-use Rattle.replay.specs.Texts.{start_lines, tables}
-use Rattle.replay.proofs.Putting.{head_refused, tail_refused, tail_put}
+use Rattle.replay.proofs.Putting.{prints_less, prints_same, prints_then}
 use Rattle.replay.proofs.printing.print_trace.Goals as goal
 
-pub returns-in_err-put_line-clause-err : goal.returns-in_err-put_line-clause-err
-returns-in_err-put_line-clause-err g c = head_refused c.from_residual.result _ _ _ _ c.in_err-put_line.field-0.0 (line (codes "refuted") (c.args.line.now ∷ [])) (start_lines c.args.shown.now.start ++ tables c.args.shown.now.before c.args.shown.now.first c.args.shown.now.second) c.from_residual.ensures.1 c.in_err-put_line.ensures.err
+-- the first line, in pieces
+pieces_are : (name rest : List ℕ) → (codes "refuted " ++ (name ++ 10 ∷ [])) ++ rest ≡ line (codes "refuted") (name ∷ []) ++ rest
+pieces_are name rest = ap (λ (w : List ℕ). (codes "refuted " ++ (w ++ 10 ∷ [])) ++ rest) (sym (append-nil name))
 
-pub returns-clause-ok : goal.returns-clause-ok
-returns-clause-ok g c = tail_put c.put_shown.result _ _ _ _ _ _ (line (codes "refuted") (c.args.line.now ∷ [])) (start_lines c.args.shown.now.start ++ tables c.args.shown.now.before c.args.shown.now.first c.args.shown.now.second) c.in_ok-put_line.ensures.ok c.put_shown.ensures.ok
+pub returns-in_err-put_all : goal.returns-in_err-put_all
+returns-in_err-put_all g c =
+    prints_same _ _ _ _ c.from_residual.result _ _ (pieces_are c.args.line.now _)
+    (prints_less c.from_residual.result _ c.from_residual.ensures.1 c.in_err-put_all.ensures)
 
-pub returns-clause-err : goal.returns-clause-err
-returns-clause-err g c = tail_refused c.put_shown.result _ _ _ _ _ _ (line (codes "refuted") (c.args.line.now ∷ [])) (start_lines c.args.shown.now.start ++ tables c.args.shown.now.before c.args.shown.now.first c.args.shown.now.second) c.in_ok-put_line.ensures.ok c.put_shown.ensures.err
+pub returns : goal.returns
+returns g c =
+    prints_same _ _ _ _ c.put_shown.result _ _ (pieces_are c.args.line.now _)
+    (prints_then _ c.put_shown.result _ c.in_ok-put_all.ensures c.put_shown.ensures)

@@ -1,15 +1,25 @@
-use Rattle.std.proofs.Common.{◌∷◌, ◌++◌, sym, ap, Option}
-use Rattle.std.specs.Prelude.{codes}
-use Rattle.replay.specs.declared.shown.Trace.{Trace}
-use Rattle.replay.specs.Texts.{table, tables}
-use Rattle.replay.proofs.Putting.{head_refused, same_put, same_refused, tail_put, tail_refused}
+use Rattle.replay.proofs.Putting.{prints_less, prints_stopped, prints_then}
 use Rattle.replay.proofs.printing.put_tables.Goals as goal
 
-pub returns-in_err-put_named-in-Some-clause-err : goal.returns-in_err-put_named-in-Some-clause-err
-returns-in_err-put_named-in-Some-clause-err g c = same_refused c.from_residual.result _ _ _ _ _ _ (ap (λ (o : Option Trace). tables c.args.shown.now.before c.args.shown.now.first o) (sym c.in-Some.is)) (head_refused c.from_residual.result _ _ _ _ c.in_err-put_named-in-Some.field-0.0 (codes "first" ++ (10 ∷ table c.args.shown.now.before c.args.shown.now.first)) (codes "second" ++ (10 ∷ table 0 c.in-Some.second)) c.from_residual.ensures.1 c.in_err-put_named-in-Some.ensures.err)
+pub returns-in_err-put-in-Some : goal.returns-in_err-put-in-Some
+returns-in_err-put-in-Some g c =
+    rw c.in-Some.is (prints_less c.from_residual.result _ c.from_residual.ensures.1 c.in_err-put-in-Some.ensures)
 
-pub returns-in_ok-put_named-in-Some-clause-ok : goal.returns-in_ok-put_named-in-Some-clause-ok
-returns-in_ok-put_named-in-Some-clause-ok g c = same_put c.put_named-in-Some.result _ _ _ _ _ _ (ap (λ (o : Option Trace). tables c.args.shown.now.before c.args.shown.now.first o) (sym c.in-Some.is)) (tail_put c.put_named-in-Some.result _ _ _ _ _ _ (codes "first" ++ (10 ∷ table c.args.shown.now.before c.args.shown.now.first)) (codes "second" ++ (10 ∷ table 0 c.in-Some.second)) c.in_ok-put_named-in-Some.ensures.ok c.put_named-in-Some.ensures.ok)
+pub returns-in_err-put_table-in-Some : goal.returns-in_err-put_table-in-Some
+returns-in_err-put_table-in-Some g c =
+    let r = c.from_residual-in_err-put_table-in-Some in
+    rw c.in-Some.is (prints_stopped r.result _ r.ensures.1 c.in_ok-put-in-Some.ensures c.in_err-put_table-in-Some.ensures)
 
-pub returns-in_ok-put_named-in-Some-clause-err : goal.returns-in_ok-put_named-in-Some-clause-err
-returns-in_ok-put_named-in-Some-clause-err g c = same_refused c.put_named-in-Some.result _ _ _ _ _ _ (ap (λ (o : Option Trace). tables c.args.shown.now.before c.args.shown.now.first o) (sym c.in-Some.is)) (tail_refused c.put_named-in-Some.result _ _ _ _ _ _ (codes "first" ++ (10 ∷ table c.args.shown.now.before c.args.shown.now.first)) (codes "second" ++ (10 ∷ table 0 c.in-Some.second)) c.in_ok-put_named-in-Some.ensures.ok c.put_named-in-Some.ensures.err)
+pub returns-in_err-put-in-Some-2 : goal.returns-in_err-put-in-Some-2
+returns-in_err-put-in-Some-2 g c =
+    let r = c.from_residual-in_err-put-in-Some-2 in
+    rw c.in-Some.is
+    (prints_then _ r.result _ c.in_ok-put-in-Some.ensures
+    (prints_stopped r.result _ r.ensures.1 c.in_ok-put_table-in-Some.ensures c.in_err-put-in-Some-2.ensures))
+
+pub returns-in_ok-put-in-Some-2 : goal.returns-in_ok-put-in-Some-2
+returns-in_ok-put-in-Some-2 g c =
+    let r = c.put_table-in-Some-2.result in
+    rw c.in-Some.is
+    (prints_then _ r _ c.in_ok-put-in-Some.ensures
+    (prints_then _ r _ c.in_ok-put_table-in-Some.ensures (prints_then _ r _ c.in_ok-put-in-Some-2.ensures c.put_table-in-Some-2.ensures)))
