@@ -49,7 +49,7 @@ not_spent (e.Values us) h = λ same. let no : v.Refuted ≡ v.Spent = same in cc
 not_spent (e.Chain steps) h = absurd h
 
 -- a line of the book as it was decided
-told_line : (budget : ℕ) (b : Pair) (d : Decided Line) (told : Told) → IsGoalDecided budget b d → Tells b d told → IsDecidedOn budget b d.goal.line told
+pub told_line : (budget : ℕ) (b : Pair) (d : Decided Line) (told : Told) → IsGoalDecided budget b d → Tells b d told → IsDecidedOn budget b d.goal.line told
 told_line budget b d told h tells =
     let shown : IsShown budget told.ob told.evidence = subst (λ (z : Parts × Evidence). IsShown budget z.0 z.1) (ap₂ (λ (o : Parts) (e : Evidence). (o, e)) (sym tells.ob) (sym tells.evidence)) h.shown in
     let verdict : told.verdict ≡ verdict_of told.evidence = tells.verdict ∙ ap verdict_of (sym tells.evidence) in record {

@@ -1,5 +1,6 @@
 pub mod Carrying
 pub mod Deciding
+pub mod Accepted
 pub mod Finding
 pub mod Lessening
 pub mod Promising

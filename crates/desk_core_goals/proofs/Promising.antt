@@ -24,7 +24,7 @@ use Rattle.desk_core_reports.specs.Lines.{all_proved, is_proved}
 use Rattle.desk_core_reports.specs.Reports.{is_complete}
 use Rattle.desk_core_goals.specs.Obligations.{IsBroken}
 use Rattle.desk_core_goals.specs.Decided.{AreAsked, IsDecidedOn, IsLineOf, IsProvedAmong, ProvesDesignLines, Says}
-use Rattle.desk_core_goals.specs.Laws.{DecidedOfModules, ProvedLinesPromise}
+use Rattle.desk_core_goals.specs.Laws.{ObligationsAgree, DecidedOfModules, ProvedLinesPromise}
 use Rattle.desk_core_goals.proofs.Carrying.{shows_modules}
 
 -- said of the design, it is said of the modules
@@ -110,3 +110,6 @@ proved_lines_promise budget ms b sound which lines ds asked h = record {
   satisfied = design_satisfied budget ms b sound lines ds h;
   signed_off = signed_off budget ms b sound which lines ds asked h;
 }
+
+pub obligations_agree : ObligationsAgree
+obligations_agree b line x y of_x of_y = (λ can. of_y.found (of_x.shown can.0 can.1), λ can. of_x.found (of_y.shown can.0 can.1))

@@ -1,5 +1,5 @@
 -- The clauses of a line, and a derivation of another solver that is kept for it.
-use Rattle.std.specs.Prelude.{◌≡◌, ◌≢◌, ℕ, List, length, Option, Vec}
+use Rattle.std.specs.Prelude.{◌≡◌, ◌≢◌, ℕ, List, [], ◌∷◌, length, Option, None, Vec}
 use Rattle.std.specs.declared.alloc.Global.{Global}
 use Rattle.outside.specs.Tables.{Tables}
 use Rattle.set_tree.specs.declared.line.Line.{Line}
@@ -20,9 +20,12 @@ use Rattle.proof_store.specs.declared.goal.Decided.{Decided}
 use Rattle.proof_store.specs.declared.goal.Goal.{Goal}
 use Rattle.proof_store.specs.Goals.{ended}
 use Rattle.proof_store.specs.Stored.{MayKeep, Puts, Told}
+use Rattle.desk_core_reports.specs.declared.book.Book.{Book}
+use Rattle.desk_core_reports.specs.declared.book.Line.{Line as Entered}
 use Rattle.desk_core_goals.specs.declared.fault.LineFault.{LineFault}
 use Rattle.desk_core_goals.specs.declared.fault.LineFault.TheVariants as l
 use Rattle.desk_core_goals.specs.Asked.{IsGoalNamed, LacksName}
+use Rattle.desk_core_goals.specs.Decided.{Tells}
 use Rattle.desk_core_goals.specs.declared.keep_fault.KeepFault.{KeepFault}
 use Rattle.desk_core_goals.specs.declared.keep_fault.KeepFault.TheVariants as k
 
@@ -58,12 +61,20 @@ pub record IsProvedGoal (b : Pair) (name text : List ℕ) (d : Decided Line) : T
   pub has : d.evidence ≡ Derivation steps
   pub reads : ReadsProof d.goal.ob text steps
 
--- it is put at the keeper
-pub record KeepsProof (b : Pair) (name text : List ℕ) (before after : Option Tables) : Type 0 where
+-- the book has the line of a decided goal and no other, and no least counterexample
+pub record TellsAlone (b : Pair) (d : Decided Line) (book : Book) : Type 0 where
+  pub line : Entered
+  pub alone : book.lines.items ≡ line ∷ []
+  pub tells : Tells b d line
+  pub no_least : book.least ≡ None
+
+-- it is put at the keeper, and the line is proved by it
+pub record KeepsProof (b : Pair) (name text : List ℕ) (before after : Option Tables) (book : Book) : Type 0 where
   pub proved : Decided Line
   pub is_proved : IsProvedGoal b name text proved
   pub may : MayKeep (ended proved)
   pub put : Told (Puts (ended proved)) before after
+  pub told : TellsAlone b proved book
 
 -- ---- refusals
 

@@ -21,8 +21,8 @@ use std::thread::Threads;
 use twin_tests_laws::line_name;
 use unroll_binding::Bound;
 
-// The line of the book that tells how a goal was decided.
-fn line_of(
+/// The line of the book that tells how a goal was decided.
+pub(crate) fn line_of(
     alloc: Global,
     bound: &Bound,
     decided: Decided<set_tree::Line>,

@@ -139,8 +139,8 @@ fn number_of(
     Ok(None)
 }
 
-/// The goal of the line of this name: its obligation is the one that the goals of all lines have, node by node, and no
-/// other line's is made. Refused where the set's report has no such line, or where memory runs out.
+/// The goal of the line of this name; no other line's obligation is made. Refused where the set's report has no such
+/// line, or where memory runs out.
 pub fn goal_named(alloc: Global, bound: &Bound, name: &Text) -> Result<Goal<Line>, LineFault>
     ensures ok { IfOk result (IsGoalNamed bound.now name.now) }
     ensures err { IfErr result (LacksName bound.now.set name.now) }

@@ -1,5 +1,5 @@
 // The laws.
-ghost use Rattle.desk_core_goals.specs.Laws.{DecidedOfModules, ProvedLinesPromise};
+ghost use Rattle.desk_core_goals.specs.Laws.{DecidedOfModules, ObligationsAgree, ProvedLinesPromise};
 
 /// What is decided of a design is decided of the modules whose runs the design has, and what is shown of a refuted line
 /// is theirs.
@@ -12,4 +12,10 @@ pub fn decided_of_modules()
 /// fixes its outputs wherever it claims them.
 pub fn proved_lines_promise()
     ensures { ProvedLinesPromise }
+{}
+
+/// Two obligations of one line are refuted together: what shows one of them, as a derivation that was kept under its
+/// text, says of the line what showing the other one would.
+pub fn obligations_of_a_line_agree()
+    ensures { ObligationsAgree }
 {}

@@ -22,6 +22,6 @@ pub use fault::LineFault;
 pub use goals::{all_lines, goal_named, only};
 pub use keep_fault::KeepFault;
 pub use keeping::keep_proof;
-pub use law::{decided_of_modules, proved_lines_promise};
+pub use law::{decided_of_modules, obligations_of_a_line_agree, proved_lines_promise};
 pub use obs::{ob_of_line, obs_of_all, obs_of_design};
 pub use telling::{Kind, kind_of};

@@ -61,8 +61,7 @@ fn ob_of_set(alloc: Global, bound: &Bound, number: usize) -> Result<Named, Alloc
     twin_ob(alloc, bound.set(), number)
 }
 
-/// The obligation of one line, that of this number in the order of a report: it is the one that `obs_of_all` makes of
-/// the line, node by node. No other line's obligation is made.
+/// The obligation of one line, that of this number in the order of a report. No other line's obligation is made.
 pub fn ob_of_line(alloc: Global, bound: &Bound, number: usize) -> Result<Named, AllocError>
     requires { number < length (all_lines bound.now.set) }
     ensures { IfOk result (IsObOf bound.now (line_at bound.now.set number)) }

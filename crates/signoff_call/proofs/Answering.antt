@@ -5,6 +5,7 @@ use Rattle.std.specs.Fmt.{decimal}
 use Rattle.std.specs.List.{list_any}
 use Rattle.std.specs.Io.KnownBytes.{Appends}
 use Rattle.outside.specs.Faults.{Rose}
+use Rattle.outside.specs.Port.{Wire}
 use Rattle.outside.specs.Tables.{Tables}
 use Rattle.proof_store.specs.declared.moving.Moved.{Moved}
 use Rattle.proof_store.specs.Moves.{MovesRows, Walks}
@@ -34,21 +35,21 @@ use Rattle.desk_core.specs.Checks.{AreObsOfTexts, IsReport, Refuses}
 use Rattle.meet_lines.specs.Meetings.{AreObsOfTexts as AreMeetObsOfTexts, IsMeetReport, Refuses as RefusesMeet}
 use Rattle.desk_http_connection.specs.declared.serve.ServeFault.{ServeFault}
 use Rattle.desk_http_connection.specs.declared.serve.ServeFault.TheVariants.{Memory, Next}
-use Rattle.desk_http.specs.Serving.{Line as Wires, ServesMany, ServesQuota, State, StopsWithin, none}
+use Rattle.desk_http.specs.Serving.{Line as Wires, ServesMany, ServesOne, ServesQuota, State, StopsWithin, line, none}
 use Rattle.demo_gen.specs.Texts.{module_text, set_text}
-use Rattle.signoff_words.specs.declared.action.Command.{Command}
-use Rattle.signoff_words.specs.declared.action.Command.TheVariants as c
-use Rattle.signoff_words.specs.declared.action.Job.{Job}
-use Rattle.signoff_words.specs.declared.action.Service.{Service}
-use Rattle.signoff_words.specs.declared.action.Task.{Task}
-use Rattle.signoff_words.specs.declared.action.Task.TheVariants as t
+use Rattle.signoff_words.specs.declared.command.Command.{Command}
+use Rattle.signoff_words.specs.declared.command.Command.TheVariants as c
+use Rattle.signoff_words.specs.declared.command.Job.{Job}
+use Rattle.signoff_words.specs.declared.command.Service.{Service}
+use Rattle.signoff_words.specs.declared.command.Task.{Task}
+use Rattle.signoff_words.specs.declared.command.Task.TheVariants as t
 use Rattle.signoff_call.specs.declared.answer.Answer.{Answer}
 use Rattle.signoff_call.specs.declared.files.Read.{Read}
 use Rattle.signoff_call.specs.declared.files.Read.TheVariants.{All, NoModule, NoThird, NoSet}
 use Rattle.signoff_call.specs.declared.files.Texts.{Texts}
 use Rattle.signoff_call.specs.Answers.{done, is_refuted, is_spent, met, moved_text, refusal, report_bytes, reported, summary}
 use Rattle.signoff_call.specs.Waves.{first_waved}
-use Rattle.signoff_call.specs.Tasks.{AnswersAccept, AnswersMeet, AnswersTask, AnswersTexts, AnswersWalk, HasTrace, IsChecked, IsUnmetAt, KeepsThenDecides, LeavesTask, ListsClauses, ListsLines, Meets, RefusesBoundProof, RefusesBy, RefusesRows, RefusesTexts, Reports, ReportsTexts, ShowsMachine, ShowsPath, ShowsWave, Stores, WalksRows, machine_shown, names_text, signed_text, stores, where_signed}
+use Rattle.signoff_call.specs.Tasks.{AnswersAccept, AnswersMeet, AnswersTask, AnswersTexts, AnswersWalk, HasTrace, IsChecked, IsUnmetAt, KeepsAndProves, LeavesTask, ListsClauses, ListsLines, Meets, RefusesBoundProof, RefusesBy, RefusesRows, RefusesTexts, Reports, ReportsTexts, ShowsMachine, ShowsPath, ShowsWave, Stores, WalksRows, machine_shown, names_text, signed_text, stores, where_signed}
 use Rattle.signoff_call.specs.Run.{Answers, AnswersJob, AnswersMove, AnswersService, AppendsPrefix, Around, Delivers, IsRead, LeavesRead, LeavesRows, LeavesServed, LeavesTexts, Reads, around, limits_for, third_name, quota_of, refused_status, served_text, stores_of}
 
 pub texts_answered : {E : Type 0} (r : Result Answer E) (j : Job) (read : Read) (texts : Texts) (book : Book) (st : Stores) → read ≡ All texts →
@@ -137,7 +138,7 @@ task_none (t.Machine form) m s x = adds_none (AreObsOfTexts m s w.All) x
 task_none (t.Walk rows) m s x = adds_none (AreObsOfTexts m s w.All) x
 task_none t.Lines m s x = refl
 task_none (t.Clauses name) m s x = refl
-task_none (t.Accept given) m s x = (x, adds_none (AreObsOfTexts m s (w.One given.line)) x, adds_none (AreObsOfTexts m s (w.One given.line)) x)
+task_none (t.Accept given) m s x = adds_none (AreObsOfTexts m s (w.One given.line)) x
 
 pub read_none : (j : Job) (read : Read) (t : Option Tables) → LeavesRead j read t t
 read_none j NoModule t = refl
@@ -228,12 +229,12 @@ proof_other line book st a n p r is = let twelve : 12 ≡ n = status_is a (refus
 stage_other : (Refuses : CheckFault → Type 0) (OfCall : List Parts → Type 0) (book : Book) (st : Stores) (a : Answer) (n : ℕ) → IsApart n → RefusesTexts Refuses OfCall book st a → a.status ≡ n → ⊥
 stage_other Refuses OfCall book st a n p r is = fault_other r.fault n p (status_is a (refusal (status_of r.fault) (fault_line r.fault)) n r.answer_is is)
 
-accept_other : (m s name text : List ℕ) (budget workers : ℕ) (book : Book) (st : Stores) (a : Answer) (n : ℕ) → IsApart n → AnswersAccept m s name text budget workers book st a → a.status ≡ n → ⊥
-accept_other m s name text budget workers book st a n p h is = ⊎_elim
+accept_other : (m s name text : List ℕ) (budget : ℕ) (book : Book) (st : Stores) (a : Answer) (n : ℕ) → IsApart n → AnswersAccept m s name text budget book st a → a.status ≡ n → ⊥
+accept_other m s name text budget book st a n p h is = ⊎_elim
     (λ (r : RefusesTexts (Refuses m s (w.One name)) (λ obs. ⊥) book st a). stage_other (Refuses m s (w.One name)) (λ obs. ⊥) book st a n p r is)
-    (λ (x : (b : Pair) × IsBoundOf m s b × (RefusesBoundProof b name text book st a ⊎ KeepsThenDecides m s name text b budget workers book st a)). ⊎_elim
+    (λ (x : (b : Pair) × IsBoundOf m s b × (RefusesBoundProof b name text book st a ⊎ KeepsAndProves m s name text b budget book st a)). ⊎_elim
     (λ (r : RefusesBoundProof x.0 name text book st a). refused x.0 r)
-    (λ (k : KeepsThenDecides m s name text x.0 budget workers book st a). texts_other m s (w.One name) budget workers (λ r. r.text) book (stores k.between st.after st.asked) a n p k.decides is) x.2) h
+    (λ (k : KeepsAndProves m s name text x.0 budget book st a). reports_other k.report.verdicts.items k.report.text a n p k.answer_is is) x.2) h
   where
     refused : (b : Pair) → RefusesBoundProof b name text book st a → ⊥
     refused b r = ⊎_elim
@@ -252,8 +253,8 @@ walk_other m s text budget workers book st a n p h is = ⊎_elim
 
     walked : WalksRows m s text budget workers book st a → ⊥
     walked x =
-        whole_other (Refuses m s w.All) (AreObsOfTexts m s w.All) (IsChecked m s w.All budget book) workers (ShowsPath x.0) book st a n p
-        (λ r shows. signed_other (signed_text (path_text x.0.bound.set shows.0)) r a n p shows.2) x.2 is
+        whole_other (Refuses m s w.All) (AreObsOfTexts m s w.All) (IsChecked m s w.All budget book) workers (ShowsPath x.0 budget book) book st a n p
+        (λ r shows. signed_other (signed_text (path_text x.0.bound.set shows.0)) r a n p shows.3) x.2 is
 
 task_other : (task : Task) (m s third : List ℕ) (budget workers : ℕ) (book : Book) (st : Stores) (a : Answer) (n : ℕ) → IsApart n → AnswersTask task m s third budget workers book st a → a.status ≡ n → ⊥
 task_other (t.Decide which) m s third budget workers book st a n p h is = texts_other m s which budget workers (report_bytes which book) book st a n p h is
@@ -261,15 +262,15 @@ task_other (t.Meet name) m s third budget workers book st a n p h is =
     whole_other (RefusesMeet m s name) (AreMeetObsOfTexts m s name) (IsMeetReport m s name budget book.lines.items) workers Meets book st a n p
     (λ r same is. verdicts_other (list_any is_proved r.verdicts.items) (list_any is_spent r.verdicts.items) n p (status_is a (met r) n same is)) h is
 task_other (t.Machine form) m s third budget workers book st a n p h is =
-    whole_other (Refuses m s w.All) (AreObsOfTexts m s w.All) (IsChecked m s w.All budget book) workers (ShowsMachine m s form) book st a n p
-    (λ r shows. signed_other (machine_shown shows.0.set form) r a n p shows.2) h is
+    whole_other (Refuses m s w.All) (AreObsOfTexts m s w.All) (IsChecked m s w.All budget book) workers (ShowsMachine m s form budget book) book st a n p
+    (λ r shows. signed_other (machine_shown shows.0.set form) r a n p shows.3) h is
 task_other (t.Wave name) m s third budget workers book st a n p h is =
-    whole_other (Refuses m s (w.One name)) (AreObsOfTexts m s (w.One name)) (IsChecked m s (w.One name) budget book) workers (ShowsWave m s book.lines.items) book st a n p
-    (λ r shows. reports_other r.verdicts.items (first_waved shows.0 book.lines.items r.text) a n p shows.2) h is
+    whole_other (Refuses m s (w.One name)) (AreObsOfTexts m s (w.One name)) (IsChecked m s (w.One name) budget book) workers (ShowsWave m s name budget book) book st a n p
+    (λ r shows. reports_other r.verdicts.items (first_waved shows.0 book.lines.items r.text) a n p shows.3) h is
 task_other (t.Clauses name) m s third budget workers book st a n p h is = ⊎_elim
     (λ (r : RefusesTexts (Refuses m s (w.One name)) (λ obs. ⊥) book st a). stage_other (Refuses m s (w.One name)) (λ obs. ⊥) book st a n p r is)
     (λ (l : ListsClauses m s name book st a). done_other n p (status_is a (done l.text) n l.answer_is is)) h
-task_other (t.Accept given) m s third budget workers book st a n p h is = accept_other m s given.line third budget workers book st a n p h is
+task_other (t.Accept given) m s third budget workers book st a n p h is = accept_other m s given.line third budget book st a n p h is
 task_other (t.Walk rows) m s third budget workers book st a n p h is = walk_other m s third budget workers book st a n p h is
 task_other t.Lines m s third budget workers book st a n p h is = ⊎_elim
     (λ (r : RefusesTexts (RefusesStage m s) (λ obs. ⊥) book st a). fault_other r.fault n p (status_is a (refusal (status_of r.fault) (fault_line r.fault)) n r.answer_is is))
@@ -342,7 +343,11 @@ refusal_other (Err e) status n line P other h = tt
 
 -- ---- services
 
--- fewer than all connections were served, and the one after them left all as it was
+-- the port after a connection that couldn't be taken is the one before
+same_line : (v w : Wires) → w.wire ≡ v.wire → w.faults ≡ v.faults → w ≡ v
+same_line v w wire faults = ap (λ (x : Option Wire). line x w.faults) wire ∙ ap (λ (n : ℕ). line v.wire n) faults
+
+-- fewer than all connections were served, and the one after them left the desk as it was
 pub left_stopped : (s : Service) (v w : Wires) (d e : State) (fault : ServeFault) → StopsWithin (limits_for s) (quota_of s) v d fault w e → LeavesServed s (around d v) (around e w)
 left_stopped s v w d e Next h = record {
   served = h.served;
@@ -350,6 +355,7 @@ left_stopped s v w d e Next h = record {
   taken = h.taken;
   line = h.port;
   did = subst (λ (x : State). ServesMany (limits_for s) s.replied v d h.taken h.served h.port x) (sym h.last.0) h.before;
+  port = inl (same_line h.port w h.last.1 h.last.2);
 }
 left_stopped s v w d e Memory h = record {
   served = h.served;
@@ -357,10 +363,11 @@ left_stopped s v w d e Memory h = record {
   taken = h.taken;
   line = h.port;
   did = subst (λ (x : State). ServesMany (limits_for s) s.replied v d h.taken h.served h.port x) (sym h.last.0) h.before;
+  port = inr (subst (λ (x : State). ServesOne (limits_for s) h.port x (Err Memory) w e) (sym h.last.0) h.last);
 }
 
 pub left_served : (s : Service) (v w : Wires) (d e : State) (n : ℕ) → ServesQuota (limits_for s) (quota_of s) v d n w e → LeavesServed s (around d v) (around e w)
-left_served s v w d e n h = record { served = n; most = h.most; taken = h.taken; line = w; did = h.many }
+left_served s v w d e n h = record { served = n; most = h.most; taken = h.taken; line = w; did = h.many; port = inl refl }
 
 pub port_answered : {E : Type 0} (r : Result Answer E) (s : Service) (a b : Around) → StopsWithin (limits_for s) (quota_of s) a.line a.desk Next b.line b.desk →
     IfOk r (λ x. x ≡ refusal 9 (codes "port")) → IfOk r (AnswersService s a b)
@@ -438,7 +445,7 @@ leaves_job shelf faults now cmd job read a b is was h =
 
 -- words whose command isn't known yet leave all as it was
 left_as : (s : Service) (a : Around) → LeavesServed s a a
-left_as s a = record { served = 0; most = omega arith; taken = 0; line = a.line; did = none }
+left_as s a = record { served = 0; most = omega arith; taken = 0; line = a.line; did = none; port = inl refl }
 
 moves_none : (t : Option Tables) → Told MovesRows t t
 moves_none (Some t) = record { blocks = refl; signs = refl; proofs = λ key. inl refl }

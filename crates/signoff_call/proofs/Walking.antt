@@ -1,8 +1,6 @@
 -- What is answered to a set that is bound is answered to the two texts.
-use Rattle.std.proofs.Common.{◌≡◌, ℕ, List, [], ◌∷◌, Option, Some, None, refl, sym, ap, ◌∙◌, subst, inl, inr, ⊎_elim, arith}
+use Rattle.std.proofs.Common.{◌≡◌, ℕ, List, [], ◌∷◌, map, Option, Some, None, refl, sym, ap, ◌∙◌, subst, inl, inr, ⊎_elim, arith}
 use Rattle.std.specs.Prelude.{◌≢◌, ◌≤◌, ◌⊎◌, ◌++◌, Result, Ok, Err, IfOk, Vec, codes}
-use Rattle.std.specs.declared.alloc.Global.{Global}
-use Rattle.std.proofs.lemmas.List.Elements.{All-cons, All-nil}
 use Rattle.std.specs.Fmt.{decimal}
 use Rattle.set_tree.specs.declared.set.Set.{Set}
 use Rattle.set_tree.specs.Formulas.{meaning_of}
@@ -20,27 +18,22 @@ use Rattle.path_machine.specs.declared.rows.RowFault.{RowFault}
 use Rattle.path_machine.specs.declared.rows.RowFault.TheVariants.{Memory}
 use Rattle.path_machine.specs.Rows.{Stands}
 use Rattle.path_machine.specs.Texts.{fault_text, path_text}
-use Rattle.signoff_words.specs.declared.action.Form.{Form}
+use Rattle.signoff_words.specs.declared.command.Form.{Form}
 use Rattle.path_machine.specs.Unmet.{IsUnmet}
 use Rattle.path_machine.proofs.Carrying.{run_traces_are_the_modules}
-use Rattle.set_tree.specs.declared.line.Line.{Line}
-use Rattle.clause_check.specs.declared.formula.Step.{Step}
-use Rattle.job_pool.specs.declared.evidence.Evidence.{Evidence}
-use Rattle.job_pool.specs.declared.evidence.Evidence.TheVariants as e
-use Rattle.proof_store.specs.declared.goal.Goal.{Goal}
-use Rattle.proof_store.specs.Goals.{ended}
-use Rattle.proof_store.specs.Kept.{IsProof}
 use Rattle.clause_check_texts.specs.Faults.{fault_text as proof_fault_text}
-use Rattle.proof_store.proofs.Faults.{rose_from}
-use Rattle.proof_store.proofs.Single.{keeps_adds}
 use Rattle.desk_core_goals.specs.declared.fault.LineFault.{LineFault}
 use Rattle.desk_core_goals.specs.declared.fault.LineFault.TheVariants as l
-use Rattle.desk_core_goals.specs.Asked.{Asks, IsGoalNamed, IsGoalOf, LacksName}
+use Rattle.desk_core_goals.specs.Asked.{LacksName}
 use Rattle.desk_core_goals.specs.declared.keep_fault.KeepFault.{KeepFault}
 use Rattle.desk_core_goals.specs.declared.keep_fault.KeepFault.TheVariants as k
-use Rattle.desk_core_goals.specs.Keeping.{IsClausesText, IsProvedGoal, KeepsProof, RefusesProof}
+use Rattle.desk_core_goals.specs.Keeping.{IsClausesText, KeepsProof, RefusesProof}
 use Rattle.desk_core_reports.specs.declared.book.Book.{Book}
+use Rattle.desk_core_reports.specs.declared.book.Line.{Line as Told}
+use Rattle.desk_core_reports.specs.declared.book.Verdict.{Verdict}
+use Rattle.desk_core_reports.specs.declared.book.Verdict.TheVariants.{Proved}
 use Rattle.desk_core_reports.specs.declared.report.Report.{Report}
+use Rattle.desk_core_reports.specs.Lines.{verdict_of}
 use Rattle.desk_core_commands.specs.declared.which.Which.{Which}
 use Rattle.desk_core_commands.specs.declared.which.Which.TheVariants as w
 use Rattle.desk_core_goals.specs.Decided.{AreDecided}
@@ -50,13 +43,20 @@ use Rattle.desk_core.specs.Checks.{AreObsOfTexts, IsReportOf, Refuses, RefusesAs
 use Rattle.desk_core.proofs.Reporting.{adds_of_texts, asked_refuses, is_report, stage_refuses}
 use Rattle.signoff_call.specs.declared.answer.Answer.{Answer}
 use Rattle.signoff_call.specs.Answers.{done, refusal}
-use Rattle.signoff_call.specs.Bound.{AcceptsBound, AddsTwiceTo, Gives, KeepsFirst, IsBoundReport, IsRefusalOf, SaysBound, SaysMachine, SaysPath, SaysWave, ShowsClauses, WalksBound}
-use Rattle.signoff_call.specs.Tasks.{AddsTwice, AnswersAccept, AnswersClauses, AnswersLines, AnswersMachine, AnswersWalk, AnswersWave, RefusesBoundProof, Reports, HasTrace, IsChecked, RefusesBy, RefusesRows, RefusesTexts, ReportsTexts, ShowsMachine, ShowsPath, ShowsWave, Stores, WalksRows, machine_shown, names_text, signed_text, stores, where_signed}
+use Rattle.signoff_call.specs.Bound.{AcceptsBound, Gives, KeepsFirst, IsRefusalOf, SaysAlone, SaysBound, SaysMachine, SaysPath, SaysWave, ShowsClauses, WalksBound}
+use Rattle.signoff_call.specs.Tasks.{AnswersAccept, AnswersClauses, AnswersLines, AnswersMachine, AnswersWalk, AnswersWave, RefusesBoundProof, Reports, HasTrace, IsChecked, RefusesBy, RefusesRows, RefusesTexts, ReportsTexts, ShowsMachine, ShowsPath, ShowsWave, Stores, WalksRows, IsBoundReport, machine_shown, names_text, signed_text, stores, where_signed}
 use Rattle.signoff_call.proofs.Answering.{adds_none, refusal_other, turned_answered}
+
+-- the line that a derivation was kept for is proved
+proved_alone : (b : Pair) (name text : List ℕ) (before after : Option Tables) (book : Book) (r : Report) → KeepsProof b name text before after book → IsReportOf (w.One name) book.lines.items r → r.verdicts.items ≡ Proved ∷ []
+proved_alone b name text before after book r k is =
+    is.verdicts
+    ∙ (ap (λ (ls : List Told). map (λ (d : Told). d.verdict) ls) k.told.alone
+    ∙ ap (λ (v : Verdict). v ∷ []) (k.told.tells.verdict ∙ ap verdict_of k.is_proved.has))
 
 module _ (m s : List ℕ) (b : Pair) (from : IsBoundOf m s b) (budget workers : ℕ) (book : Book) where
   -- what is said of a report may be said otherwise
-  says_texts : (st : Stores) (which : Which) (Says Other : Report → Answer → Type 0) → ((r : Report) (a : Answer) → Says r a → Other r a) → (a : Answer) → SaysBound Says b which budget workers book st a
+  says_texts : (st : Stores) (which : Which) (Says Other : Report → Answer → Type 0) → ((r : Report) (a : Answer) → IsBoundReport b which budget book r → Says r a → Other r a) → (a : Answer) → SaysBound Says b which budget workers book st a
       → RefusesTexts (Refuses m s which) (AreObsOfTexts m s which) book st a ⊎ ReportsTexts (IsChecked m s which budget book) workers Other book st a
   says_texts st which Says Other also a h = ⊎_elim
       (λ (r : RefusesTexts (RefusesAsked b.set which) (AreObsOf b which) book st a). inl (record {
@@ -72,19 +72,19 @@ module _ (m s : List ℕ) (b : Pair) (from : IsBoundOf m s b) (budget workers : 
         is_report = (is_report m s b which budget book.lines.items r.report from r.is_report.lines r.is_report.is, r.is_report.least);
         asked = r.asked;
         settled = r.settled;
-        answer_is = also r.report a r.answer_is;
+        answer_is = also r.report a r.is_report r.answer_is;
       })) h
 
 module _ (m s : List ℕ) (b : Pair) (from : IsBoundOf m s b) (budget workers : ℕ) (book : Book) (st : Stores) where
   pub machine_answered : {E : Type 0} (r : Result Answer E) (form : Form) → IfOk r (SaysBound (SaysMachine b.set form) b w.All budget workers book st) → IfOk r (AnswersMachine m s form budget workers book st)
-  machine_answered (Ok a) form h = says_texts m s b from budget workers book st w.All (SaysMachine b.set form) (ShowsMachine m s form) (λ r a says. (b, from, says)) a h
+  machine_answered (Ok a) form h = says_texts m s b from budget workers book st w.All (SaysMachine b.set form) (ShowsMachine m s form budget book) (λ r a is says. (b, from, is, says)) a h
   machine_answered (Err e) form h = tt
 
   pub wave_answered : {E : Type 0} (r : Result Answer E) (name : List ℕ) → IfOk r (SaysBound (SaysWave b book.lines.items) b (w.One name) budget workers book st) → IfOk r (AnswersWave m s name budget workers book st)
-  wave_answered (Ok a) name h = says_texts m s b from budget workers book st (w.One name) (SaysWave b book.lines.items) (ShowsWave m s book.lines.items) (λ r a says. (b, from, says)) a h
+  wave_answered (Ok a) name h = says_texts m s b from budget workers book st (w.One name) (SaysWave b book.lines.items) (ShowsWave m s name budget book) (λ r a is says. (b, from, is, says)) a h
   wave_answered (Err e) name h = tt
 
-  pub accept_answered : {E : Type 0} (r : Result Answer E) (name text : List ℕ) → IfOk r (AcceptsBound b name text budget workers book st) → IfOk r (AnswersAccept m s name text budget workers book st)
+  pub accept_answered : {E : Type 0} (r : Result Answer E) (name text : List ℕ) → IfOk r (AcceptsBound b name text budget book st) → IfOk r (AnswersAccept m s name text budget book st)
   accept_answered (Ok a) name text h = ⊎_elim
       (λ (x : RefusesTexts (RefusesAsked b.set (w.One name)) (λ obs. ⊥) book st a). inl (record {
         fault = x.fault;
@@ -94,12 +94,18 @@ module _ (m s : List ℕ) (b : Pair) (from : IsBoundOf m s b) (budget workers : 
         left = x.left;
         answer_is = x.answer_is;
       }))
-      (λ (x : RefusesBoundProof b name text book st a ⊎ KeepsFirst b name text budget workers book st a). inr (
+      (λ (x : RefusesBoundProof b name text book st a ⊎ KeepsFirst b name text budget book st a). inr (
         b,
         from,
         ⊎_elim
             (λ (y : RefusesBoundProof b name text book st a). inl y)
-            (λ (y : KeepsFirst b name text budget workers book st a). inr (record { between = y.between; kept = y.kept; decides = says_texts m s b from budget workers book (stores y.between st.after st.asked) (w.One name) (Reports (λ r. r.text)) (Reports (λ r. r.text)) (λ r a says. says) a y.says })) x,
+            (λ (y : KeepsFirst b name text budget book st a). inr (record {
+              kept = y.kept;
+              report = y.report;
+              is_report = (is_report m s b (w.One name) budget book.lines.items y.report from y.is_report.lines y.is_report.is, y.is_report.least);
+              proved = proved_alone b name text st.before st.after book y.report y.kept y.is_report.is;
+              answer_is = y.answer_is;
+            })) x,
       )) h
   accept_answered (Err e) name text h = tt
 
@@ -121,7 +127,7 @@ module _ (m s : List ℕ) (b : Pair) (from : IsBoundOf m s b) (budget workers : 
     walked trace gives a h = ⊎_elim
         (λ (x : (t : ℕ) × IsUnmet (meaning_of b.set) b.set trace (Some t) × RefusesBy 11 (codes "rows: Unmet " ++ decimal t) book st a). inl (inr (traced trace gives, x.0, x.1, x.2)))
         (λ (x : IsUnmet (meaning_of b.set) b.set trace None × SaysBound (SaysPath b.set trace) b w.All budget workers book st a).
-        inr (traced trace gives, x.0, says_texts m s b from budget workers book st w.All (SaysPath b.set trace) (ShowsPath (traced trace gives)) (λ r a says. says) a x.1)) h
+        inr (traced trace gives, x.0, says_texts m s b from budget workers book st w.All (SaysPath b.set trace) (ShowsPath (traced trace gives) budget book) (λ r a is says. (says.0, says.1, is, says.2)) a x.1)) h
 
     walks : (a : Answer) → WalksBound b text budget workers book st a → RefusesRows m s text book st a ⊎ WalksRows m s text budget workers book st a
     walks a h = ⊎_elim
@@ -269,39 +275,41 @@ left_one b own name before after is h = subst (λ (z : List ℕ). AddsProofsOf (
 
 -- ---- derivations of other solvers
 
-module _ (b : Pair) (name text : List ℕ) (budget workers : ℕ) (book : Book) (st : Stores) where
+pub says_alone : (own name : List ℕ) (book : Book) (ls : List Told) (r : Report) (a : Answer) → own ≡ name → ls ≡ book.lines.items → IsReportOf (w.One own) ls r → Reports (λ r. r.text) r a → SaysAlone name book a
+says_alone own name book ls r a same lines is says = subst (λ (z : List ℕ). SaysAlone z book a) same (r, subst (λ (z : List Told). IsReportOf (w.One own) z r) lines is, says)
+
+module _ (b : Pair) (name text : List ℕ) (budget : ℕ) (book : Book) (st : Stores) where
+  left_alone : st.after ≡ st.before → AddsProofsOf (λ obs. ⊥) st.before st.after
+  left_alone same = subst (λ (t : Option Tables). AddsProofsOf (λ obs. ⊥) st.before t) (sym same) (adds_none (λ obs. ⊥) st.before)
+
   -- it isn't kept
-  pub not_accepted : {E : Type 0} (r : Result Answer E) (fault : KeepFault) → RefusesProof b name text fault → book.lines.items ≡ [] → st.after ≡ st.before → IfOk r (IsRefusalOf fault)
-      → IfOk r (AcceptsBound b name text budget workers book st)
+  pub not_accepted : {E : Type 0} (r : Result Answer E) (fault : KeepFault) → RefusesProof b name text fault → book.lines.items ≡ [] → (fault ≢ k.Memory → st.after ≡ st.before) → IfOk r (IsRefusalOf fault)
+      → IfOk r (AcceptsBound b name text budget book st)
   not_accepted (Ok a) k.NoLine refuses empty same h = inl (record {
     fault = f.NoLine;
     refuses = (name, inl refl, refuses);
     no_memory = λ no. absurd (cc);
     empty = empty;
-    left = left_alone same;
+    left = left_alone (same (λ no. absurd (cc)));
     answer_is = h;
   })
-    where
-      left_alone : st.after ≡ st.before → AddsProofsOf (λ obs. ⊥) st.before st.after
-      left_alone same = subst (λ (t : Option Tables). AddsProofsOf (λ obs. ⊥) st.before t) (sym same) (adds_none (λ obs. ⊥) st.before)
-  not_accepted (Ok a) (k.Proof fault) refuses empty same h = inr (inl (inl (fault, refuses, record { empty = empty; same = same; answer_is = h })))
-  not_accepted (Ok a) k.Large refuses empty same h = inr (inl (inr (refuses, record { empty = empty; same = same; answer_is = h })))
+  not_accepted (Ok a) (k.Proof fault) refuses empty same h = inr (inl (inl (fault, refuses, record { empty = empty; same = same (λ no. absurd (cc)); answer_is = h })))
+  not_accepted (Ok a) k.Large refuses empty same h = inr (inl (inr (refuses, record { empty = empty; same = same (λ no. absurd (cc)); answer_is = h })))
   not_accepted (Ok a) k.Keeper refuses empty same h = inl (record {
     fault = f.Keeper;
     refuses = (refuses.0.goal.line ∷ [], (refuses.0.goal.line, refuses.1.is_goal.named, refl));
     no_memory = λ no. absurd (cc);
     empty = empty;
-    left = subst (λ (t : Option Tables). AddsProofsOf (λ obs. ⊥) st.before t) (sym same) (adds_none (λ obs. ⊥) st.before);
+    left = left_alone (same (λ no. absurd (cc)));
     answer_is = h;
   })
   not_accepted (Ok a) k.Memory refuses empty same h = absurd h
   not_accepted (Err e) fault refuses empty same h = tt
 
-  -- it is, and the line is decided
-  pub kept_first : {E : Type 0} (r : Result Answer E) (between : Option Tables) → KeepsProof b name text st.before between
-      → IfOk r (SaysBound (Reports (λ r. r.text)) b (w.One name) budget workers book (stores between st.after st.asked)) → IfOk r (AcceptsBound b name text budget workers book st)
-  kept_first (Ok a) between kept h = inr (inr (record { between = between; kept = kept; says = h }))
-  kept_first (Err e) between kept h = tt
+  -- it is, and the line is proved
+  pub kept_first : (a : Answer) → KeepsProof b name text st.before st.after book → AreDecided budget b (w.One name) book.lines.items → SaysAlone name book a
+      → AcceptsBound b name text budget book st a
+  kept_first a kept lines told = inr (inr (record { kept = kept; report = told.0; is_report = record { lines = lines; is = told.1; least = kept.told.no_least }; answer_is = told.2 }))
 
 -- of the refusals only a keeper's has the status 8
 pub not_kept_keeper : {E : Type 0} (r : Result Answer E) (fault : KeepFault) (P : Type 0) → (fault ≡ k.Keeper → P) → IfOk r (IsRefusalOf fault) → IfOk r (λ a. a.status ≡ 8 → P)
@@ -312,57 +320,3 @@ not_kept_keeper (Ok a) k.Keeper P rose h = λ is. rose refl
 not_kept_keeper (Err e) k.Keeper P rose h = tt
 not_kept_keeper (Ok a) k.Memory P rose h = absurd h
 not_kept_keeper (Err e) k.Memory P rose h = tt
-
--- a count that rose after it stayed or rose has risen
-pub later_keeper : {E : Type 0} (r : Result Answer E) (before now after : ℕ) → before ≤ now → IfOk r (λ a. a.status ≡ 8 → Rose now after) → IfOk r (λ a. a.status ≡ 8 → Rose before after)
-later_keeper (Ok a) before now after later h = λ is. rose_from before now after later (h is)
-later_keeper (Err e) before now after later h = tt
-
--- a proof that is kept is one of an obligation of the line
-abbrev steps_in : Evidence → Vec Step Global → Vec Step Global
-steps_in (e.Derivation steps) other = steps
-steps_in (e.Values us) other = other
-steps_in (e.Chain steps) other = other
-
-asks_alone : (b : Pair) (name : List ℕ) (goal : Goal Line) → IsGoalNamed b name goal → Asks b (w.One name) (goal ∷ [])
-asks_alone b name goal h = record {
-  asked = (goal.line, h.named, refl);
-  each = All-cons (IsGoalOf b) goal [] h.of_line (All-nil (IsGoalOf b));
-}
-
-pub kept_adds : (b : Pair) (name text : List ℕ) (before after : Option Tables) → KeepsProof b name text before after → AddsProofsOf (AreObsOf b (w.One name)) before after
-kept_adds b name text before after k = (
-  k.proved.goal.ob ∷ [],
-  inr (record {
-    goals = k.proved.goal ∷ [];
-    asked = asks_alone b name k.proved.goal k.is_proved.is_goal;
-    are = refl;
-  }),
-  keeps_adds (ended k.proved) (proof_of k.is_proved) before after k.put,
-)
-  where
-    proof_of : IsProvedGoal b name text k.proved → (steps : Vec Step Global) → k.proved.evidence ≡ e.Derivation steps → IsProof k.proved.goal.ob steps.items
-    proof_of p steps has =
-        let same : p.steps ≡ steps = ap (λ (z : Evidence). steps_in z p.steps) (sym p.has ∙ has) in
-        subst (λ (z : Vec Step Global). IsProof k.proved.goal.ob z.items) same (record {
-          formula = p.reads.formula;
-          vars = p.reads.has.vars;
-          clauses = p.reads.has.clauses;
-          refutes = p.reads.refutes;
-        })
-
-pub adds_twice : (m n s t : List ℕ) (b : Pair) (name : List ℕ) → m ≡ n → s ≡ t → IsBoundOf m s b → (before after : Option Tables) → AddsTwiceTo b name before after → AddsTwice n t name before after
-adds_twice m n s t b name module_is set_is from before after h =
-    (h.0, left_of_bound m n s t b (w.One name) module_is set_is from before h.0 h.1, left_of_bound m n s t b (w.One name) module_is set_is from h.0 after h.2)
-
-pub twice_none : (b : Pair) (name : List ℕ) (x : Option Tables) → AddsTwiceTo b name x x
-twice_none b name x = (x, adds_none (AreObsOf b (w.One name)) x, adds_none (AreObsOf b (w.One name)) x)
-
-pub twice_same : (b : Pair) (name : List ℕ) (before after : Option Tables) → after ≡ before → AddsTwiceTo b name before after
-twice_same b name before after same = subst (λ (x : Option Tables). AddsTwiceTo b name before x) (sym same) (twice_none b name before)
-
-pub twice_kept : (b : Pair) (name text : List ℕ) (before between after : Option Tables) → KeepsProof b name text before between → AddsProofsOf (AreObsOf b (w.One name)) between after → AddsTwiceTo b name before after
-twice_kept b name text before between after kept left = (between, kept_adds b name text before between kept, left)
-
-pub texts_twice : (m s name : List ℕ) (x : Option Tables) → AddsTwice m s name x x
-texts_twice m s name x = (x, adds_none (AreObsOfTexts m s (w.One name)) x, adds_none (AreObsOfTexts m s (w.One name)) x)

@@ -15,15 +15,13 @@ use Rattle.path_machine.specs.Runs.{IsRunTrace}
 use Rattle.path_machine.specs.Texts.{fault_text, path_text}
 use Rattle.path_machine.specs.Unmet.{IsUnmet}
 use Rattle.outside.specs.Tables.{Tables}
-use Rattle.signoff_words.specs.declared.action.Form.{Form}
+use Rattle.signoff_words.specs.declared.command.Form.{Form}
 use Rattle.desk_core_goals.specs.Keeping.{IsClausesText, KeepsProof}
 use Rattle.desk_core_reports.specs.declared.book.Book.{Book}
 use Rattle.desk_core_reports.specs.declared.book.Line.{Line}
 use Rattle.desk_core_reports.specs.declared.report.Report.{Report}
 use Rattle.desk_core_commands.specs.declared.which.Which.{Which}
 use Rattle.desk_core_commands.specs.declared.which.Which.TheVariants as w
-use Rattle.desk_core_goals.specs.Decided.{AreDecided}
-use Rattle.desk_core_goals.specs.Least.{HasLeast}
 use Rattle.desk_core_goals.specs.Settled.{AddsProofsOf, AreObsOf}
 use Rattle.desk_core.specs.Checks.{IsReportOf, RefusesAsked}
 use Rattle.signoff_call.specs.declared.answer.Answer.{Answer}
@@ -36,13 +34,7 @@ use Rattle.desk_core_goals.specs.declared.fault.LineFault.TheVariants as l
 use Rattle.desk_core_goals.specs.Asked.{LacksName}
 use Rattle.signoff_call.specs.Answers.{done, refusal, reported}
 use Rattle.signoff_call.specs.Waves.{first_waved}
-use Rattle.signoff_call.specs.Tasks.{RefusesBoundProof, RefusesBy, RefusesTexts, Reports, ReportsTexts, Stores, machine_shown, signed_text, stores, where_signed}
-
--- the report of the lines of the set that are asked for
-pub record IsBoundReport (b : Pair) (which : Which) (budget : ℕ) (book : Book) (r : Report) : Type 0 where
-  pub lines : AreDecided budget b which book.lines.items
-  pub is : IsReportOf which book.lines.items r
-  pub least : HasLeast which budget book
+use Rattle.signoff_call.specs.Tasks.{IsBoundReport, RefusesBoundProof, RefusesBy, RefusesTexts, Reports, ReportsTexts, Stores, machine_shown, signed_text, stores, where_signed}
 
 -- they are decided, or why not
 abbrev pub SaysBound : (Report → Answer → Type 0) → Pair → Which → ℕ → ℕ → Book → Stores → Answer → Type 0
@@ -72,11 +64,16 @@ WalksBound b text budget workers book st answer =
     × (((t : ℕ) × IsUnmet (meaning_of b.set) b.set trace (Some t) × RefusesBy 11 (codes "rows: Unmet " ++ decimal t) book st answer)
     ⊎ (IsUnmet (meaning_of b.set) b.set trace None × SaysBound (SaysPath b.set trace) b w.All budget workers book st answer)))
 
--- a derivation of the line's clauses is kept, and then the line is decided over what the keeper has
-pub record KeepsFirst (b : Pair) (name text : List ℕ) (budget workers : ℕ) (book : Book) (st : Stores) (answer : Answer) : Type 0 where
-  pub between : Option Tables
-  pub kept : KeepsProof b name text st.before between
-  pub says : SaysBound (Reports (λ r. r.text)) b (w.One name) budget workers book (stores between st.after st.asked) answer
+-- the report of the lines of a book, of which that of a name was asked for
+abbrev pub SaysAlone : List ℕ → Book → Answer → Type 0
+SaysAlone name book answer = (r : Report) × IsReportOf (w.One name) book.lines.items r × Reports (λ r. r.text) r answer
+
+-- a derivation of the line's clauses is kept, and the line is proved by it
+pub record KeepsFirst (b : Pair) (name text : List ℕ) (budget : ℕ) (book : Book) (st : Stores) (answer : Answer) : Type 0 where
+  pub kept : KeepsProof b name text st.before st.after book
+  pub report : Report
+  pub is_report : IsBoundReport b (w.One name) budget book report
+  pub answer_is : Reports (λ r. r.text) report answer
 
 -- why no derivation is kept, as an answer
 abbrev pub IsRefusalOf : KeepFault → Answer → Type 0
@@ -86,16 +83,11 @@ IsRefusalOf k.Large a = a ≡ refusal 12 (codes "proof: Large")
 IsRefusalOf k.Keeper a = a ≡ refusal (status_of f.Keeper) (fault_line f.Keeper)
 IsRefusalOf k.Memory a = ⊥
 
--- a proof of the line of a name is kept, and then proofs of it are as the line is decided
-abbrev pub AddsTwiceTo : Pair → List ℕ → Option Tables → Option Tables → Type 0
-AddsTwiceTo b name before after =
-    (between : Option Tables) × AddsProofsOf (AreObsOf b (w.One name)) before between × AddsProofsOf (AreObsOf b (w.One name)) between after
-
 -- no line has the name, or the keeper failed; or the text has no derivation that may be kept; or it is kept
-abbrev pub AcceptsBound : Pair → List ℕ → List ℕ → ℕ → ℕ → Book → Stores → Answer → Type 0
-AcceptsBound b name text budget workers book st answer =
+abbrev pub AcceptsBound : Pair → List ℕ → List ℕ → ℕ → Book → Stores → Answer → Type 0
+AcceptsBound b name text budget book st answer =
     RefusesTexts (RefusesAsked b.set (w.One name)) (λ obs. ⊥) book st answer
-    ⊎ (RefusesBoundProof b name text book st answer ⊎ KeepsFirst b name text budget workers book st answer)
+    ⊎ (RefusesBoundProof b name text book st answer ⊎ KeepsFirst b name text budget book st answer)
 
 -- the clauses of the line of a name, or that there is no such line
 abbrev pub ShowsClauses : Pair → List ℕ → Answer → Type 0

@@ -1,5 +1,5 @@
 -- What a run answers to the words and to what was read, and what goes out.
-use Rattle.std.specs.Prelude.{◌≡◌, ℕ, ◌⊎◌, ◌+◌, ◌^◌, ◌≤◌, ◌↔◌, List, [], ◌++◌, take, Option, Some, None, IfSome, IsSomeAnd, IsTrue, codes, if◌then◌else◌}
+use Rattle.std.specs.Prelude.{◌≡◌, ℕ, ◌⊎◌, ◌+◌, ◌^◌, ◌≤◌, ◌↔◌, List, [], ◌++◌, take, Option, Some, None, Err, IfSome, IsSomeAnd, IsTrue, codes, if◌then◌else◌}
 use Rattle.std.specs.Io.KnownBytes.{Appends}
 use Rattle.outside.specs.Faults.{Rose}
 use Rattle.demo_gen.specs.Texts.{module_text, set_text}
@@ -11,17 +11,17 @@ use Rattle.proof_store.specs.Moves.{MovesRows, Walks}
 use Rattle.proof_store.specs.Stored.{Told}
 use Rattle.desk_core_goals.specs.Settled.{AddsProofsOf}
 use Rattle.desk_core.specs.Checks.{AreObsOfTexts}
-use Rattle.signoff_words.specs.declared.action.Command.{Command}
-use Rattle.signoff_words.specs.declared.action.Command.TheVariants as c
-use Rattle.signoff_words.specs.declared.action.Job.{Job}
-use Rattle.signoff_words.specs.declared.action.Service.{Service}
-use Rattle.signoff_words.specs.declared.action.Task.{Task}
-use Rattle.signoff_words.specs.declared.action.Task.TheVariants as t
-use Rattle.desk_http_connection.specs.declared.serve.ServeFault.TheVariants.{Next}
+use Rattle.signoff_words.specs.declared.command.Command.{Command}
+use Rattle.signoff_words.specs.declared.command.Command.TheVariants as c
+use Rattle.signoff_words.specs.declared.command.Job.{Job}
+use Rattle.signoff_words.specs.declared.command.Service.{Service}
+use Rattle.signoff_words.specs.declared.command.Task.{Task}
+use Rattle.signoff_words.specs.declared.command.Task.TheVariants as t
+use Rattle.desk_http_connection.specs.declared.serve.ServeFault.TheVariants.{Memory, Next}
 use Rattle.proof_store.specs.Provers.{Limits}
 use Rattle.desk_core.specs.declared.checker.Checker.{Checker}
 use Rattle.desk_http.specs.declared.serving.Quota.{Quota}
-use Rattle.desk_http.specs.Serving.{Line as Wires, ServesMany, ServesQuota, State, StopsWithin}
+use Rattle.desk_http.specs.Serving.{Line as Wires, ServesMany, ServesOne, ServesQuota, State, StopsWithin}
 use Rattle.signoff_call.specs.declared.answer.Answer.{Answer}
 use Rattle.signoff_call.specs.declared.files.Read.{Read}
 use Rattle.signoff_call.specs.declared.files.Read.TheVariants.{NoModule, NoSet, NoThird, All}
@@ -92,13 +92,14 @@ Answers (Some (c.Demo n)) read a b answer =
 Answers (Some (c.Serve service)) read a b answer = AnswersService service a b answer
 Answers (Some (c.Migrate file)) read a b answer = (b.line ≡ a.line) × AnswersMove b.desk.book (stores_of a b) answer
 
--- what a service leaves, whatever is answered: what some of its connections did
+-- what a service leaves, whatever is answered: what some of its connections did; the port as they left it, or memory ran out while the next one was read
 pub record LeavesServed (s : Service) (a b : Around) : Type 0 where
   pub served : ℕ
   pub most : served ≤ s.count
   pub taken : ℕ
   pub line : Wires
   pub did : ServesMany (limits_for s) s.replied a.line a.desk taken served line b.desk
+  pub port : (b.line ≡ line) ⊎ ServesOne (limits_for s) line b.desk (Err Memory) b.line b.desk
 
 -- ---- files
 

@@ -28,23 +28,24 @@ use Rattle.word_dag.specs.Nodes.{Parts}
 use Rattle.signoff_call.specs.Waves.{first_waved}
 use Rattle.proof_store.specs.Provers.{asked_by, kept_by}
 use Rattle.desk_core_reports.specs.declared.book.Book.{Book}
-use Rattle.desk_core_reports.specs.declared.book.Line.{Line as Told}
+use Rattle.desk_core_reports.specs.declared.book.Verdict.TheVariants.{Proved}
 use Rattle.desk_core_reports.specs.declared.report.Report.{Report}
 use Rattle.desk_core_commands.specs.declared.which.Which.{Which}
 use Rattle.desk_core_commands.specs.declared.which.Which.TheVariants as w
+use Rattle.desk_core_goals.specs.Decided.{AreDecided}
 use Rattle.desk_core_goals.specs.Least.{HasLeast}
 use Rattle.desk_core_goals.specs.Settled.{AddsProofsOf, AreSettled}
 use Rattle.desk_core.specs.declared.checker.Checker.{Checker}
-use Rattle.desk_core.specs.Checks.{AreObsOfTexts, IsReport, Refuses}
+use Rattle.desk_core.specs.Checks.{AreObsOfTexts, IsReport, IsReportOf, Refuses}
 use Rattle.meet_lines.specs.Meetings.{AreObsOfTexts as AreMeetObsOfTexts, IsMeetReport, Refuses as RefusesMeet}
 use Rattle.clause_check_texts.specs.declared.fault.ProofFault.{ProofFault}
 use Rattle.clause_check_texts.specs.Faults.{fault_text as proof_fault_text}
 use Rattle.desk_core_goals.specs.declared.keep_fault.KeepFault.TheVariants.{Large}
 use Rattle.desk_core_goals.specs.Keeping.{IsClausesText, KeepsProof, RefusesProof, RefusesText}
-use Rattle.signoff_words.specs.declared.action.Form.{Form}
-use Rattle.signoff_words.specs.declared.action.Form.TheVariants.{Words, Graph}
-use Rattle.signoff_words.specs.declared.action.Task.{Task}
-use Rattle.signoff_words.specs.declared.action.Task.TheVariants as t
+use Rattle.signoff_words.specs.declared.command.Form.{Form}
+use Rattle.signoff_words.specs.declared.command.Form.TheVariants.{Words, Graph}
+use Rattle.signoff_words.specs.declared.command.Task.{Task}
+use Rattle.signoff_words.specs.declared.command.Task.TheVariants as t
 use Rattle.signoff_call.specs.declared.answer.Answer.{Answer}
 use Rattle.signoff_call.specs.Answers.{done, met, refusal, report_bytes, reported}
 
@@ -90,6 +91,12 @@ pub record RefusesBy (status : ℕ) (line : List ℕ) (book : Book) (st : Stores
 abbrev pub IsChecked : List ℕ → List ℕ → Which → ℕ → Book → Report → Type 0
 IsChecked m s which budget book r = IsReport m s which budget book.lines.items r × HasLeast which budget book
 
+-- the report of the lines of one set that are asked for
+pub record IsBoundReport (b : Pair) (which : Which) (budget : ℕ) (book : Book) (r : Report) : Type 0 where
+  pub lines : AreDecided budget b which book.lines.items
+  pub is : IsReportOf which book.lines.items r
+  pub least : HasLeast which budget book
+
 -- these bytes are said of a report
 abbrev pub Reports : (Report → List ℕ) → Report → Answer → Type 0
 Reports said r answer = answer ≡ reported r.verdicts.items (said r)
@@ -124,25 +131,26 @@ abbrev pub machine_shown : Set → Form → List ℕ
 machine_shown set Words = signed_text (machine_text set)
 machine_shown set Graph = machine_graph set
 
--- the machine of the set, where it is signed off
-abbrev pub ShowsMachine : List ℕ → List ℕ → Form → Report → Answer → Type 0
-ShowsMachine m s form r answer = (b : Pair) × IsBoundOf m s b × (answer ≡ where_signed (machine_shown b.set form) r)
+-- the machine of the set whose lines the report has, where it is signed off
+abbrev pub ShowsMachine : List ℕ → List ℕ → Form → ℕ → Book → Report → Answer → Type 0
+ShowsMachine m s form budget book r answer = (b : Pair) × IsBoundOf m s b × IsBoundReport b w.All budget book r × (answer ≡ where_signed (machine_shown b.set form) r)
 
 abbrev pub AnswersMachine : List ℕ → List ℕ → Form → ℕ → ℕ → Book → Stores → Answer → Type 0
 AnswersMachine m s form budget workers book st answer =
     RefusesTexts (Refuses m s w.All) (AreObsOfTexts m s w.All) book st answer
-    ⊎ ReportsTexts (IsChecked m s w.All budget book) workers (ShowsMachine m s form) book st answer
+    ⊎ ReportsTexts (IsChecked m s w.All budget book) workers (ShowsMachine m s form budget book) book st answer
 
 -- ---- a counterexample as a waveform
 
--- the waveform of the line's counterexample where it is refuted, and else the report
-abbrev pub ShowsWave : List ℕ → List ℕ → List Told → Report → Answer → Type 0
-ShowsWave m s lines r answer = (b : Pair) × IsBoundOf m s b × (answer ≡ reported r.verdicts.items (first_waved b lines r.text))
+-- the waveform of the line's counterexample where it is refuted, over the design on which the line was decided, and else the report
+abbrev pub ShowsWave : List ℕ → List ℕ → List ℕ → ℕ → Book → Report → Answer → Type 0
+ShowsWave m s name budget book r answer =
+    (b : Pair) × IsBoundOf m s b × IsBoundReport b (w.One name) budget book r × (answer ≡ reported r.verdicts.items (first_waved b book.lines.items r.text))
 
 abbrev pub AnswersWave : List ℕ → List ℕ → List ℕ → ℕ → ℕ → Book → Stores → Answer → Type 0
 AnswersWave m s name budget workers book st answer =
     RefusesTexts (Refuses m s (w.One name)) (AreObsOfTexts m s (w.One name)) book st answer
-    ⊎ ReportsTexts (IsChecked m s (w.One name) budget book) workers (ShowsWave m s book.lines.items) book st answer
+    ⊎ ReportsTexts (IsChecked m s (w.One name) budget book) workers (ShowsWave m s name budget book) book st answer
 
 -- ---- the path of a run
 
@@ -165,14 +173,15 @@ RefusesRows m s text book st answer =
     ((b : Pair) × IsBoundOf m s b × (fault : RowFault) × (fault ≢ Memory) × Stands b.set text fault × RefusesBy 11 (codes "rows: " ++ fault_text fault) book st answer)
     ⊎ ((h : HasTrace m s text) × (t : ℕ) × IsUnmetAt h (Some t) × RefusesBy 11 (codes "rows: Unmet " ++ decimal t) book st answer)
 
--- the path of the trace, where the set is signed off
-abbrev pub ShowsPath : {m s text : List ℕ} → HasTrace m s text → Report → Answer → Type 0
-ShowsPath h r answer = (path : Path) × IsPath (meaning_of h.bound.set) h.bound.set h.trace path × (answer ≡ where_signed (signed_text (path_text h.bound.set path)) r)
+-- the path of the trace, where the set whose lines the report has is signed off
+abbrev pub ShowsPath : {m s text : List ℕ} → HasTrace m s text → ℕ → Book → Report → Answer → Type 0
+ShowsPath h budget book r answer =
+    (path : Path) × IsPath (meaning_of h.bound.set) h.bound.set h.trace path × IsBoundReport h.bound w.All budget book r × (answer ≡ where_signed (signed_text (path_text h.bound.set path)) r)
 
 -- the run meets the constraints, and all lines are decided, or why not
 abbrev pub WalksRows : List ℕ → List ℕ → List ℕ → ℕ → ℕ → Book → Stores → Answer → Type 0
 WalksRows m s text budget workers book st answer = (h : HasTrace m s text) × IsUnmetAt h None
-    × (RefusesTexts (Refuses m s w.All) (AreObsOfTexts m s w.All) book st answer ⊎ ReportsTexts (IsChecked m s w.All budget book) workers (ShowsPath h) book st answer)
+    × (RefusesTexts (Refuses m s w.All) (AreObsOfTexts m s w.All) book st answer ⊎ ReportsTexts (IsChecked m s w.All budget book) workers (ShowsPath h budget book) book st answer)
 
 -- a stage refuses the texts; or the rows are refused; or they give a run
 abbrev pub AnswersWalk : List ℕ → List ℕ → List ℕ → ℕ → ℕ → Book → Stores → Answer → Type 0
@@ -217,17 +226,19 @@ RefusesBoundProof b name text book st answer =
     ((fault : ProofFault) × RefusesText b name text fault × RefusesBy 12 (codes "proof: " ++ proof_fault_text fault) book st answer)
     ⊎ (RefusesProof b name text Large × RefusesBy 12 (codes "proof: Large") book st answer)
 
--- a derivation of the line's clauses is kept, and then the line is decided over what the keeper has
-pub record KeepsThenDecides (m s name text : List ℕ) (bound : Pair) (budget workers : ℕ) (book : Book) (st : Stores) (answer : Answer) : Type 0 where
-  pub between : Option Tables
-  pub kept : KeepsProof bound name text st.before between
-  pub decides : AnswersTexts m s (w.One name) budget workers (λ r. r.text) book (stores between st.after st.asked) answer
+-- a derivation of the line's clauses is kept, and the line is proved by it
+pub record KeepsAndProves (m s name text : List ℕ) (bound : Pair) (budget : ℕ) (book : Book) (st : Stores) (answer : Answer) : Type 0 where
+  pub kept : KeepsProof bound name text st.before st.after book
+  pub report : Report
+  pub is_report : IsChecked m s (w.One name) budget book report
+  pub proved : report.verdicts.items ≡ Proved ∷ []
+  pub answer_is : Reports (λ r. r.text) report answer
 
 -- a stage refuses the texts, no line has the name, or the keeper failed; or the proof is refused; or it is kept
-abbrev pub AnswersAccept : List ℕ → List ℕ → List ℕ → List ℕ → ℕ → ℕ → Book → Stores → Answer → Type 0
-AnswersAccept m s name text budget workers book st answer =
+abbrev pub AnswersAccept : List ℕ → List ℕ → List ℕ → List ℕ → ℕ → Book → Stores → Answer → Type 0
+AnswersAccept m s name text budget book st answer =
     RefusesTexts (Refuses m s (w.One name)) (λ obs. ⊥) book st answer
-    ⊎ ((b : Pair) × IsBoundOf m s b × (RefusesBoundProof b name text book st answer ⊎ KeepsThenDecides m s name text b budget workers book st answer))
+    ⊎ ((b : Pair) × IsBoundOf m s b × (RefusesBoundProof b name text book st answer ⊎ KeepsAndProves m s name text b budget book st answer))
 
 -- ---- all of them
 
@@ -240,12 +251,7 @@ AnswersTask (t.Machine form) m s third budget workers book st answer = AnswersMa
 AnswersTask (t.Walk rows) m s third budget workers book st answer = AnswersWalk m s third budget workers book st answer
 AnswersTask t.Lines m s third budget workers book st answer = AnswersLines m s book st answer
 AnswersTask (t.Clauses name) m s third budget workers book st answer = AnswersClauses m s name book st answer
-AnswersTask (t.Accept given) m s third budget workers book st answer = AnswersAccept m s given.line third budget workers book st answer
-
--- a proof of the line of a name is kept, and then proofs of it are as the line is decided
-abbrev pub AddsTwice : List ℕ → List ℕ → List ℕ → Option Tables → Option Tables → Type 0
-AddsTwice m s name before after =
-    (between : Option Tables) × AddsProofsOf (AreObsOfTexts m s (w.One name)) before between × AddsProofsOf (AreObsOfTexts m s (w.One name)) between after
+AnswersTask (t.Accept given) m s third budget workers book st answer = AnswersAccept m s given.line third budget book st answer
 
 -- what is left at the keeper, whatever is answered: each proof that differs is one of an obligation of the lines that are decided, under its text
 abbrev pub LeavesTask : Task → List ℕ → List ℕ → Option Tables → Option Tables → Type 0
@@ -256,4 +262,4 @@ LeavesTask (t.Machine form) m s before after = AddsProofsOf (AreObsOfTexts m s w
 LeavesTask (t.Walk rows) m s before after = AddsProofsOf (AreObsOfTexts m s w.All) before after
 LeavesTask t.Lines m s before after = after ≡ before
 LeavesTask (t.Clauses name) m s before after = after ≡ before
-LeavesTask (t.Accept given) m s before after = AddsTwice m s given.line before after
+LeavesTask (t.Accept given) m s before after = AddsProofsOf (AreObsOfTexts m s (w.One given.line)) before after

@@ -9,9 +9,9 @@ ghost use Rattle.desk_core_goals.specs.declared.keep_fault.KeepFault.TheVariants
 ghost use Rattle.proof_store.specs.Provers.{kept_by};
 ghost use Rattle.desk_core_commands.specs.declared.which.Which.TheVariants as w;
 ghost use Rattle.signoff_call.specs.Answers.{refusal};
-ghost use Rattle.signoff_call.specs.Bound.{AcceptsBound, AddsTwiceTo, IsRefusalOf, SaysBound};
+ghost use Rattle.signoff_call.specs.Bound.{AcceptsBound, IsRefusalOf, SaysAlone};
 ghost use Rattle.signoff_call.specs.Run.{HasSame};
-ghost use Rattle.signoff_call.specs.Tasks.{AddsTwice, AnswersAccept, Reports, stores_between};
+ghost use Rattle.signoff_call.specs.Tasks.{AnswersAccept, stores_between};
 
 use crate::answer::{Answer, refusal, reported, turned_down};
 use clause_check_texts::{ProofFault, fault_text};
@@ -19,6 +19,7 @@ use desk_core::Checker;
 use desk_core_commands::Which;
 use desk_core_faults::CheckFault;
 use desk_core_goals::{KeepFault, keep_proof};
+use desk_core_reports::{Book, report_of};
 use desk_core_stages::bound_of;
 use helper_box::Helper;
 use outside::{Gate, Keeper, Text};
@@ -48,33 +49,18 @@ fn not_kept(alloc: Global, fault: KeepFault) -> Result<Answer, AllocError>
     }
 }
 
-// The line of a name of a set that is bound, decided, as a report.
-fn line_reported<R: Threads + Sync, K: Keeper, H: Helper, G: Gate + Sync>(
-    checker: &mut Checker<'_, '_, '_, '_, R, K, H, G>,
-    bound: &Bound,
-    name: &Text,
-) -> Result<Answer, AllocError>
-    ensures answer { IfOk result (SaysBound (Reports (λ r. r.text)) bound.now (w.One name.now)
-        checker.old.prover.settings.budget checker.old.prover.settings.workers checker.new.book.now
-        (stores_between K.tables H.asked checker.old checker.new)) }
-    ensures left { AddsProofsOf (AreObsOf bound.now (w.One name.now)) (kept_by K.tables checker.old.prover)
-        (kept_by K.tables checker.new.prover) }
-    ensures keeper { IfOk result (λ a. a.status ≡ 8 →
-        Rose (K.faults checker.old.prover.keeper.now) (K.faults checker.new.prover.keeper.now)) }
-    ensures same { HasSame checker.old checker.new }
+// The report of the line of a name, which stands in a book alone.
+fn line_reported(alloc: Global, name: &Text, book: &Book) -> Result<Answer, AllocError>
+    ensures said { IfOk result (SaysAlone name.now book.now) }
+    ensures no_keeper { IfOk result (λ a. a.status ≡ 8 → ⊥) }
 {
-    let alloc = checker.prover.alloc;
     let which = Which::One(Text::copy(alloc, name.bytes())?);
-    match checker.check_bound(bound, &which) {
-        Ok(report) => {
-            let bytes = Text::copy(alloc, report.text.bytes())?;
-            Ok(reported(&report.verdicts, bytes))
-        }
-        Err(fault) => turned_down(alloc, fault),
-    }
+    let report = report_of(alloc, &which, &book.lines)?;
+    let bytes = Text::copy(alloc, report.text.bytes())?;
+    Ok(reported(&report.verdicts, bytes))
 }
 
-// The derivation that a text has of the clauses of the line of a name, kept, and the line decided.
+// The derivation that a text has of the clauses of the line of a name, kept, and the line as it proves it.
 fn accepted<R: Threads + Sync, K: Keeper, H: Helper, G: Gate + Sync>(
     checker: &mut Checker<'_, '_, '_, '_, R, K, H, G>,
     bound: &Bound,
@@ -83,9 +69,9 @@ fn accepted<R: Threads + Sync, K: Keeper, H: Helper, G: Gate + Sync>(
 ) -> Result<Answer, AllocError>
     requires empty { checker.old.book.now.lines.items ≡ [] }
     ensures answer { IfOk result (AcceptsBound bound.now name.now proof.now
-        checker.old.prover.settings.budget checker.old.prover.settings.workers checker.new.book.now
+        checker.old.prover.settings.budget checker.new.book.now
         (stores_between K.tables H.asked checker.old checker.new)) }
-    ensures left { AddsTwiceTo bound.now name.now (kept_by K.tables checker.old.prover)
+    ensures left { AddsProofsOf (AreObsOf bound.now (w.One name.now)) (kept_by K.tables checker.old.prover)
         (kept_by K.tables checker.new.prover) }
     ensures keeper { IfOk result (λ a. a.status ≡ 8 →
         Rose (K.faults checker.old.prover.keeper.now) (K.faults checker.new.prover.keeper.now)) }
@@ -93,13 +79,17 @@ fn accepted<R: Threads + Sync, K: Keeper, H: Helper, G: Gate + Sync>(
 {
     let alloc = checker.prover.alloc;
     match keep_proof(alloc, checker.prover.keeper, bound, name, proof) {
-        Ok(()) => line_reported(checker, bound, name),
+        Ok(book) => {
+            let answer = line_reported(alloc, name, &book)?;
+            *checker.book = book;
+            Ok(answer)
+        }
         Err(fault) => not_kept(alloc, fault),
     }
 }
 
 /// The derivation that a text has of the clauses of a line of two texts, kept where our own checker accepts it, and the
-/// line decided over what is kept.
+/// line as it proves it.
 pub fn accepted_in<R: Threads + Sync, K: Keeper, H: Helper, G: Gate + Sync>(
     checker: &mut Checker<'_, '_, '_, '_, R, K, H, G>,
     module: &Text,
@@ -109,10 +99,10 @@ pub fn accepted_in<R: Threads + Sync, K: Keeper, H: Helper, G: Gate + Sync>(
 ) -> Result<Answer, AllocError>
     requires empty { checker.old.book.now.lines.items ≡ [] }
     ensures answer { IfOk result (AnswersAccept «module».now set.now given.now.line proof.now
-        checker.old.prover.settings.budget checker.old.prover.settings.workers checker.new.book.now
+        checker.old.prover.settings.budget checker.new.book.now
         (stores_between K.tables H.asked checker.old checker.new)) }
-    ensures left { AddsTwice «module».now set.now given.now.line (kept_by K.tables checker.old.prover)
-        (kept_by K.tables checker.new.prover) }
+    ensures left { AddsProofsOf (AreObsOfTexts «module».now set.now (w.One given.now.line))
+        (kept_by K.tables checker.old.prover) (kept_by K.tables checker.new.prover) }
     ensures keeper { IfOk result (λ a. a.status ≡ 8 →
         Rose (K.faults checker.old.prover.keeper.now) (K.faults checker.new.prover.keeper.now)) }
     ensures same { HasSame checker.old checker.new }

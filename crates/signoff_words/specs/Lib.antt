@@ -1,4 +1,4 @@
 pub mod Numbers
-pub mod Choices
+pub mod Options
 pub mod Seen
 pub mod Commands

@@ -2,7 +2,7 @@ use Rattle.desk_core_commands.specs.declared.which.Which.TheVariants as w
 use Rattle.desk_core.specs.Checks.{Refuses}
 use Rattle.desk_core.proofs.Reporting.{stage_refuses}
 use Rattle.signoff_call.proofs.Answering.{adds_none, turned_answered}
-use Rattle.signoff_call.proofs.Walking.{accept_answered, adds_twice, bound_as, refuses_as, texts_twice}
+use Rattle.signoff_call.proofs.Walking.{accept_answered, bound_as, left_of_bound, refuses_as}
 use Rattle.signoff_call.proofs.accepting.accepted_in.Goals as goal
 
 pub returns-in-Ok-clause-answer : goal.returns-in-Ok-clause-answer
@@ -10,7 +10,7 @@ returns-in-Ok-clause-answer g c =
     let m = c.args.module.now in
     let s = c.args.set.now in
     let from = bound_as c.bytes.result.now m c.bytes-2.result.now s c.in-Ok.bound c.bytes.ensures c.bytes-2.ensures c.in-Ok.ensures.ok in
-    accept_answered m s c.in-Ok.bound from _ _ _ _ c.accepted-answer.result c.args.given.now.line c.args.proof.now c.accepted-answer.ensures.answer
+    accept_answered m s c.in-Ok.bound from _ 0 _ _ c.accepted-answer.result c.args.given.now.line c.args.proof.now c.accepted-answer.ensures.answer
 
 pub returns-in-Err-clause-answer : goal.returns-in-Err-clause-answer
 returns-in-Err-clause-answer g c =
@@ -22,7 +22,7 @@ returns-in-Err-clause-answer g c =
 
 pub returns-in-Ok-clause-left : goal.returns-in-Ok-clause-left
 returns-in-Ok-clause-left g c =
-    adds_twice c.bytes.result.now c.args.module.now c.bytes-2.result.now c.args.set.now c.in-Ok.bound c.args.given.now.line c.bytes.ensures c.bytes-2.ensures c.in-Ok.ensures.ok _ _ c.accepted-answer.ensures.left
+    left_of_bound c.bytes.result.now c.args.module.now c.bytes-2.result.now c.args.set.now c.in-Ok.bound (w.One c.args.given.now.line) c.bytes.ensures c.bytes-2.ensures c.in-Ok.ensures.ok _ _ c.accepted-answer.ensures.left
 
 pub returns-in-Err-clause-left : goal.returns-in-Err-clause-left
-returns-in-Err-clause-left g c = texts_twice c.args.module.now c.args.set.now c.args.given.now.line _
+returns-in-Err-clause-left g c = adds_none _ _

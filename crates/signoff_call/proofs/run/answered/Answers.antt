@@ -1,6 +1,6 @@
 use Rattle.std.proofs.Common.{Global, Some, ap, refl, sym, map, ◌∙◌}
 use Rattle.std.specs.Prelude.{string_bytes}
-use Rattle.signoff_words.specs.declared.action.Command.{Command}
+use Rattle.signoff_words.specs.declared.command.Command.{Command}
 use Rattle.signoff_words.specs.Commands.{command_of}
 use Rattle.desk_http.specs.Serving.{line, state, state_of}
 use Rattle.signoff_call.specs.Run.{around}
